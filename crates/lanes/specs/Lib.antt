@@ -1,0 +1,3 @@
+pub mod Waits
+pub mod Search
+pub mod UseOrder

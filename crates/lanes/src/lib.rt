@@ -1,0 +1,144 @@
+// A lane: its lines and the order of their use, its two queues, its waiting operation; Search in it.
+// Functions with a requires are for the crates above and not for others.
+ghost use mathlib.Core.Path.{_≡_};
+ghost use Prim.Native.Nat.{_≤_, _<_};
+ghost use Rattle.lanes.specs.Search.{searchOf, vacantOf};
+ghost use Rattle.lanes.specs.UseOrder.{carryOf, usedOf};
+ghost use Rattle.lanes.specs.Waits.{idleOf, unservedOf};
+
+use queues::DownQueue;
+use queues::ReturnQueue;
+use words::BlockNo;
+use words::Line;
+use words::LineNo;
+use words::Op;
+use words::WordNo;
+
+// What a waiting operation asks of memory.
+pub enum Command {
+    ReadShared,
+    ReadExclusive,
+    Exclude,
+}
+
+// An operation that waits, with the command that it was given when it began.
+pub struct Operation {
+    pub command: Command,
+    pub op: Op,
+    pub word: WordNo,
+}
+
+// Whether a lane's operation waits, and whether memory has taken its command.
+pub enum Waiting {
+    Idle,
+    Unserved(Operation),
+    Served(Operation),
+}
+
+impl Waiting {
+    // Whether no operation waits.
+    pub fn idle(self) -> bool
+        ensures { λ r. ⌜ r ≡ idleOf self ⌝ }
+    {
+        match self {
+            Waiting::Idle => true,
+            Waiting::Unserved(_) => false,
+            Waiting::Served(_) => false,
+        }
+    }
+
+    // Whether an operation waits that memory has not taken.
+    pub fn unserved(self) -> bool
+        ensures { λ r. ⌜ r ≡ unservedOf self ⌝ }
+    {
+        match self {
+            Waiting::Idle => false,
+            Waiting::Unserved(_) => true,
+            Waiting::Served(_) => false,
+        }
+    }
+}
+
+// A lane. Its lines are the first c; the first c places of the use order name them, oldest first.
+pub struct Lane {
+    pub lines: [Line; 8],
+    pub order: [LineNo; 8],
+    pub returns: ReturnQueue,
+    pub downs: DownQueue,
+    pub waiting: Waiting,
+}
+
+// A line that was looked for.
+pub enum Found {
+    At(LineNo),
+    Nothing,
+}
+
+impl Lane {
+    // 01's Search: the lowest-numbered valid line, of the first c, that has block a.
+    pub fn search(self, c: u8, a: BlockNo) -> Found
+        requires { ⌜ c ≤ 8 ⌝ }
+        ensures { λ r. ⌜ r ≡ searchOf self c a ⌝ }
+    {
+        let mut k: u8 = 0;
+        while k < c {
+            let i = k as usize;
+            let l = self.lines[i];
+            if l.holds(a) {
+                return Found::At(LineNo(k));
+            }
+            k += 1;
+        }
+        Found::Nothing
+    }
+
+    // The lowest-numbered line, of the first c, that is not valid.
+    pub fn vacant(self, c: u8) -> Found
+        requires { ⌜ c ≤ 8 ⌝ }
+        ensures { λ r. ⌜ r ≡ vacantOf self c ⌝ }
+    {
+        let mut k: u8 = 0;
+        while k < c {
+            let i = k as usize;
+            let l = self.lines[i];
+            if l.valid {
+                k += 1;
+            } else {
+                return Found::At(LineNo(k));
+            }
+        }
+        Found::Nothing
+    }
+}
+
+// Places k and k + 1 of a use order change over where place k names line i.
+fn carry(o: [LineNo; 8], k: usize, i: LineNo) -> [LineNo; 8]
+    requires { ⌜ k < 7 ⌝ }
+    ensures { λ r. ⌜ r ≡ carryOf i k o ⌝ }
+{
+    let x = o[k];
+    if x.0 == i.0 {
+        let j = k + 1;
+        let mut t = o;
+        t[k] = o[j];
+        t[j] = x;
+        return t;
+    }
+    o
+}
+
+// The use order of c lines after a use of line i.
+pub fn used(order: [LineNo; 8], c: u8, i: LineNo) -> [LineNo; 8]
+    requires { ⌜ c ≤ 8 ⌝ }
+    ensures { λ r. ⌜ r ≡ usedOf c i order ⌝ }
+{
+    let n = c as usize;
+    let mut o = order;
+    let mut k: usize = 0;
+    while k + 1 < n {
+        let t = carry(o, k, i);
+        o = t;
+        k += 1;
+    }
+    o
+}

@@ -1,0 +1,169 @@
+// Messages of the two directions, and the two queues of a lane. A queue of one direction cannot hold a message of the other.
+// The two halves of this file differ in the element's type alone: the language has no generics. What they say of a queue is
+// stated once, over the element, in specs/Queues.antt.
+ghost use mathlib.Core.Path.{_≡_};
+ghost use Rattle.queues.specs.Queues.{pushReturn, takeReturn, pushDown, takeDown};
+
+use words::BlockNo;
+
+// What a lane sends to memory. The last four answer an order; 01's PURGED has words or has none.
+pub enum ReturnKind {
+    Eject,
+    WriteEject,
+    Updated,
+    Purged,
+    PurgedWords,
+    Gone,
+}
+
+// What memory sends to a lane: the orders UPDATE and PURGE, and the grants, with words or bare.
+pub enum DownKind {
+    Update,
+    Purge,
+    Grant,
+    BareGrant,
+}
+
+// A message from a lane to memory. Where its kind has no words they are 0.
+pub struct ReturnMessage {
+    pub kind: ReturnKind,
+    pub block: BlockNo,
+    pub words: [u32; 4],
+}
+
+// A queue of at most two messages from a lane to memory, first in, first out: the first len of at, head first.
+pub struct ReturnQueue {
+    pub len: u8,
+    pub at: [ReturnMessage; 2],
+}
+
+// The queue after a message joined it; the queue as it was where it is full.
+pub struct ReturnPushed {
+    pub full: bool,
+    pub queue: ReturnQueue,
+}
+
+// The head of a queue and the queue without it; the queue as it was where it is empty.
+pub struct ReturnTaken {
+    pub empty: bool,
+    pub head: ReturnMessage,
+    pub queue: ReturnQueue,
+}
+
+impl ReturnQueue {
+    // The message joins the queue.
+    pub fn push(self, x: ReturnMessage) -> ReturnPushed
+        ensures { λ r. ⌜ r ≡ pushReturn self x ⌝ }
+    {
+        let n = self.len;
+        if 2 <= n {
+            return ReturnPushed {
+                full: true,
+                queue: self,
+            };
+        }
+        let i = n as usize;
+        let mut q = self;
+        q.at[i] = x;
+        q.len = n + 1;
+        ReturnPushed {
+            full: false,
+            queue: q,
+        }
+    }
+
+    // The head leaves the queue.
+    pub fn take(self) -> ReturnTaken
+        ensures { λ r. ⌜ r ≡ takeReturn self ⌝ }
+    {
+        let n = self.len;
+        let h = self.at[0];
+        if n == 0 {
+            return ReturnTaken {
+                empty: true,
+                head: h,
+                queue: self,
+            };
+        }
+        let mut q = self;
+        q.at[0] = self.at[1];
+        q.len = n - 1;
+        ReturnTaken {
+            empty: false,
+            head: h,
+            queue: q,
+        }
+    }
+}
+
+// A message from memory to a lane. Where its kind has no words they are 0.
+pub struct DownMessage {
+    pub kind: DownKind,
+    pub block: BlockNo,
+    pub words: [u32; 4],
+}
+
+// A queue of at most two messages from memory to a lane, first in, first out: the first len of at, head first.
+pub struct DownQueue {
+    pub len: u8,
+    pub at: [DownMessage; 2],
+}
+
+// The queue after a message joined it; the queue as it was where it is full.
+pub struct DownPushed {
+    pub full: bool,
+    pub queue: DownQueue,
+}
+
+// The head of a queue and the queue without it; the queue as it was where it is empty.
+pub struct DownTaken {
+    pub empty: bool,
+    pub head: DownMessage,
+    pub queue: DownQueue,
+}
+
+impl DownQueue {
+    // The message joins the queue.
+    pub fn push(self, x: DownMessage) -> DownPushed
+        ensures { λ r. ⌜ r ≡ pushDown self x ⌝ }
+    {
+        let n = self.len;
+        if 2 <= n {
+            return DownPushed {
+                full: true,
+                queue: self,
+            };
+        }
+        let i = n as usize;
+        let mut q = self;
+        q.at[i] = x;
+        q.len = n + 1;
+        DownPushed {
+            full: false,
+            queue: q,
+        }
+    }
+
+    // The head leaves the queue.
+    pub fn take(self) -> DownTaken
+        ensures { λ r. ⌜ r ≡ takeDown self ⌝ }
+    {
+        let n = self.len;
+        let h = self.at[0];
+        if n == 0 {
+            return DownTaken {
+                empty: true,
+                head: h,
+                queue: self,
+            };
+        }
+        let mut q = self;
+        q.at[0] = self.at[1];
+        q.len = n - 1;
+        DownTaken {
+            empty: false,
+            head: h,
+            queue: q,
+        }
+    }
+}

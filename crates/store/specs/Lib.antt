@@ -1,0 +1,3 @@
+pub mod Control
+pub mod Opening
+pub mod Quiet

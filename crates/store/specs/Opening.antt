@@ -1,0 +1,58 @@
+-- 01, "Parts of a store": opening gives words and block numbers 0, flags reset, queues empty, no waiting operation and no service. Assumes nothing.
+use Prim.Native.Nat.{ℕ}
+use mathlib.Core.Bool.{Bool, false, cond}
+use mathlib.Core.List.{List, [], _∷_}
+use lib.Dec.{ltb}
+use lib.ListN.{replicate}
+use Rattle.words.specs.declared.Line.{Line}
+use Rattle.words.specs.declared.LineNo.{LineNo}
+use Rattle.words.specs.Folds.{anyOf}
+use Rattle.queues.specs.declared.ReturnKind.the-variants.{Eject}
+use Rattle.queues.specs.declared.DownKind.the-variants.{Update}
+use Rattle.lanes.specs.declared.Lane.{Lane}
+use Rattle.lanes.specs.declared.Waiting.the-variants.{Idle}
+use Rattle.answers.specs.declared.Answer.the-variants.{Opened, Refused}
+use Rattle.answers.specs.declared.Refusal.the-variants.{InvalidShape}
+use Rattle.store.specs.declared.Store.{Store}
+use Rattle.store.specs.declared.Block.{Block}
+use Rattle.store.specs.declared.Control.the-variants.{Free}
+use Rattle.store.specs.declared.Outcome.{Outcome}
+
+-- Lanes n: 2 to 8. Lines per lane c: 1 to 8. Blocks m: 1 to 64
+unfoldable pub badShape : ℕ → ℕ → ℕ → Bool
+badShape n c m = anyOf (ltb n 2 ∷ ltb 8 n ∷ ltb c 1 ∷ ltb 8 c ∷ ltb m 1 ∷ ltb 64 m ∷ [])
+
+-- four words, all 0
+abbrev pub zeros : List ℕ
+zeros = replicate 4 0
+
+-- words and block number 0, flags reset
+abbrev pub blankLine : Line
+blankLine = record { valid = false; private = false; block = record { 0 = 0 }; words = zeros }
+
+-- the line of number i, in a use order
+abbrev pub line : ℕ → LineNo
+line i = record { 0 = i }
+
+-- queues empty, no waiting operation; lines are ordered by number, line 0 oldest
+unfoldable pub blankLane : Lane
+blankLane = record {
+  lines = replicate 8 blankLine;
+  order = line 0 ∷ line 1 ∷ line 2 ∷ line 3 ∷ line 4 ∷ line 5 ∷ line 6 ∷ line 7 ∷ [];
+  returns = record { len = 0; at = replicate 2 (record { kind = Eject; block = record { 0 = 0 }; words = zeros }) };
+  downs = record { len = 0; at = replicate 2 (record { kind = Update; block = record { 0 = 0 }; words = zeros }) };
+  waiting = Idle }
+
+-- words 0, flags reset
+unfoldable pub blankBlock : Block
+blankBlock = record { words = zeros; present = replicate 8 false; modified = false }
+
+-- the store of an opening; with 0, 0, 0 the blank store, that a tape has before it is opened
+unfoldable pub freshOf : ℕ → ℕ → ℕ → Store
+freshOf n c m = record { n = n; c = c; m = m; control = Free; lanes = replicate 8 blankLane; blocks = replicate 64 blankBlock }
+
+-- opening: 5 where n, c or m is outside its range, with the blank store
+unfoldable pub openOf : ℕ → ℕ → ℕ → Outcome
+openOf n c m =
+    cond (badShape n c m) (record { answer = Refused InvalidShape; store = freshOf 0 0 0 })
+    (record { answer = Opened; store = freshOf n c m })

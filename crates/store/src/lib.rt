@@ -1,0 +1,285 @@
+// The store: main memory's blocks, the control with its service, the lanes; opening and quiet.
+// Functions that are not listed in docs/ARCHITECTURE.md, "Calls open to others", are for the crates above.
+ghost use mathlib.Core.Path.{_≡_};
+ghost use Rattle.store.specs.Control.{busyOf, serviceOf, startOf, answerOf};
+ghost use Rattle.store.specs.Opening.{badShape, blankLine, blankLane, blankBlock, freshOf, openOf};
+ghost use Rattle.store.specs.Quiet.{stirsOf, quietOf};
+
+use answers::Answer;
+use answers::Refusal;
+use lanes::Command;
+use lanes::Lane;
+use lanes::Waiting;
+use queues::DownKind;
+use queues::DownMessage;
+use queues::DownQueue;
+use queues::ReturnKind;
+use queues::ReturnMessage;
+use queues::ReturnQueue;
+use words::BlockNo;
+use words::LaneNo;
+use words::Line;
+use words::LineNo;
+
+// A block of main memory with its directory entry: a presence flag for each lane, and MODIFIED.
+pub struct Block {
+    pub words: [u32; 4],
+    pub present: [bool; 8],
+    pub modified: bool,
+}
+
+// A service: whom it is for, the command, the answers still awaited, and whether its grant is bare.
+pub struct Service {
+    pub lane: LaneNo,
+    pub block: BlockNo,
+    pub command: Command,
+    pub awaited: u8,
+    pub bare: bool,
+}
+
+// The control has at most one service.
+pub enum Control {
+    Free,
+    Busy(Service),
+}
+
+// The service of a block.
+pub enum Lookup {
+    Of(Service),
+    Nothing,
+}
+
+// The control after a service began.
+pub enum Started {
+    As(Control),
+    Busy,
+}
+
+// The control after an answer came in: with that answer fewer awaited, or without the service that it closes.
+pub enum Counted {
+    Awaits(Control),
+    Closes(Service, Control),
+    NotAwaited,
+}
+
+impl Control {
+    // Whether a service is under way.
+    pub fn busy(self) -> bool
+        ensures { λ r. ⌜ r ≡ busyOf self ⌝ }
+    {
+        match self {
+            Control::Free => false,
+            Control::Busy(_) => true,
+        }
+    }
+
+    // The service of block a.
+    pub fn service(self, a: BlockNo) -> Lookup
+        ensures { λ r. ⌜ r ≡ serviceOf self a ⌝ }
+    {
+        match self {
+            Control::Free => Lookup::Nothing,
+            Control::Busy(v) => {
+                if v.block.0 == a.0 {
+                    return Lookup::Of(v);
+                }
+                Lookup::Nothing
+            }
+        }
+    }
+
+    // The service begins.
+    pub fn start(self, v: Service) -> Started
+        ensures { λ r. ⌜ r ≡ startOf self v ⌝ }
+    {
+        match self {
+            Control::Free => Started::As(Control::Busy(v)),
+            Control::Busy(_) => Started::Busy,
+        }
+    }
+
+    // An answer for block a comes in.
+    pub fn answer(self, a: BlockNo) -> Counted
+        ensures { λ r. ⌜ r ≡ answerOf self a ⌝ }
+    {
+        let Lookup::Of(v) = self.service(a) else {
+            return Counted::NotAwaited;
+        };
+        let n = v.awaited;
+        if n == 0 {
+            return Counted::NotAwaited;
+        }
+        if n == 1 {
+            return Counted::Closes(v, Control::Free);
+        }
+        let mut u = v;
+        u.awaited = n - 1;
+        Counted::Awaits(Control::Busy(u))
+    }
+}
+
+// The whole store: n lanes of c lines and m blocks; what stands past n, c and m is no part of it.
+pub struct Store {
+    pub n: u8,
+    pub c: u8,
+    pub m: u8,
+    pub control: Control,
+    pub lanes: [Lane; 8],
+    pub blocks: [Block; 64],
+}
+
+// What a call gives: its answer, and the store after it.
+pub struct Outcome {
+    pub answer: Answer,
+    pub store: Store,
+}
+
+// Whether n, c or m is outside its range.
+pub fn bad_shape(n: u8, c: u8, m: u8) -> bool
+    ensures { λ r. ⌜ r ≡ badShape n c m ⌝ }
+{
+    if n < 2 {
+        return true;
+    }
+    if 8 < n {
+        return true;
+    }
+    if c < 1 {
+        return true;
+    }
+    if 8 < c {
+        return true;
+    }
+    if m < 1 {
+        return true;
+    }
+    64 < m
+}
+
+fn blank_line() -> Line
+    ensures { λ r. ⌜ r ≡ blankLine ⌝ }
+{
+    Line {
+        valid: false,
+        private: false,
+        block: BlockNo(0),
+        words: [0; 4],
+    }
+}
+
+fn blank_lane() -> Lane
+    ensures { λ r. ⌜ r ≡ blankLane ⌝ }
+{
+    let line = blank_line();
+    let up = ReturnMessage {
+        kind: ReturnKind::Eject,
+        block: BlockNo(0),
+        words: [0; 4],
+    };
+    let down = DownMessage {
+        kind: DownKind::Update,
+        block: BlockNo(0),
+        words: [0; 4],
+    };
+    Lane {
+        lines: [line; 8],
+        order: [
+            LineNo(0),
+            LineNo(1),
+            LineNo(2),
+            LineNo(3),
+            LineNo(4),
+            LineNo(5),
+            LineNo(6),
+            LineNo(7),
+        ],
+        returns: ReturnQueue { len: 0, at: [up; 2] },
+        downs: DownQueue {
+            len: 0,
+            at: [down; 2],
+        },
+        waiting: Waiting::Idle,
+    }
+}
+
+fn blank_block() -> Block
+    ensures { λ r. ⌜ r ≡ blankBlock ⌝ }
+{
+    Block {
+        words: [0; 4],
+        present: [false; 8],
+        modified: false,
+    }
+}
+
+// The store of an opening, whatever its shape.
+pub fn fresh(n: u8, c: u8, m: u8) -> Store
+    ensures { λ r. ⌜ r ≡ freshOf n c m ⌝ }
+{
+    let lane = blank_lane();
+    let block = blank_block();
+    Store {
+        n: n,
+        c: c,
+        m: m,
+        control: Control::Free,
+        lanes: [lane; 8],
+        blocks: [block; 64],
+    }
+}
+
+// Opening.
+pub fn open(n: u8, c: u8, m: u8) -> Outcome
+    ensures { λ r. ⌜ r ≡ openOf n c m ⌝ }
+{
+    if bad_shape(n, c, m) {
+        let s = fresh(0, 0, 0);
+        return Outcome {
+            answer: Answer::Refused(Refusal::InvalidShape),
+            store: s,
+        };
+    }
+    let s = fresh(n, c, m);
+    Outcome {
+        answer: Answer::Opened,
+        store: s,
+    }
+}
+
+// Whether the lane's operation waits or one of its queues is filled.
+fn stirs(l: Lane) -> bool
+    ensures { λ r. ⌜ r ≡ stirsOf l ⌝ }
+{
+    let w = l.waiting;
+    if w.idle() {
+        if 0 < l.returns.len {
+            return true;
+        }
+        return 0 < l.downs.len;
+    }
+    true
+}
+
+// Whether the store is quiet: no operation waits, no service, queues empty.
+pub fn quiet(s: Store) -> bool
+    ensures { λ r. ⌜ r ≡ quietOf s ⌝ }
+{
+    let x = s.control;
+    if x.busy() {
+        return false;
+    }
+    let n = s.n;
+    let mut k: u8 = 0;
+    while k < n {
+        if 8 <= k {
+            return true;
+        }
+        let i = k as usize;
+        let l = s.lanes[i];
+        if stirs(l) {
+            return false;
+        }
+        k += 1;
+    }
+    true
+}

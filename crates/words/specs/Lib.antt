@@ -1,0 +1,4 @@
+pub mod Units
+pub mod Operations
+pub mod Lines
+pub mod Folds

@@ -1,0 +1,12 @@
+-- 01, "Parts of a store": the units and how a word is found. Assumes nothing.
+use Prim.Native.Nat.{ℕ, _/_, _%_}
+use Rattle.words.specs.declared.BlockNo.{BlockNo}
+use Rattle.words.specs.declared.WordNo.{WordNo}
+
+-- Word w belongs to block w ÷ 4, rounded down
+abbrev pub blockOf : WordNo → BlockNo
+blockOf w = record { 0 = w .0 / 4 }
+
+-- .. at place w mod 4
+abbrev pub placeOf : WordNo → ℕ
+placeOf w = w .0 % 4

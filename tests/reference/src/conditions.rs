@@ -1,0 +1,211 @@
+//! Every refusal condition that holds for a store and a call, each taken on
+//! its own. Written apart from the steps: the first in the law's order must
+//! be the number that the call gives.
+
+use crate::held::HeldCall;
+use crate::parts::*;
+
+/// The order of the checks of a held call.
+pub const ORDER: [u8; 10] = [14, 6, 7, 8, 9, 10, 11, 16, 12, 15];
+
+/// The numbers that can apply to a call, by its kind byte.
+pub fn applicable(kind: u8) -> &'static [u8] {
+    match kind {
+        0x01..=0x04 => &[14, 6, 7, 8, 12],
+        0x05 => &[14, 6, 9, 10, 11, 12],
+        0x06 | 0x07 => &[14, 6, 9, 16, 12],
+        _ => &[14, 15],
+    }
+}
+
+/// All conditions that hold, in the order of the checks.
+pub fn all(s: &Store, call: HeldCall) -> Vec<u8> {
+    let holds = |number: u8| match (number, call) {
+        (14, _) => !corrupt_reasons(s).is_empty(),
+        (15, HeldCall::Picture(lent)) => 19 * valid_lines(s) > lent as usize,
+        (_, HeldCall::Picture(_)) => false,
+        (6, HeldCall::Machine(call)) => call.lane() >= s.n,
+        (_, HeldCall::Machine(call)) => match s.lanes.get(usize::from(call.lane())) {
+            Some(lane) => call_condition(s, lane, call, number),
+            None => number == 7 && word_out_of_range(s, call),
+        },
+    };
+    ORDER.into_iter().filter(|&number| holds(number)).collect()
+}
+
+fn word_out_of_range(s: &Store, call: Call) -> bool {
+    matches!(call, Call::Begin { word, .. } if usize::from(word) >= 4 * usize::from(s.m))
+}
+
+fn valid_lines(s: &Store) -> usize {
+    let lanes = s.lanes.iter().take(usize::from(s.n));
+    lanes.map(|l| own_lines(s, l).filter(|line| line.valid).count()).sum()
+}
+
+fn own_lines<'a>(s: &Store, lane: &'a Lane) -> impl Iterator<Item = &'a Line> {
+    lane.lines.iter().take(usize::from(s.c))
+}
+
+fn holds_block(s: &Store, lane: &Lane, block: u8) -> bool {
+    own_lines(s, lane).any(|line| line.valid && line.block == block)
+}
+
+fn all_lines_valid(s: &Store, lane: &Lane) -> bool {
+    own_lines(s, lane).all(|line| line.valid)
+}
+
+fn call_condition(s: &Store, lane: &Lane, call: Call, number: u8) -> bool {
+    match (call, number) {
+        (Call::Begin { .. }, 7) => word_out_of_range(s, call),
+        (Call::Begin { .. }, 8) => lane.waiting.is_some(),
+        (Call::Begin { word, .. }, 12) => {
+            let miss = !holds_block(s, lane, word / 4);
+            miss && all_lines_valid(s, lane) && lane.returns.is_full()
+        }
+        (Call::Serve(_), 9) => !matches!(lane.waiting, Some(Waiting { served: false, .. })),
+        (Call::Serve(_), 10) => s.service.is_some(),
+        (Call::Serve(_), 11) => lane.returns.length > 0,
+        (Call::Serve(k), 12) => serve_meets_full(s, usize::from(k)),
+        (Call::Return(_), 9) => lane.returns.length == 0,
+        (Call::Return(_), 16) => stray_answer(s, lane),
+        (Call::Return(_), 12) => close_meets_full(s, lane),
+        (Call::Deliver(_), 9) => lane.down.length == 0,
+        (Call::Deliver(_), 16) => stray_grant(s, lane),
+        (Call::Deliver(_), 12) => {
+            let order = lane.down.head().is_some_and(|m| m.kind.is_order());
+            order && lane.returns.is_full()
+        }
+        _ => false,
+    }
+}
+
+/// An ordered lane's down queue is full; with nobody ordered, k's own is.
+fn serve_meets_full(s: &Store, k: usize) -> bool {
+    let Some(waiting) = s.lanes[k].waiting else {
+        return false;
+    };
+    let Some(entry) = s.blocks.get(usize::from(waiting.word) / 4) else {
+        return false;
+    };
+    let all = usize::from(s.n).min(LANES);
+    let quiet_read = waiting.command == Command::ReadShared && !entry.modified;
+    let ordered: Vec<usize> = match quiet_read {
+        true => Vec::new(),
+        false => (0..all).filter(|&j| j != k && entry.present[j]).collect(),
+    };
+    match ordered.is_empty() {
+        true => s.lanes[k].down.is_full(),
+        false => ordered.iter().any(|&j| s.lanes[j].down.is_full()),
+    }
+}
+
+fn head_answer(lane: &Lane) -> Option<Message<ReturnKind>> {
+    lane.returns.head().filter(|m| m.kind.is_answer())
+}
+
+fn stray_answer(s: &Store, lane: &Lane) -> bool {
+    let Some(answer) = head_answer(lane) else {
+        return false;
+    };
+    match s.service {
+        None => true,
+        Some(service) => service.block != answer.block || service.awaited == 0,
+    }
+}
+
+/// The head would be the last answer, and the service's lane has no room.
+fn close_meets_full(s: &Store, lane: &Lane) -> bool {
+    let (Some(_), Some(service)) = (head_answer(lane), s.service) else {
+        return false;
+    };
+    let target = s.lanes.get(usize::from(service.lane));
+    service.awaited <= 1 && target.is_some_and(|l| l.down.is_full())
+}
+
+fn stray_grant(s: &Store, lane: &Lane) -> bool {
+    let Some(grant) = lane.down.head().filter(|m| !m.kind.is_order()) else {
+        return false;
+    };
+    let Some(waiting) = lane.waiting else {
+        return true;
+    };
+    let held = holds_block(s, lane, grant.block);
+    let for_it = waiting.served && waiting.word / 4 == grant.block;
+    let fits = match grant.kind {
+        DownKind::BareGrant => held,
+        _ => !held && !all_lines_valid(s, lane),
+    };
+    !for_it || !fits
+}
+
+/// All the reasons that 14 can have.
+pub const REASONS: [&str; 21] = [
+    "n below 2",
+    "n above 8",
+    "c below 1",
+    "c above 8",
+    "m below 1",
+    "m above 64",
+    "block of a valid line",
+    "block of return message 0",
+    "block of return message 1",
+    "block of down message 0",
+    "block of down message 1",
+    "word of an unserved operation",
+    "word of a served operation",
+    "return queue length",
+    "down queue length",
+    "use order repeats",
+    "use order exceeds",
+    "lane of the service",
+    "block of the service",
+    "awaited",
+    "PRESENT for lane n or above",
+];
+
+/// The reasons for which the store is corrupt; none if it is not.
+pub fn corrupt_reasons(s: &Store) -> Vec<&'static str> {
+    let outside = [s.n < 2, s.n > 8, s.c < 1, s.c > 8, s.m < 1, s.m > 64];
+    let mut found: Vec<&str> = (0..6).filter(|&i| outside[i]).map(|i| REASONS[i]).collect();
+    if !found.is_empty() {
+        return found;
+    }
+    for lane in s.lanes.iter().take(usize::from(s.n)) {
+        let holds = lane_reasons(s, lane);
+        found.extend((0..holds.len()).filter(|&i| holds[i]).map(|i| REASONS[6 + i]));
+    }
+    if let Some(service) = s.service {
+        let holds = [service.lane >= s.n, service.block >= s.m, service.awaited >= s.n];
+        found.extend((0..3).filter(|&i| holds[i]).map(|i| REASONS[17 + i]));
+    }
+    for block in s.blocks.iter().take(usize::from(s.m)) {
+        let beyond = usize::from(s.n)..LANES;
+        found.extend(beyond.filter(|&k| block.present[k]).map(|_| REASONS[20]));
+    }
+    found.sort_unstable();
+    found.dedup();
+    found
+}
+
+fn lane_reasons(s: &Store, lane: &Lane) -> [bool; 11] {
+    let word_outside = |served| {
+        let waiting = lane.waiting.filter(|w| w.served == served);
+        waiting.is_some_and(|w| usize::from(w.word) / 4 >= usize::from(s.m))
+    };
+    let (r, d) = (&lane.returns, &lane.down);
+    let named = &lane.order[..usize::from(s.c)];
+    let repeats = (0..named.len()).any(|i| named[..i].contains(&named[i]));
+    [
+        own_lines(s, lane).any(|line| line.valid && line.block >= s.m),
+        r.length >= 1 && r.places[0].block >= s.m,
+        r.length >= 2 && r.places[1].block >= s.m,
+        d.length >= 1 && d.places[0].block >= s.m,
+        d.length >= 2 && d.places[1].block >= s.m,
+        word_outside(false),
+        word_outside(true),
+        r.length > 2,
+        d.length > 2,
+        repeats,
+        named.iter().any(|&name| name >= s.c),
+    ]
+}

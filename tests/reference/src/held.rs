@@ -1,0 +1,363 @@
+//! Bytes of held stores, calls, cases and answers.
+
+use crate::machine;
+use crate::parts::*;
+
+pub const STORE_BYTES: usize = 3_545;
+pub const CALL_BYTES: usize = 8;
+pub const CASE_BYTES: usize = STORE_BYTES + CALL_BYTES;
+pub const ANSWER_BYTES: usize = 8;
+pub const BUFFER_BYTES: usize = 1_300;
+pub const BUFFER_FILL: u8 = 0xa5;
+
+#[derive(Clone, Copy, PartialEq, Eq, Debug)]
+pub enum HeldCall {
+    Machine(Call),
+    /// The length of the lent buffer.
+    Picture(u32),
+}
+
+impl HeldCall {
+    pub fn kind(self) -> u8 {
+        match self {
+            HeldCall::Machine(call) => call.kind(),
+            HeldCall::Picture(_) => 0x10,
+        }
+    }
+}
+
+#[derive(Clone, Copy, PartialEq, Eq, Debug)]
+pub enum HeldAnswer {
+    Machine(Answer),
+    Picture(u32),
+    Refused(u8),
+}
+
+/// What a held call gives: answer, store after, and picture's buffer.
+pub struct Given {
+    pub answer: HeldAnswer,
+    pub store: Store,
+    pub buffer: Option<Vec<u8>>,
+}
+
+pub fn run(store: &Store, call: HeldCall) -> Given {
+    match call {
+        HeldCall::Machine(call) => {
+            let (answer, store) = match machine::call(store, call) {
+                Ok((after, answer)) => (HeldAnswer::Machine(answer), after),
+                Err(number) => (HeldAnswer::Refused(number), store.clone()),
+            };
+            Given { answer, store, buffer: None }
+        }
+        HeldCall::Picture(lent) => {
+            let mut buffer = vec![BUFFER_FILL; BUFFER_BYTES];
+            let answer = match machine::picture(store, &mut buffer[..lent as usize]) {
+                Ok(length) => HeldAnswer::Picture(length as u32),
+                Err(number) => HeldAnswer::Refused(number),
+            };
+            Given { answer, store: store.clone(), buffer: Some(buffer) }
+        }
+    }
+}
+
+impl Given {
+    pub fn bytes(&self) -> Vec<u8> {
+        let (tag, small, value) = match self.answer {
+            HeldAnswer::Machine(Answer::Done { lane, value }) => (1, lane, value),
+            HeldAnswer::Machine(Answer::Wait) => (2, 0, 0),
+            HeldAnswer::Machine(Answer::Step) => (3, 0, 0),
+            HeldAnswer::Refused(number) => (4, number, 0),
+            HeldAnswer::Picture(length) => (5, 0, length),
+        };
+        let mut out = vec![tag, small];
+        out.extend(value.to_le_bytes());
+        out.extend([0, 0]);
+        out.extend(encode_store(&self.store));
+        out.extend(self.buffer.iter().flatten());
+        out
+    }
+}
+
+/// The answers to all cases of the input.
+pub fn answers(input: &[u8]) -> Result<Vec<u8>, String> {
+    let mut out = Vec::new();
+    for (index, case) in input.chunks(CASE_BYTES).enumerate() {
+        let (store, call) = decode_case(case).map_err(|e| format!("case {index}: {e}"))?;
+        out.extend(run(&store, call).bytes());
+    }
+    Ok(out)
+}
+
+pub fn decode_case(case: &[u8]) -> Result<(Store, HeldCall), String> {
+    if case.len() != CASE_BYTES {
+        return Err(format!("{} bytes, not {CASE_BYTES}", case.len()));
+    }
+    let (store, call) = case.split_at(STORE_BYTES);
+    Ok((decode_store(store)?, decode_call(call)?))
+}
+
+pub fn encode_case(store: &Store, call: HeldCall) -> Vec<u8> {
+    let mut out = encode_store(store);
+    out.extend(encode_call(call));
+    out
+}
+
+pub fn encode_call(call: HeldCall) -> [u8; CALL_BYTES] {
+    let (lane, word, v) = match call {
+        HeldCall::Machine(Call::Begin { lane, op, word }) => (lane, word, operand(op)),
+        HeldCall::Machine(call) => (call.lane(), 0, 0),
+        HeldCall::Picture(lent) => (0, 0, lent),
+    };
+    let v = v.to_le_bytes();
+    [call.kind(), lane, word, v[0], v[1], v[2], v[3], 0]
+}
+
+pub fn decode_call(bytes: &[u8]) -> Result<HeldCall, String> {
+    let (kind, lane, word) = (bytes[0], bytes[1], bytes[2]);
+    let v = u32::from_le_bytes([bytes[3], bytes[4], bytes[5], bytes[6]]);
+    let begin = |op| Call::Begin { lane, op, word };
+    Ok(HeldCall::Machine(match kind {
+        0x01 => begin(Op::Load),
+        0x02 => begin(Op::Store(v)),
+        0x03 => begin(Op::Exchange(v)),
+        0x04 => begin(Op::Add(v)),
+        0x05 => Call::Serve(lane),
+        0x06 => Call::Return(lane),
+        0x07 => Call::Deliver(lane),
+        0x10 if v as usize <= BUFFER_BYTES => return Ok(HeldCall::Picture(v)),
+        _ => return Err(format!("call kind {kind:#04x} with v {v}")),
+    }))
+}
+
+fn operand(op: Op) -> u32 {
+    match op {
+        Op::Load => 0,
+        Op::Store(v) | Op::Exchange(v) | Op::Add(v) => v,
+    }
+}
+
+const COMMANDS: [Command; 3] = [Command::ReadShared, Command::ReadExclusive, Command::Exclude];
+
+const RETURN_KINDS: [ReturnKind; 6] = [
+    ReturnKind::Eject,
+    ReturnKind::WriteEject,
+    ReturnKind::Updated,
+    ReturnKind::Purged,
+    ReturnKind::PurgedWords,
+    ReturnKind::Gone,
+];
+
+const DOWN_KINDS: [DownKind; 4] =
+    [DownKind::Update, DownKind::Purge, DownKind::Grant, DownKind::BareGrant];
+
+fn index_of<T: PartialEq>(table: &[T], item: T) -> u8 {
+    table.iter().position(|entry| *entry == item).expect("item in its table") as u8
+}
+
+pub fn encode_store(s: &Store) -> Vec<u8> {
+    let mut out = vec![s.n, s.c, s.m];
+    out.extend(match s.service {
+        None => [0; 6],
+        Some(v) => {
+            let command = index_of(&COMMANDS, v.command);
+            [1, v.lane, v.block, command, v.awaited, u8::from(v.bare)]
+        }
+    });
+    s.lanes.iter().for_each(|lane| encode_lane(lane, &mut out));
+    for block in &s.blocks {
+        encode_words(&block.words, &mut out);
+        out.extend(block.present.map(u8::from));
+        out.push(u8::from(block.modified));
+    }
+    assert_eq!(out.len(), STORE_BYTES);
+    out
+}
+
+fn encode_words(words: &Words, out: &mut Vec<u8>) {
+    words.iter().for_each(|w| out.extend(w.to_le_bytes()));
+}
+
+fn encode_lane(lane: &Lane, out: &mut Vec<u8>) {
+    for line in &lane.lines {
+        out.extend([u8::from(line.valid), u8::from(line.private), line.block]);
+        encode_words(&line.words, out);
+    }
+    out.extend(lane.order);
+    encode_queue(&lane.returns, &RETURN_KINDS, out);
+    encode_queue(&lane.down, &DOWN_KINDS, out);
+    out.extend(match lane.waiting {
+        None => [0; 8],
+        Some(w) => {
+            let op = Call::Begin { lane: 0, op: w.op, word: 0 }.kind() - 1;
+            let v = operand(w.op).to_le_bytes();
+            let command = index_of(&COMMANDS, w.command);
+            [1 + u8::from(w.served), command, op, v[0], v[1], v[2], v[3], w.word]
+        }
+    });
+}
+
+fn encode_queue<K: Copy + PartialEq>(queue: &Queue<K>, kinds: &[K], out: &mut Vec<u8>) {
+    out.push(queue.length);
+    for message in &queue.places {
+        out.extend([index_of(kinds, message.kind), message.block]);
+        encode_words(&message.words, out);
+    }
+}
+
+struct Reader<'a> {
+    bytes: &'a [u8],
+    at: usize,
+}
+
+impl Reader<'_> {
+    fn byte(&mut self) -> u8 {
+        self.at += 1;
+        self.bytes[self.at - 1]
+    }
+
+    fn word(&mut self) -> u32 {
+        u32::from_le_bytes([self.byte(), self.byte(), self.byte(), self.byte()])
+    }
+
+    fn words(&mut self) -> Words {
+        [self.word(), self.word(), self.word(), self.word()]
+    }
+
+    /// An entry of a table, by its index.
+    fn entry<T: Copy>(&mut self, table: &[T]) -> Result<T, String> {
+        let index = self.byte();
+        let found = table.get(usize::from(index)).copied();
+        found.ok_or(format!("byte {} is {index}", self.at - 1))
+    }
+
+    fn flag(&mut self) -> Result<bool, String> {
+        self.entry(&[false, true])
+    }
+}
+
+pub fn decode_store(bytes: &[u8]) -> Result<Store, String> {
+    let mut r = Reader { bytes, at: 0 };
+    let mut s = Store::fresh(r.byte(), r.byte(), r.byte());
+    let (busy, lane, block) = (r.flag()?, r.byte(), r.byte());
+    let (command, awaited, bare) = (r.entry(&COMMANDS)?, r.byte(), r.flag()?);
+    s.service = busy.then_some(Service { lane, block, command, awaited, bare });
+    for lane in &mut s.lanes {
+        decode_lane(&mut r, lane)?;
+    }
+    for block in &mut s.blocks {
+        block.words = r.words();
+        for flag in &mut block.present {
+            *flag = r.flag()?;
+        }
+        block.modified = r.flag()?;
+    }
+    // Free and idle have no other content; a load has no v.
+    match encode_store(&s) == bytes {
+        true => Ok(s),
+        false => Err("bytes under a free, idle or load tag are not 0".to_string()),
+    }
+}
+
+fn decode_lane(r: &mut Reader, lane: &mut Lane) -> Result<(), String> {
+    for line in &mut lane.lines {
+        (line.valid, line.private) = (r.flag()?, r.flag()?);
+        (line.block, line.words) = (r.byte(), r.words());
+    }
+    lane.order = std::array::from_fn(|_| r.byte());
+    decode_queue(r, &RETURN_KINDS, &mut lane.returns)?;
+    decode_queue(r, &DOWN_KINDS, &mut lane.down)?;
+    let (tag, command) = (r.entry(&[0, 1, 2])?, r.entry(&COMMANDS)?);
+    let (op, v) = (r.entry(&[0, 1, 2, 3])?, r.word());
+    let op = [Op::Load, Op::Store(v), Op::Exchange(v), Op::Add(v)][op];
+    let waiting = Waiting { served: tag == 2, command, op, word: r.byte() };
+    lane.waiting = (tag != 0).then_some(waiting);
+    Ok(())
+}
+
+fn decode_queue<K: Copy>(r: &mut Reader, kinds: &[K], queue: &mut Queue<K>) -> Result<(), String> {
+    queue.length = r.byte();
+    for message in &mut queue.places {
+        (message.kind, message.block, message.words) = (r.entry(kinds)?, r.byte(), r.words());
+    }
+    Ok(())
+}
+
+/// The name of the part of a store that a byte belongs to.
+pub fn part_name(offset: usize) -> String {
+    let words = |at: usize| format!("word {} byte {}", at / 4, at % 4);
+    match offset {
+        0..=2 => ["n", "c", "m"][offset].to_string(),
+        3..=8 => {
+            let names = ["tag", "lane", "block", "command", "awaited", "bare"];
+            format!("control {}", names[offset - 3])
+        }
+        9..=1944 => {
+            let (lane, at) = ((offset - 9) / 242, (offset - 9) % 242);
+            format!("lane {lane} {}", lane_part_name(at))
+        }
+        _ => {
+            let (block, at) = ((offset - 1945) / 25, (offset - 1945) % 25);
+            let part = match at {
+                0..=15 => words(at),
+                16..=23 => format!("PRESENT {}", at - 16),
+                _ => "MODIFIED".to_string(),
+            };
+            format!("block {block} {part}")
+        }
+    }
+}
+
+fn lane_part_name(at: usize) -> String {
+    let fields = |at: usize, first: &[&str]| match first.get(at) {
+        Some(name) => name.to_string(),
+        None => format!("word {} byte {}", (at - first.len()) / 4, (at - first.len()) % 4),
+    };
+    let queue = |name: &str, at: usize| match at {
+        0 => format!("{name} queue length"),
+        _ => format!("{name} queue place {} {}", (at - 1) / 18, fields((at - 1) % 18, &["kind", "block"])),
+    };
+    match at {
+        0..=151 => format!("line {} {}", at / 19, fields(at % 19, &["VALID", "PRIVATE", "block"])),
+        152..=159 => format!("use order {}", at - 152),
+        160..=196 => queue("return", at - 160),
+        197..=233 => queue("down", at - 197),
+        _ => format!("waiting byte {}", at - 234),
+    }
+}
+
+/// Where other answers to the same cases differ; at most `most` lines.
+pub fn differences(input: &[u8], other: &[u8], most: usize) -> Result<Vec<String>, String> {
+    let (mut at, mut found) = (0, Vec::new());
+    for (index, case) in input.chunks(CASE_BYTES).enumerate() {
+        let (store, call) = decode_case(case).map_err(|e| format!("case {index}: {e}"))?;
+        let own = run(&store, call);
+        let bytes = own.bytes();
+        let theirs = other.get(at..at + bytes.len());
+        at += bytes.len();
+        let place = match theirs {
+            None => "the answers end early".to_string(),
+            Some(theirs) => match bytes.iter().zip(theirs).position(|(a, b)| a != b) {
+                None => continue,
+                Some(i) => format!("{}: {} and {}", answer_part_name(i), bytes[i], theirs[i]),
+            },
+        };
+        found.push(format!("case {index} {call:?} gives {:?}; {place}", own.answer));
+        if found.len() == most || theirs.is_none() {
+            return Ok(found);
+        }
+    }
+    if at < other.len() {
+        found.push(format!("{} bytes after the last answer", other.len() - at));
+    }
+    Ok(found)
+}
+
+fn answer_part_name(offset: usize) -> String {
+    if offset < ANSWER_BYTES {
+        format!("answer byte {offset}")
+    } else if offset < ANSWER_BYTES + STORE_BYTES {
+        part_name(offset - ANSWER_BYTES)
+    } else {
+        format!("buffer byte {}", offset - ANSWER_BYTES - STORE_BYTES)
+    }
+}

@@ -1,0 +1,16 @@
+//! A reference of the lane store of document 01, written from the document
+//! and its readings only, with generators of tapes and of held stores.
+
+pub mod conditions;
+pub mod damage;
+pub mod held;
+pub mod machine;
+pub mod parts;
+pub mod rng;
+pub mod scramble;
+pub mod situations;
+pub mod stores;
+pub mod summary;
+pub mod tape;
+pub mod tapes;
+pub mod walk;

@@ -1,0 +1,315 @@
+//! Checks and steps. A call works on a copy of the store, and the copy is
+//! handed back only when nothing was refused.
+
+use crate::parts::*;
+
+pub const CUT: u8 = 1;
+pub const STRANGER: u8 = 2;
+pub const SHUT: u8 = 3;
+pub const OPEN_ALREADY: u8 = 4;
+pub const NO_SUCH_BENCH: u8 = 5;
+pub const NO_SUCH_LANE: u8 = 6;
+pub const NO_SUCH_WORD: u8 = 7;
+pub const OCCUPIED: u8 = 8;
+pub const NOTHING_THERE: u8 = 9;
+pub const ENGAGED: u8 = 10;
+pub const RETURNS_FIRST: u8 = 11;
+pub const FULL: u8 = 12;
+pub const TOO_LONG: u8 = 13;
+pub const CORRUPT: u8 = 14;
+pub const BUFFER_SHORT: u8 = 15;
+pub const STRAY: u8 = 16;
+
+pub const PICTURE_RECORD: usize = 19;
+
+fn shape_in_range(n: u8, c: u8, m: u8) -> bool {
+    (2..=8).contains(&n) && (1..=8).contains(&c) && (1..=64).contains(&m)
+}
+
+pub fn open(n: u8, c: u8, m: u8) -> Result<Store, u8> {
+    if shape_in_range(n, c, m) {
+        Ok(Store::fresh(n, c, m))
+    } else {
+        Err(NO_SUCH_BENCH)
+    }
+}
+
+/// The store after the call and its answer, or the refusal number.
+pub fn call(store: &Store, call: Call) -> Result<(Store, Answer), u8> {
+    if corrupt(store) {
+        return Err(CORRUPT);
+    }
+    if call.lane() >= store.n {
+        return Err(NO_SUCH_LANE);
+    }
+    let mut after = store.clone();
+    let answer = match call {
+        Call::Begin { lane, op, word } => begin(&mut after, lane, op, word)?,
+        Call::Serve(lane) => serve(&mut after, lane)?,
+        Call::Return(lane) => take_return(&mut after, lane)?,
+        Call::Deliver(lane) => deliver(&mut after, lane)?,
+    };
+    Ok((after, answer))
+}
+
+/// Writes the picture into the lent buffer and gives its length.
+pub fn picture(store: &Store, buffer: &mut [u8]) -> Result<usize, u8> {
+    if corrupt(store) {
+        return Err(CORRUPT);
+    }
+    let mut bytes = Vec::new();
+    for (k, lane) in store.lanes[..usize::from(store.n)].iter().enumerate() {
+        for line in lane.lines[..usize::from(store.c)].iter().filter(|l| l.valid) {
+            bytes.extend([0x10, k as u8, line.block]);
+            line.words.iter().for_each(|w| bytes.extend(w.to_le_bytes()));
+        }
+    }
+    if buffer.len() < bytes.len() {
+        return Err(BUFFER_SHORT);
+    }
+    buffer[..bytes.len()].copy_from_slice(&bytes);
+    Ok(bytes.len())
+}
+
+/// Condition 14.
+pub fn corrupt(s: &Store) -> bool {
+    if !shape_in_range(s.n, s.c, s.m) {
+        return true;
+    }
+    let (n, m) = (usize::from(s.n), usize::from(s.m));
+    let service = s.service.is_some_and(|v| v.lane >= s.n || v.block >= s.m || v.awaited > s.n - 1);
+    let lane = s.lanes[..n].iter().any(|l| corrupt_lane(l, s.c, s.m));
+    let present = s.blocks[..m].iter().any(|b| b.present[n..].contains(&true));
+    service || lane || present
+}
+
+fn corrupt_lane(lane: &Lane, c: u8, m: u8) -> bool {
+    let c = usize::from(c);
+    let lines = lane.lines[..c].iter().any(|l| l.valid && l.block >= m);
+    let mut named = lane.order[..c].to_vec();
+    named.sort_unstable();
+    let order = named.iter().enumerate().any(|(i, &name)| i != usize::from(name));
+    let waiting = lane.waiting.is_some_and(|w| u16::from(w.word) >= 4 * u16::from(m));
+    lines || order || waiting || corrupt_queue(&lane.returns, m) || corrupt_queue(&lane.down, m)
+}
+
+fn corrupt_queue<K>(queue: &Queue<K>, m: u8) -> bool {
+    let length = usize::from(queue.length);
+    length > PLACES || queue.places[..length].iter().any(|message| message.block >= m)
+}
+
+/// The lowest-numbered valid line with the block.
+pub fn search(lane: &Lane, c: u8, block: u8) -> Option<usize> {
+    (0..usize::from(c)).find(|&i| lane.lines[i].valid && lane.lines[i].block == block)
+}
+
+/// Line i becomes the last used.
+fn use_line(lane: &mut Lane, c: u8, i: usize) {
+    let order = &mut lane.order[..usize::from(c)];
+    let at = order.iter().position(|&name| usize::from(name) == i).expect("line in use order");
+    order[at..].rotate_left(1);
+}
+
+/// Does the operation on the line; the lane waits no more.
+fn complete(lane: &mut Lane, c: u8, i: usize, op: Op, word: u8) -> u32 {
+    let cell = &mut lane.lines[i].words[usize::from(word % 4)];
+    let (value, left) = op.on(*cell);
+    *cell = left;
+    use_line(lane, c, i);
+    lane.waiting = None;
+    value
+}
+
+fn begin(s: &mut Store, k: u8, op: Op, word: u8) -> Result<Answer, u8> {
+    if u16::from(word) >= 4 * u16::from(s.m) {
+        return Err(NO_SUCH_WORD);
+    }
+    let lane = &mut s.lanes[usize::from(k)];
+    if lane.waiting.is_some() {
+        return Err(OCCUPIED);
+    }
+    let command = match search(lane, s.c, word / 4) {
+        Some(i) if op.is_load() || lane.lines[i].private => {
+            let value = complete(lane, s.c, i, op, word);
+            return Ok(Answer::Done { lane: k, value });
+        }
+        Some(_) => Command::Exclude,
+        None => {
+            make_room(lane, s.c)?;
+            if op.is_load() {
+                Command::ReadShared
+            } else {
+                Command::ReadExclusive
+            }
+        }
+    };
+    lane.waiting = Some(Waiting { served: false, command, op, word });
+    Ok(Answer::Wait)
+}
+
+/// Evicts the oldest line when all lines are valid.
+fn make_room(lane: &mut Lane, c: u8) -> Result<(), u8> {
+    if !lane.lines[..usize::from(c)].iter().all(|l| l.valid) {
+        return Ok(());
+    }
+    let line = &mut lane.lines[usize::from(lane.order[0])];
+    line.valid = false;
+    let message = if line.private {
+        Message { kind: ReturnKind::WriteEject, block: line.block, words: line.words }
+    } else {
+        Message { kind: ReturnKind::Eject, block: line.block, words: [0; 4] }
+    };
+    push(&mut lane.returns, message)
+}
+
+fn push<K: Copy>(queue: &mut Queue<K>, message: Message<K>) -> Result<(), u8> {
+    if queue.push(message) {
+        Ok(())
+    } else {
+        Err(FULL)
+    }
+}
+
+fn serve(s: &mut Store, k: u8) -> Result<Answer, u8> {
+    let lane = &mut s.lanes[usize::from(k)];
+    let waiting = match &mut lane.waiting {
+        Some(waiting) if !waiting.served => waiting,
+        _ => return Err(NOTHING_THERE),
+    };
+    if s.service.is_some() {
+        return Err(ENGAGED);
+    }
+    if !lane.returns.is_empty() {
+        return Err(RETURNS_FIRST);
+    }
+    waiting.served = true;
+    let (block, command) = (waiting.block(), waiting.command);
+    let bare = command == Command::Exclude && s.blocks[usize::from(block)].present[usize::from(k)];
+    let awaited = send_orders(s, k, block, command)?;
+    s.service = Some(Service { lane: k, block, command, awaited, bare });
+    if awaited == 0 {
+        close(s)?;
+    }
+    Ok(Answer::Step)
+}
+
+/// Sends the orders of a service and gives their count.
+fn send_orders(s: &mut Store, k: u8, block: u8, command: Command) -> Result<u8, u8> {
+    let directory = s.blocks[usize::from(block)];
+    let kind = match command {
+        Command::ReadShared if !directory.modified => return Ok(0),
+        Command::ReadShared => DownKind::Update,
+        Command::ReadExclusive | Command::Exclude => DownKind::Purge,
+    };
+    let mut sent = 0;
+    for other in (0..s.n).filter(|&j| j != k && directory.present[usize::from(j)]) {
+        let order = Message { kind, block, words: [0; 4] };
+        push(&mut s.lanes[usize::from(other)].down, order)?;
+        sent += 1;
+    }
+    Ok(sent)
+}
+
+/// Closes the open service: directory flags, grant, control free.
+fn close(s: &mut Store) -> Result<(), u8> {
+    let service = s.service.take().expect("open service");
+    let k = usize::from(service.lane);
+    let entry = &mut s.blocks[usize::from(service.block)];
+    if service.command != Command::ReadShared {
+        entry.present = [false; LANES];
+        entry.modified = true;
+    }
+    entry.present[k] = true;
+    let (kind, words) = match service.bare {
+        true => (DownKind::BareGrant, [0; 4]),
+        false => (DownKind::Grant, entry.words),
+    };
+    push(&mut s.lanes[k].down, Message { kind, block: service.block, words })
+}
+
+fn take_return(s: &mut Store, k: u8) -> Result<Answer, u8> {
+    let message = s.lanes[usize::from(k)].returns.take().ok_or(NOTHING_THERE)?;
+    let kind = message.kind;
+    let expected = s.service.is_some_and(|v| v.block == message.block && v.awaited > 0);
+    if kind.is_answer() && !expected {
+        return Err(STRAY);
+    }
+    let entry = &mut s.blocks[usize::from(message.block)];
+    if kind != ReturnKind::Updated {
+        entry.present[usize::from(k)] = false;
+    }
+    if kind.has_words() {
+        entry.words = message.words;
+        entry.modified = false;
+    }
+    if kind.is_answer() {
+        lower_awaited(s)?;
+    }
+    Ok(Answer::Step)
+}
+
+fn lower_awaited(s: &mut Store) -> Result<(), u8> {
+    let service = s.service.as_mut().expect("open service");
+    service.awaited -= 1;
+    if service.awaited == 0 {
+        close(s)?;
+    }
+    Ok(())
+}
+
+fn deliver(s: &mut Store, k: u8) -> Result<Answer, u8> {
+    let (c, lane) = (s.c, &mut s.lanes[usize::from(k)]);
+    let message = lane.down.take().ok_or(NOTHING_THERE)?;
+    if message.kind.is_order() {
+        obey(lane, c, message)?;
+        Ok(Answer::Step)
+    } else {
+        let value = accept_grant(lane, c, message)?;
+        Ok(Answer::Done { lane: k, value })
+    }
+}
+
+/// UPDATE or PURGE: the answer joins the return queue.
+fn obey(lane: &mut Lane, c: u8, order: Message<DownKind>) -> Result<(), u8> {
+    let (kind, words) = match search(lane, c, order.block) {
+        None => (ReturnKind::Gone, [0; 4]),
+        Some(i) => {
+            let line = &mut lane.lines[i];
+            if order.kind == DownKind::Update {
+                line.private = false;
+                (ReturnKind::Updated, line.words)
+            } else {
+                line.valid = false;
+                match line.private {
+                    true => (ReturnKind::PurgedWords, line.words),
+                    false => (ReturnKind::Purged, [0; 4]),
+                }
+            }
+        }
+    };
+    push(&mut lane.returns, Message { kind, block: order.block, words })
+}
+
+/// A grant, bare or with words: the served operation completes.
+fn accept_grant(lane: &mut Lane, c: u8, grant: Message<DownKind>) -> Result<u32, u8> {
+    let waiting = match lane.waiting {
+        Some(w) if w.served && w.block() == grant.block => w,
+        _ => return Err(STRAY),
+    };
+    let held = search(lane, c, grant.block);
+    let i = if grant.kind == DownKind::BareGrant {
+        held.ok_or(STRAY)?
+    } else {
+        if held.is_some() {
+            return Err(STRAY);
+        }
+        let free = lane.lines[..usize::from(c)].iter().position(|l| !l.valid);
+        let i = free.ok_or(STRAY)?;
+        let line = &mut lane.lines[i];
+        (line.valid, line.block, line.words) = (true, grant.block, grant.words);
+        use_line(lane, c, i);
+        i
+    };
+    lane.lines[i].private = !waiting.op.is_load();
+    Ok(complete(lane, c, i, waiting.op, waiting.word))
+}

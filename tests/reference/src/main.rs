@@ -1,0 +1,130 @@
+//! The command line. See README.md.
+
+use reference::summary::{Cases, Tapes};
+use reference::{held, stores, tape, tapes};
+use std::fs;
+use std::io::{self, BufWriter, Read, Write};
+use std::path::{Path, PathBuf};
+use std::process::ExitCode;
+
+const USAGE: &str = "usage:
+  reference tape < TAPE
+  reference held < CASES
+  reference make-tapes SEED COUNT DIR
+  reference count-tapes DIR
+  reference expect-tapes DIR
+  reference make-held SEED COUNT FILE
+  reference differ-held CASES ANSWERS";
+
+type Outcome = Result<(), String>;
+
+fn main() -> ExitCode {
+    let args: Vec<String> = std::env::args().skip(1).collect();
+    let args: Vec<&str> = args.iter().map(String::as_str).collect();
+    let result = match args[..] {
+        ["tape"] => run_tape(),
+        ["held"] => run_held(),
+        ["make-tapes", seed, count, dir] => make_tapes(seed, count, Path::new(dir)),
+        ["count-tapes", dir] => count_tapes(Path::new(dir)),
+        ["expect-tapes", dir] => expect_tapes(Path::new(dir)),
+        ["make-held", seed, count, file] => make_held(seed, count, Path::new(file)),
+        ["differ-held", cases, answers] => differ_held(cases, answers),
+        _ => Err(USAGE.to_string()),
+    };
+    match result {
+        Ok(()) => ExitCode::SUCCESS,
+        Err(text) => {
+            eprintln!("{text}");
+            ExitCode::from(2)
+        }
+    }
+}
+
+fn text(error: impl std::fmt::Display) -> String {
+    error.to_string()
+}
+
+fn number<T: std::str::FromStr>(argument: &str) -> Result<T, String> {
+    argument.parse().map_err(|_| format!("not a number: {argument}"))
+}
+
+fn input() -> Result<Vec<u8>, String> {
+    let mut bytes = Vec::new();
+    io::stdin().read_to_end(&mut bytes).map_err(text)?;
+    Ok(bytes)
+}
+
+fn run_tape() -> Outcome {
+    let out = tape::print(&input()?);
+    io::stdout().write_all(out.as_bytes()).map_err(text)
+}
+
+fn run_held() -> Outcome {
+    let out = held::answers(&input()?)?;
+    io::stdout().write_all(&out).map_err(text)
+}
+
+fn make_tapes(seed: &str, count: &str, dir: &Path) -> Outcome {
+    let (seed, count) = (number(seed)?, number(count)?);
+    fs::create_dir_all(dir).map_err(text)?;
+    let mut summary = Tapes::default();
+    for index in 0..count {
+        let bytes = tapes::make(seed, index);
+        summary.add(&bytes);
+        fs::write(dir.join(format!("{index:04}.tape")), bytes).map_err(text)?;
+    }
+    print!("{summary}");
+    Ok(())
+}
+
+/// The files DIR/*.tape, by name.
+fn tape_files(dir: &Path) -> Result<Vec<PathBuf>, String> {
+    let entries = fs::read_dir(dir).map_err(text)?;
+    let mut files: Vec<PathBuf> = entries.filter_map(|e| Some(e.ok()?.path())).collect();
+    files.retain(|file| file.extension().is_some_and(|x| x == "tape"));
+    files.sort();
+    Ok(files)
+}
+
+fn count_tapes(dir: &Path) -> Outcome {
+    let mut summary = Tapes::default();
+    for file in tape_files(dir)? {
+        summary.add(&fs::read(file).map_err(text)?);
+    }
+    print!("{summary}");
+    Ok(())
+}
+
+fn expect_tapes(dir: &Path) -> Outcome {
+    let files = tape_files(dir)?;
+    for file in &files {
+        let lines = tape::print(&fs::read(file).map_err(text)?);
+        fs::write(file.with_extension("expected"), lines).map_err(text)?;
+    }
+    println!("{} files of expected lines", files.len());
+    Ok(())
+}
+
+fn make_held(seed: &str, count: &str, file: &Path) -> Outcome {
+    let (seed, count) = (number(seed)?, number(count)?);
+    let mut out = BufWriter::new(fs::File::create(file).map_err(text)?);
+    let mut summary = Cases::default();
+    for index in 0..count {
+        let case = stores::make(seed, index);
+        summary.add(&case, held::run(&case.store, case.call).answer);
+        out.write_all(&held::encode_case(&case.store, case.call)).map_err(text)?;
+    }
+    out.flush().map_err(text)?;
+    print!("{summary}");
+    Ok(())
+}
+
+fn differ_held(cases: &str, answers: &str) -> Outcome {
+    let (cases, answers) = (fs::read(cases).map_err(text)?, fs::read(answers).map_err(text)?);
+    let found = held::differences(&cases, &answers, 20)?;
+    if found.is_empty() {
+        println!("no differences in {} cases", cases.len() / held::CASE_BYTES);
+        return Ok(());
+    }
+    Err(found.join("\n"))
+}

@@ -1,0 +1,250 @@
+//! The parts of a store. Arrays have their largest size whatever n, c and m
+//! are; entries past n, c, m or a queue's length are no part of the store.
+
+pub const LANES: usize = 8;
+pub const LINES: usize = 8;
+pub const BLOCKS: usize = 64;
+pub const PLACES: usize = 2;
+
+pub type Words = [u32; 4];
+
+#[derive(Clone, Copy, PartialEq, Eq, Debug, Default)]
+pub struct Line {
+    pub valid: bool,
+    pub private: bool,
+    pub block: u8,
+    pub words: Words,
+}
+
+#[derive(Clone, Copy, PartialEq, Eq, Debug)]
+pub enum Command {
+    ReadShared,
+    ReadExclusive,
+    Exclude,
+}
+
+#[derive(Clone, Copy, PartialEq, Eq, Debug)]
+pub enum Op {
+    Load,
+    Store(u32),
+    Exchange(u32),
+    Add(u32),
+}
+
+impl Op {
+    pub fn is_load(self) -> bool {
+        self == Op::Load
+    }
+
+    /// The value given and the word left, from the former word.
+    pub fn on(self, former: u32) -> (u32, u32) {
+        match self {
+            Op::Load => (former, former),
+            Op::Store(v) => (v, v),
+            Op::Exchange(v) => (former, v),
+            Op::Add(v) => {
+                let sum = (u64::from(former) + u64::from(v)) % 4_294_967_296;
+                (former, sum as u32)
+            }
+        }
+    }
+}
+
+#[derive(Clone, Copy, PartialEq, Eq, Debug)]
+pub struct Waiting {
+    pub served: bool,
+    pub command: Command,
+    pub op: Op,
+    pub word: u8,
+}
+
+impl Waiting {
+    pub fn block(&self) -> u8 {
+        self.word / 4
+    }
+}
+
+#[derive(Clone, Copy, PartialEq, Eq, Debug)]
+pub enum ReturnKind {
+    Eject,
+    WriteEject,
+    Updated,
+    Purged,
+    PurgedWords,
+    Gone,
+}
+
+impl ReturnKind {
+    /// UPDATED, PURGED and GONE answer an order; the ejects do not.
+    pub fn is_answer(self) -> bool {
+        !matches!(self, ReturnKind::Eject | ReturnKind::WriteEject)
+    }
+
+    pub fn has_words(self) -> bool {
+        use ReturnKind::*;
+        matches!(self, WriteEject | Updated | PurgedWords)
+    }
+}
+
+#[derive(Clone, Copy, PartialEq, Eq, Debug)]
+pub enum DownKind {
+    Update,
+    Purge,
+    Grant,
+    BareGrant,
+}
+
+impl DownKind {
+    pub fn is_order(self) -> bool {
+        matches!(self, DownKind::Update | DownKind::Purge)
+    }
+}
+
+#[derive(Clone, Copy, PartialEq, Eq, Debug)]
+pub struct Message<K> {
+    pub kind: K,
+    pub block: u8,
+    pub words: Words,
+}
+
+/// First in, first out; the head is place 0.
+#[derive(Clone, Copy, PartialEq, Eq, Debug)]
+pub struct Queue<K> {
+    pub length: u8,
+    pub places: [Message<K>; PLACES],
+}
+
+impl<K: Copy> Queue<K> {
+    pub fn empty(kind: K) -> Self {
+        let blank = Message { kind, block: 0, words: [0; 4] };
+        Queue { length: 0, places: [blank; PLACES] }
+    }
+
+    pub fn is_empty(&self) -> bool {
+        self.length == 0
+    }
+
+    pub fn is_full(&self) -> bool {
+        usize::from(self.length) >= PLACES
+    }
+
+    pub fn head(&self) -> Option<Message<K>> {
+        if self.is_empty() {
+            None
+        } else {
+            Some(self.places[0])
+        }
+    }
+
+    /// Place 0 gets place 1; place 1 keeps what it had.
+    pub fn take(&mut self) -> Option<Message<K>> {
+        let head = self.head()?;
+        self.places[0] = self.places[1];
+        self.length -= 1;
+        Some(head)
+    }
+
+    /// False, and nothing done, when the queue is full.
+    pub fn push(&mut self, message: Message<K>) -> bool {
+        if self.is_full() {
+            return false;
+        }
+        self.places[usize::from(self.length)] = message;
+        self.length += 1;
+        true
+    }
+}
+
+#[derive(Clone, Copy, PartialEq, Eq, Debug)]
+pub struct Lane {
+    pub lines: [Line; LINES],
+    /// Line numbers, oldest use first.
+    pub order: [u8; LINES],
+    pub returns: Queue<ReturnKind>,
+    pub down: Queue<DownKind>,
+    pub waiting: Option<Waiting>,
+}
+
+#[derive(Clone, Copy, PartialEq, Eq, Debug, Default)]
+pub struct Block {
+    pub words: Words,
+    pub present: [bool; LANES],
+    pub modified: bool,
+}
+
+#[derive(Clone, Copy, PartialEq, Eq, Debug)]
+pub struct Service {
+    pub lane: u8,
+    pub block: u8,
+    pub command: Command,
+    pub awaited: u8,
+    pub bare: bool,
+}
+
+#[derive(Clone, PartialEq, Eq, Debug)]
+pub struct Store {
+    pub n: u8,
+    pub c: u8,
+    pub m: u8,
+    pub service: Option<Service>,
+    pub lanes: [Lane; LANES],
+    pub blocks: [Block; BLOCKS],
+}
+
+impl Store {
+    /// What an opening gives, for any n, c, m.
+    pub fn fresh(n: u8, c: u8, m: u8) -> Store {
+        let lane = Lane {
+            lines: [Line::default(); LINES],
+            order: [0, 1, 2, 3, 4, 5, 6, 7],
+            returns: Queue::empty(ReturnKind::Eject),
+            down: Queue::empty(DownKind::Update),
+            waiting: None,
+        };
+        let (lanes, blocks) = ([lane; LANES], [Block::default(); BLOCKS]);
+        Store { n, c, m, service: None, lanes, blocks }
+    }
+
+    pub fn quiet(&self) -> bool {
+        let lanes = &self.lanes[..usize::from(self.n)];
+        let idle = |l: &Lane| l.waiting.is_none() && l.returns.is_empty() && l.down.is_empty();
+        self.service.is_none() && lanes.iter().all(idle)
+    }
+}
+
+#[derive(Clone, Copy, PartialEq, Eq, Debug)]
+pub enum Call {
+    Begin { lane: u8, op: Op, word: u8 },
+    Serve(u8),
+    Return(u8),
+    Deliver(u8),
+}
+
+impl Call {
+    pub fn lane(self) -> u8 {
+        match self {
+            Call::Begin { lane, .. } => lane,
+            Call::Serve(lane) | Call::Return(lane) | Call::Deliver(lane) => lane,
+        }
+    }
+
+    /// The kind byte on a tape.
+    pub fn kind(self) -> u8 {
+        match self {
+            Call::Begin { op: Op::Load, .. } => 0x01,
+            Call::Begin { op: Op::Store(_), .. } => 0x02,
+            Call::Begin { op: Op::Exchange(_), .. } => 0x03,
+            Call::Begin { op: Op::Add(_), .. } => 0x04,
+            Call::Serve(_) => 0x05,
+            Call::Return(_) => 0x06,
+            Call::Deliver(_) => 0x07,
+        }
+    }
+}
+
+#[derive(Clone, Copy, PartialEq, Eq, Debug)]
+pub enum Answer {
+    Done { lane: u8, value: u32 },
+    Wait,
+    Step,
+}

@@ -1,0 +1,164 @@
+//! Random parts and random stores that are not corrupt.
+
+use crate::parts::*;
+use crate::rng::Rng;
+
+/// Whether messages without words may hold words other than 0 in a made
+/// store. The machine never makes such, and never looks at them.
+pub const WORDS_IN_WORDLESS: bool = true;
+
+pub fn permute(items: &mut [u8], rng: &mut Rng) {
+    for i in (1..items.len()).rev() {
+        items.swap(i, rng.below(i + 1));
+    }
+}
+
+pub fn service(n: u8, m: u8, rng: &mut Rng) -> Service {
+    Service {
+        lane: rng.byte_below(n),
+        block: rng.byte_below(m),
+        command: command(rng),
+        awaited: rng.byte_below(n),
+        bare: rng.chance(50),
+    }
+}
+
+fn command(rng: &mut Rng) -> Command {
+    rng.pick(&[Command::ReadShared, Command::ReadExclusive, Command::Exclude])
+}
+
+pub fn waiting(m: u8, rng: &mut Rng) -> Waiting {
+    let word = rng.below(4 * usize::from(m)) as u8;
+    let op = crate::walk::any_op(rng);
+    Waiting { served: rng.chance(50), command: command(rng), op, word }
+}
+
+fn message<K>(kind: K, has_words: bool, m: u8, rng: &mut Rng) -> Message<K> {
+    let words = match has_words || (WORDS_IN_WORDLESS && rng.chance(10)) {
+        true => rng.words(),
+        false => [0; 4],
+    };
+    Message { kind, block: rng.byte_below(m), words }
+}
+
+pub fn return_places(m: u8, rng: &mut Rng) -> [Message<ReturnKind>; PLACES] {
+    use ReturnKind::*;
+    std::array::from_fn(|_| {
+        let kind = rng.pick(&[Eject, WriteEject, Updated, Purged, PurgedWords, Gone]);
+        message(kind, kind.has_words(), m, rng)
+    })
+}
+
+pub fn down_places(m: u8, rng: &mut Rng) -> [Message<DownKind>; PLACES] {
+    use DownKind::*;
+    std::array::from_fn(|_| {
+        let kind = rng.pick(&[Update, Purge, Grant, BareGrant]);
+        message(kind, kind == Grant, m, rng)
+    })
+}
+
+/// Likelihoods, in percent, of one random store.
+struct Mood {
+    valid: usize,
+    private: usize,
+    present: usize,
+    waiting: usize,
+    /// Weights of queue lengths 0, 1 and 2.
+    lengths: [usize; 3],
+}
+
+impl Mood {
+    fn random(rng: &mut Rng) -> Mood {
+        Mood {
+            valid: rng.pick(&[10, 50, 90, 100]),
+            private: rng.pick(&[0, 50, 100]),
+            present: rng.pick(&[0, 20, 60, 100]),
+            waiting: rng.pick(&[20, 60, 95]),
+            lengths: rng.pick(&[[8, 1, 1], [1, 1, 1], [1, 4, 1], [1, 2, 6]]),
+        }
+    }
+}
+
+/// A random store, not corrupt.
+pub fn store(rng: &mut Rng) -> Store {
+    let (any_c, any_m) = (rng.between(1, 8), rng.between(1, 64));
+    let c = rng.pick(&[1, 2, 3, any_c]) as u8;
+    let m = rng.pick(&[1, 1, 2, 3, any_m, 64]) as u8;
+    let mut s = Store::fresh(rng.between(2, 8) as u8, c, m);
+    let mood = Mood::random(rng);
+    if rng.chance(50) {
+        s.service = Some(service(s.n, m, rng));
+    }
+    for k in 0..usize::from(s.n) {
+        s.lanes[k] = lane(c, m, &mood, rng);
+    }
+    for block in &mut s.blocks[..usize::from(m)] {
+        block.words = rng.words();
+        block.modified = rng.chance(50);
+        for flag in &mut block.present[..usize::from(s.n)] {
+            *flag = rng.chance(mood.present);
+        }
+    }
+    s
+}
+
+fn lane(c: u8, m: u8, mood: &Mood, rng: &mut Rng) -> Lane {
+    let mut lane = Store::fresh(2, c, m).lanes[0];
+    permute(&mut lane.order[..usize::from(c)], rng);
+    for line in &mut lane.lines[..usize::from(c)] {
+        line.valid = rng.chance(mood.valid);
+        line.private = rng.chance(mood.private);
+        line.block = rng.byte_below(m);
+        line.words = rng.words();
+    }
+    let length = |rng: &mut Rng| rng.weighted(&mood.lengths) as u8;
+    lane.returns = Queue { length: length(rng), places: return_places(m, rng) };
+    lane.down = Queue { length: length(rng), places: down_places(m, rng) };
+    if rng.chance(mood.waiting) {
+        lane.waiting = Some(waiting(m, rng));
+    }
+    lane
+}
+
+/// Fills what is no part of the store with anything: invalid lines' content,
+/// entries past n, c and m, and places past a queue's length.
+pub fn junk(s: &mut Store, rng: &mut Rng) {
+    let (n, c, m) = (usize::from(s.n), usize::from(s.c), usize::from(s.m));
+    for lane in &mut s.lanes[..n] {
+        lane.lines[c..].iter_mut().for_each(|line| *line = junk_line(rng));
+        lane.order[c..].iter_mut().for_each(|name| *name = rng.byte());
+        junk_places(&mut lane.returns, return_places(255, rng));
+        junk_places(&mut lane.down, down_places(255, rng));
+        for line in lane.lines[..c].iter_mut().filter(|line| !line.valid) {
+            *line = Line { valid: false, ..junk_line(rng) };
+        }
+    }
+    s.lanes[n..].iter_mut().for_each(|lane| *lane = junk_lane(rng));
+    for block in &mut s.blocks[m..] {
+        block.words = rng.words();
+        block.present = std::array::from_fn(|_| rng.chance(50));
+        block.modified = rng.chance(50);
+    }
+}
+
+fn junk_places<K: Copy>(queue: &mut Queue<K>, places: [Message<K>; PLACES]) {
+    let length = usize::from(queue.length).min(PLACES);
+    queue.places[length..].copy_from_slice(&places[length..]);
+}
+
+fn junk_line(rng: &mut Rng) -> Line {
+    let (valid, private) = (rng.chance(50), rng.chance(50));
+    Line { valid, private, block: rng.byte(), words: rng.words() }
+}
+
+fn junk_lane(rng: &mut Rng) -> Lane {
+    let any = rng.byte();
+    let length = |rng: &mut Rng| rng.pick(&[0, 1, 2, 2, 3, any]);
+    Lane {
+        lines: std::array::from_fn(|_| junk_line(rng)),
+        order: std::array::from_fn(|_| rng.byte()),
+        returns: Queue { length: length(rng), places: return_places(255, rng) },
+        down: Queue { length: length(rng), places: down_places(255, rng) },
+        waiting: rng.chance(60).then(|| waiting(64, rng)),
+    }
+}

@@ -1,0 +1,192 @@
+//! Makes cases: a held store and a call. Case `index` depends on the seed
+//! and the index only.
+
+use crate::damage::{Damage, CORRUPTING, FAIR};
+use crate::held::{HeldCall, BUFFER_BYTES};
+use crate::machine;
+use crate::parts::*;
+use crate::rng::Rng;
+use crate::scramble;
+use crate::walk::{self, Style};
+
+pub struct Case {
+    pub store: Store,
+    pub call: HeldCall,
+    /// Where the store comes from.
+    pub source: &'static str,
+    /// Names of the damage done.
+    pub damages: Vec<&'static str>,
+}
+
+pub const SOURCES: [&str; 4] = ["reached", "reached, damaged", "random", "random, damaged"];
+
+pub fn make(seed: u64, index: usize) -> Case {
+    let mut rng = Rng::stream(seed, index as u64);
+    let source = rng.weighted(&[25, 30, 30, 15]);
+    let (mut store, call) = if source < 2 { reached(&mut rng) } else { random(&mut rng) };
+    if rng.chance(50) {
+        scramble::junk(&mut store, &mut rng);
+    }
+    let damages = match source % 2 {
+        0 => Vec::new(),
+        _ => damage(&mut store, &mut rng),
+    };
+    Case { store, call, source: SOURCES[source], damages }
+}
+
+/// A store that random calls reach from an opening, and a call.
+pub fn reached(rng: &mut Rng) -> (Store, HeldCall) {
+    let (any_c, any_m) = (rng.between(1, 8), rng.between(1, 64));
+    let c = rng.pick(&[1, 2, any_c]) as u8;
+    let m = rng.pick(&[1, 2, 3, any_m, 64]) as u8;
+    let mut s = machine::open(rng.between(2, 8) as u8, c, m).expect("shape in range");
+    let style = match rng.chance(20) {
+        true => Style::sharing(&s, rng),
+        false => Style::random(&s, rng),
+    };
+    let any = rng.below(200);
+    for _ in 0..rng.pick(&[0, 5, 20, any, any]) {
+        if let Ok((after, _)) = machine::call(&s, walk::next_call(&s, &style, rng)) {
+            s = after;
+        }
+    }
+    let call = match rng.below(100) {
+        0..=9 => picture_call(&s, rng),
+        10..=59 => HeldCall::Machine(walk::next_call(&s, &style, rng)),
+        _ => any_call(&s, rng),
+    };
+    (s, call)
+}
+
+/// A random store and a call that is turned toward it.
+fn random(rng: &mut Rng) -> (Store, HeldCall) {
+    let mut s = scramble::store(rng);
+    let call = match rng.chance(8) {
+        true => picture_call(&s, rng),
+        false => any_call(&s, rng),
+    };
+    if let HeldCall::Machine(call) = call {
+        if call.lane() < s.n && rng.chance(70) {
+            turn_toward(&mut s, call, rng);
+        }
+    }
+    (s, call)
+}
+
+/// Any machine call, begins half as often as the steps together.
+fn any_call(s: &Store, rng: &mut Rng) -> HeldCall {
+    let (lane, v) = (walk::any_lane(s, rng), rng.value());
+    let op = rng.pick(&[Op::Load, Op::Store(v), Op::Exchange(v), Op::Add(v)]);
+    let begin = Call::Begin { lane, op, word: walk::any_word(s, rng) };
+    let steps = [Call::Serve(lane), Call::Return(lane), Call::Deliver(lane)];
+    HeldCall::Machine(match rng.chance(40) {
+        true => begin,
+        false => rng.pick(&steps),
+    })
+}
+
+/// Picture with a lent buffer near the length it needs, or any.
+fn picture_call(s: &Store, rng: &mut Rng) -> HeldCall {
+    let lanes = &s.lanes[..usize::from(s.n)];
+    let valid = |l: &Lane| l.lines[..usize::from(s.c)].iter().filter(|l| l.valid).count();
+    let need = 19 * lanes.iter().map(valid).sum::<usize>();
+    let any = rng.below(BUFFER_BYTES + 1);
+    let below = need.saturating_sub(1);
+    let near = [need, need, below, below, need + 1, need + 19, need.saturating_sub(19)];
+    let lent = rng.pick(&near);
+    HeldCall::Picture(rng.pick(&[lent, lent, any, 0, BUFFER_BYTES]) as u32)
+}
+
+/// Changes the store so that the later checks of the call are met.
+fn turn_toward(s: &mut Store, call: Call, rng: &mut Rng) {
+    match call {
+        Call::Begin { lane, word, .. } => toward_begin(s, usize::from(lane), word, rng),
+        Call::Serve(lane) => toward_serve(s, usize::from(lane), rng),
+        Call::Return(lane) => toward_return(s, usize::from(lane), rng),
+        Call::Deliver(lane) => toward_deliver(s, usize::from(lane), rng),
+    }
+}
+
+fn toward_begin(s: &mut Store, k: usize, word: u8, rng: &mut Rng) {
+    let (c, m) = (usize::from(s.c), s.m);
+    let lane = &mut s.lanes[k];
+    if rng.chance(70) {
+        lane.waiting = None;
+    }
+    if rng.chance(40) {
+        // A miss with all lines valid, where there is another block.
+        for line in &mut lane.lines[..c] {
+            line.valid = true;
+            if line.block == word / 4 {
+                line.block = (line.block + 1) % m;
+            }
+        }
+        if rng.chance(40) {
+            lane.returns = Queue { length: 2, places: scramble::return_places(m, rng) };
+        }
+    } else if word / 4 < m && rng.chance(50) {
+        let line = &mut lane.lines[rng.below(c)];
+        (line.valid, line.block) = (true, word / 4);
+    }
+}
+
+fn toward_serve(s: &mut Store, k: usize, rng: &mut Rng) {
+    if rng.chance(80) {
+        let fresh = scramble::waiting(s.m, rng);
+        s.lanes[k].waiting.get_or_insert(fresh).served = false;
+    }
+    if rng.chance(65) {
+        s.service = None;
+    }
+    if rng.chance(65) {
+        s.lanes[k].returns.length = 0;
+    }
+}
+
+fn toward_return(s: &mut Store, k: usize, rng: &mut Rng) {
+    let (n, m) = (s.n, s.m);
+    let queue = &mut s.lanes[k].returns;
+    if queue.is_empty() {
+        *queue = Queue { length: 1, places: scramble::return_places(m, rng) };
+    }
+    if rng.chance(85) {
+        let fresh = scramble::service(n, m, rng);
+        let service = s.service.get_or_insert(fresh);
+        if rng.chance(75) {
+            service.block = queue.places[0].block;
+        }
+        service.awaited = rng.pick(&[1, 1, 1, service.awaited]);
+    }
+}
+
+fn toward_deliver(s: &mut Store, k: usize, rng: &mut Rng) {
+    let m = s.m;
+    let lane = &mut s.lanes[k];
+    if lane.down.is_empty() {
+        lane.down = Queue { length: 1, places: scramble::down_places(m, rng) };
+    }
+    if rng.chance(80) {
+        let fresh = scramble::waiting(m, rng);
+        let waiting = lane.waiting.get_or_insert(fresh);
+        waiting.served = true;
+        waiting.word = 4 * lane.down.places[0].block + waiting.word % 4;
+    }
+}
+
+/// Some fair damage, some corrupting, or both. Fair damage comes first and
+/// damage to n, c and m last: the others need them in range.
+fn damage(store: &mut Store, rng: &mut Rng) -> Vec<&'static str> {
+    let corrupting = rng.chance(60);
+    let none = if corrupting { 4 } else { 0 };
+    let fair = rng.weighted(&[none, 4, 2]);
+    let mut chosen: Vec<&Damage> = (0..fair).map(|_| &FAIR[rng.below(FAIR.len())]).collect();
+    if corrupting {
+        let (inner, any) = (rng.between(6, CORRUPTING.len() - 1), rng.below(CORRUPTING.len()));
+        if rng.chance(20) {
+            chosen.push(&CORRUPTING[inner]);
+        }
+        chosen.push(&CORRUPTING[any]);
+    }
+    let done = chosen.iter().filter(|damage| (damage.act)(store, rng));
+    done.map(|damage| damage.name).collect()
+}

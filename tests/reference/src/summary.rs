@@ -1,0 +1,317 @@
+//! Counts of what tapes and cases met, for print.
+
+use crate::conditions::{self, REASONS};
+use crate::held::HeldAnswer;
+use crate::parts::*;
+use crate::situations;
+use crate::stores::{Case, SOURCES};
+use crate::tape::{self, Event, Outcome, Record};
+use std::collections::{BTreeMap, BTreeSet};
+use std::fmt::{self, Display, Formatter};
+
+const KINDS: [&str; 8] =
+    ["open", "load", "store", "exchange", "add", "serve", "return", "deliver"];
+
+/// Numbers that a tape can give if the machine lets it.
+const TAPE_NUMBERS: [u8; 15] = [1, 2, 3, 4, 5, 6, 7, 8, 9, 10, 11, 12, 13, 14, 16];
+
+const EVENTS: [&str; 21] = [
+    "evictions, clean",
+    "evictions, dirty",
+    "EXCLUDE overtaken by PURGE",
+    "grants with words delivered to an EXCLUDE",
+    "bare grants delivered",
+    "orders joined behind a grant",
+    "grants delivered with an order behind",
+    "return queues grown to two messages",
+    "UPDATE on a held block",
+    "PURGE on a held PRIVATE block",
+    "PURGE on a held block, PRIVATE reset",
+    "orders on a block not held (GONE)",
+    "services closed by a return",
+    "quiet stores come to",
+    "begins that hit",
+    "begins that wait with EXCLUDE",
+    "begins that wait with READ shared",
+    "begins that wait with READ exclusive",
+    "serves of a READ shared",
+    "serves of a READ exclusive",
+    "serves of an EXCLUDE",
+];
+
+/// Counts over tapes.
+#[derive(Default)]
+pub struct Tapes {
+    pub tapes: usize,
+    pub too_long: usize,
+    pub lines: usize,
+    pub refused: BTreeMap<u8, usize>,
+    pub events: BTreeMap<&'static str, usize>,
+    pub orders: [usize; 8],
+    pub shapes: BTreeSet<(u8, u8, u8)>,
+    bytes: usize,
+    empty: usize,
+    kinds: BTreeMap<&'static str, usize>,
+    answers: BTreeMap<&'static str, usize>,
+}
+
+impl Tapes {
+    pub fn add(&mut self, bytes: &[u8]) {
+        self.tapes += 1;
+        self.bytes += bytes.len();
+        self.empty += usize::from(bytes.is_empty());
+        if let Err(number) = tape::replay(bytes, &mut |event| self.see(event)) {
+            self.too_long += 1;
+            *self.refused.entry(number).or_default() += 1;
+        }
+    }
+
+    fn see(&mut self, event: &Event) {
+        self.lines += 1;
+        let kind = KINDS.get(usize::from(event.kind)).unwrap_or(&"unknown");
+        *self.kinds.entry(kind).or_default() += 1;
+        let answer = match event.outcome {
+            Outcome::Open => "open",
+            Outcome::Answer(Answer::Done { .. }) => "done",
+            Outcome::Answer(Answer::Wait) => "wait",
+            Outcome::Answer(Answer::Step) => "step",
+            Outcome::Refused(number) => {
+                *self.refused.entry(number).or_default() += 1;
+                "refused"
+            }
+        };
+        *self.answers.entry(answer).or_default() += 1;
+        match (event.record, event.outcome, event.before, event.after) {
+            (_, Outcome::Open, _, Some(s)) => {
+                self.shapes.insert((s.n, s.c, s.m));
+            }
+            (Some(Record::Call(call)), Outcome::Answer(_), Some(before), Some(after)) => {
+                self.see_call(call, before, after);
+            }
+            _ => {}
+        }
+    }
+
+    fn count(&mut self, name: &'static str, met: bool) {
+        debug_assert!(EVENTS.contains(&name), "{name}");
+        if met {
+            *self.events.entry(name).or_default() += 1;
+        }
+    }
+
+    /// A call that was not refused.
+    fn see_call(&mut self, call: Call, before: &Store, after: &Store) {
+        let k = usize::from(call.lane());
+        let (was, is) = (&before.lanes[k], &after.lanes[k]);
+        let grown = is.returns.length == 2 && was.returns.length == 1;
+        self.count("return queues grown to two messages", grown);
+        self.count("quiet stores come to", after.quiet() && !before.quiet());
+        match call {
+            Call::Begin { .. } => self.see_begin(was, is),
+            Call::Serve(_) => self.see_serve(was, before, after),
+            Call::Return(_) => {
+                let closed = before.service.is_some() && after.service.is_none();
+                self.count("services closed by a return", closed);
+            }
+            Call::Deliver(_) => self.see_deliver(was, is),
+        }
+    }
+
+    fn see_begin(&mut self, was: &Lane, is: &Lane) {
+        let evicted = is.returns.length > was.returns.length;
+        let last = is.returns.places[usize::from(is.returns.length).saturating_sub(1)].kind;
+        self.count("evictions, clean", evicted && last == ReturnKind::Eject);
+        self.count("evictions, dirty", evicted && last == ReturnKind::WriteEject);
+        let command = is.waiting.map(|w| w.command);
+        self.count("begins that hit", command.is_none());
+        self.count("begins that wait with EXCLUDE", command == Some(Command::Exclude));
+        self.count("begins that wait with READ shared", command == Some(Command::ReadShared));
+        let exclusive = command == Some(Command::ReadExclusive);
+        self.count("begins that wait with READ exclusive", exclusive);
+    }
+
+    fn see_serve(&mut self, was: &Lane, before: &Store, after: &Store) {
+        let orders = after.service.map_or(0, |service| service.awaited);
+        self.orders[usize::from(orders)] += 1;
+        let command = was.waiting.map(|w| w.command);
+        self.count("serves of a READ shared", command == Some(Command::ReadShared));
+        self.count("serves of a READ exclusive", command == Some(Command::ReadExclusive));
+        self.count("serves of an EXCLUDE", command == Some(Command::Exclude));
+        for (lane, former) in after.lanes.iter().zip(&before.lanes) {
+            let grew = lane.down.length == 2 && former.down.length == 1;
+            let [first, second] = lane.down.places.map(|m| m.kind.is_order());
+            self.count("orders joined behind a grant", grew && !first && second);
+        }
+    }
+
+    fn see_deliver(&mut self, was: &Lane, is: &Lane) {
+        let (head, next) = (was.down.places[0].kind, was.down.places[1].kind);
+        if head.is_order() {
+            let answer = is.returns.places[usize::from(is.returns.length) - 1];
+            let kind = answer.kind;
+            self.count("UPDATE on a held block", kind == ReturnKind::Updated);
+            self.count("PURGE on a held PRIVATE block", kind == ReturnKind::PurgedWords);
+            self.count("PURGE on a held block, PRIVATE reset", kind == ReturnKind::Purged);
+            self.count("orders on a block not held (GONE)", kind == ReturnKind::Gone);
+            let waits = |w: Waiting| w.command == Command::Exclude && w.block() == answer.block;
+            let overtaken = kind == ReturnKind::Purged && is.waiting.is_some_and(waits);
+            self.count("EXCLUDE overtaken by PURGE", overtaken);
+        } else {
+            let exclude = was.waiting.is_some_and(|w| w.command == Command::Exclude);
+            let words = head == DownKind::Grant;
+            self.count("grants with words delivered to an EXCLUDE", exclude && words);
+            self.count("bare grants delivered", !words);
+            let behind = was.down.length == 2 && next.is_order();
+            self.count("grants delivered with an order behind", behind);
+        }
+    }
+}
+
+fn pairs<K: Display>(map: &BTreeMap<K, usize>) -> String {
+    let parts: Vec<String> = map.iter().map(|(key, count)| format!("{key} {count}")).collect();
+    parts.join(", ")
+}
+
+impl Display for Tapes {
+    fn fmt(&self, f: &mut Formatter) -> fmt::Result {
+        writeln!(f, "tapes {} (empty {}, too long {}), bytes {}", self.tapes, self.empty, self.too_long, self.bytes)?;
+        writeln!(f, "records read (lines before `end`) {}", self.lines)?;
+        writeln!(f, "kinds: {}", pairs(&self.kinds))?;
+        writeln!(f, "answers: {}", pairs(&self.answers))?;
+        writeln!(f, "refusals: {}", pairs(&self.refused))?;
+        let never = TAPE_NUMBERS.iter().filter(|number| !self.refused.contains_key(number));
+        let never: Vec<String> = never.map(u8::to_string).collect();
+        writeln!(f, "refusals never met: {}", never.join(", "))?;
+        writeln!(f, "events:")?;
+        for name in EVENTS {
+            writeln!(f, "  {name}: {}", self.events.get(name).unwrap_or(&0))?;
+        }
+        writeln!(f, "serves with 0 to 7 orders: {:?}", self.orders)?;
+        let distinct = |part: fn(&(u8, u8, u8)) -> u8| {
+            self.shapes.iter().map(part).collect::<BTreeSet<u8>>().len()
+        };
+        let (n, c, m) = (distinct(|s| s.0), distinct(|s| s.1), distinct(|s| s.2));
+        writeln!(f, "shapes opened {}; n {n} of 7, c {c} of 8, m {m} of 64", self.shapes.len())
+    }
+}
+
+/// Counts over held cases.
+#[derive(Default)]
+pub struct Cases {
+    pub cases: usize,
+    /// By call kind and answer; a refusal by its number.
+    pub given: BTreeMap<(u8, String), usize>,
+    /// By call kind, number given, and another that held too.
+    pub passed_over: BTreeMap<(u8, u8, u8), usize>,
+    /// By reason of 14: all, and as the only reason.
+    pub reasons: BTreeMap<&'static str, (usize, usize)>,
+    /// By damage: all, and not corrupt after all.
+    pub damages: BTreeMap<&'static str, (usize, usize)>,
+    pub situations: BTreeMap<&'static str, usize>,
+    sources: BTreeMap<&'static str, usize>,
+}
+
+impl Cases {
+    pub fn add(&mut self, case: &Case, answer: HeldAnswer) {
+        self.cases += 1;
+        *self.sources.entry(case.source).or_default() += 1;
+        let kind = case.call.kind();
+        let name = match answer {
+            HeldAnswer::Machine(Answer::Done { .. }) => "done".to_string(),
+            HeldAnswer::Machine(Answer::Wait) => "wait".to_string(),
+            HeldAnswer::Machine(Answer::Step) => "step".to_string(),
+            HeldAnswer::Picture(_) => "picture".to_string(),
+            HeldAnswer::Refused(number) => {
+                self.add_refusal(case, number);
+                number.to_string()
+            }
+        };
+        *self.given.entry((kind, name)).or_default() += 1;
+        for situation in situations::met(&case.store, case.call, answer) {
+            *self.situations.entry(situation).or_default() += 1;
+        }
+        let reasons = conditions::corrupt_reasons(&case.store);
+        for reason in &reasons {
+            let counts = self.reasons.entry(reason).or_default();
+            counts.0 += 1;
+            counts.1 += usize::from(reasons.len() == 1);
+        }
+        for damage in &case.damages {
+            let counts = self.damages.entry(damage).or_default();
+            counts.0 += 1;
+            counts.1 += usize::from(reasons.is_empty());
+        }
+    }
+
+    fn add_refusal(&mut self, case: &Case, number: u8) {
+        for also in conditions::all(&case.store, case.call) {
+            if also != number {
+                let key = (case.call.kind(), number, also);
+                *self.passed_over.entry(key).or_default() += 1;
+            }
+        }
+    }
+
+    /// How often a call of the kind was refused with the number.
+    pub fn refused(&self, kind: u8, number: u8) -> usize {
+        *self.given.get(&(kind, number.to_string())).unwrap_or(&0)
+    }
+}
+
+pub const HELD_KINDS: [u8; 8] = [1, 2, 3, 4, 5, 6, 7, 0x10];
+
+pub fn kind_name(kind: u8) -> &'static str {
+    KINDS.get(usize::from(kind)).unwrap_or(&"picture")
+}
+
+impl Display for Cases {
+    fn fmt(&self, f: &mut Formatter) -> fmt::Result {
+        writeln!(f, "cases {}", self.cases)?;
+        for source in SOURCES {
+            writeln!(f, "  {source}: {}", self.sources.get(source).unwrap_or(&0))?;
+        }
+        for number in conditions::ORDER {
+            let total: usize = HELD_KINDS.iter().map(|&kind| self.refused(kind, number)).sum();
+            writeln!(f, "refused {number} in all: {total}")?;
+        }
+        for kind in HELD_KINDS {
+            write!(f, "{}:", kind_name(kind))?;
+            for name in ["done", "wait", "step", "picture"] {
+                if let Some(count) = self.given.get(&(kind, name.to_string())) {
+                    write!(f, " {name} {count}")?;
+                }
+            }
+            for &number in conditions::applicable(kind) {
+                write!(f, " refused-{number} {}", self.refused(kind, number))?;
+            }
+            writeln!(f)?;
+        }
+        self.fmt_details(f)
+    }
+}
+
+impl Cases {
+    fn fmt_details(&self, f: &mut Formatter) -> fmt::Result {
+        writeln!(f, "number given before another that held too:")?;
+        for kind in HELD_KINDS {
+            let of_kind = self.passed_over.iter().filter(|((k, _, _), _)| *k == kind);
+            let parts: Vec<String> =
+                of_kind.map(|((_, given, also), count)| format!("{given}<{also} {count}")).collect();
+            writeln!(f, "  {}: {}", kind_name(kind), parts.join(", "))?;
+        }
+        writeln!(f, "situations, not refused:")?;
+        for name in situations::NAMES {
+            writeln!(f, "  {name}: {}", self.situations.get(name).unwrap_or(&0))?;
+        }
+        writeln!(f, "reasons of 14 (stores, stores with no other reason):")?;
+        for reason in REASONS {
+            let (all, alone) = self.reasons.get(reason).copied().unwrap_or_default();
+            writeln!(f, "  {reason}: {all}, {alone}")?;
+        }
+        writeln!(f, "damage (stores, of these not corrupt):")?;
+        for (name, (all, sound)) in &self.damages {
+            writeln!(f, "  {name}: {all}, {sound}")?;
+        }
+        Ok(())
+    }
+}

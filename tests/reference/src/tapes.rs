@@ -1,0 +1,341 @@
+//! Makes tapes. The machine is run while a tape is made, so that most of its
+//! records do something. Tape `index` depends on the seed and the index only.
+
+use crate::parts::*;
+use crate::rng::Rng;
+use crate::tape::{self, body_length, Outcome, Record, LONGEST};
+use crate::walk::{self, Style};
+
+/// What a tape is for.
+#[derive(Clone, Copy, PartialEq, Eq, Debug)]
+pub enum Role {
+    Empty,
+    Law,
+    /// Exactly so many bytes, the last record whole or cut.
+    Sized { bytes: usize, cut: bool },
+    /// Ends in a record of the kind with only so much of its body.
+    Cut { kind: u8, kept: usize, opened: bool },
+    /// Ends in a kind above 07, perhaps with bytes after it.
+    Unknown { kind: u8, followed: bool, opened: bool },
+    /// One byte is changed.
+    Damaged,
+    /// Many records and refused opens before the open.
+    Shut,
+    /// Random small bytes.
+    Soup,
+    /// Eight lanes share a few blocks.
+    Sharing,
+    General,
+}
+
+/// Roles repeat after so many tapes.
+pub const CYCLE: usize = 300;
+
+/// The roles of one cycle that are not General; the rest are.
+fn special_roles() -> Vec<Role> {
+    let mut roles = vec![Role::Empty, Role::Law];
+    for bytes in [LONGEST - 1, LONGEST, LONGEST + 1] {
+        roles.extend([false, true].map(|cut| Role::Sized { bytes, cut }));
+    }
+    roles.push(Role::Sized { bytes: 100_000, cut: false });
+    for opened in [true, false] {
+        for kind in 0..=7 {
+            let lengths = 0..body_length(kind).expect("known kind");
+            roles.extend(lengths.map(|kept| Role::Cut { kind, kept, opened }));
+        }
+    }
+    for kind in [0x08, 0x09, 0x0f, 0x10, 0x11, 0x80, 0xff] {
+        for (followed, opened) in [(false, false), (false, true), (true, true)] {
+            roles.push(Role::Unknown { kind, followed, opened });
+        }
+    }
+    roles.extend([Role::Damaged; 24]);
+    roles.extend([Role::Shut; 8]);
+    roles.extend([Role::Soup; 8]);
+    roles.extend([Role::Sharing; 8]);
+    roles
+}
+
+/// The role of a tape, and its rank among the General ones so far.
+fn role(index: usize) -> (Role, usize) {
+    let specials = special_roles();
+    let (round, at) = (index / CYCLE, index % CYCLE);
+    let rank = round * (CYCLE - specials.len()) + at.saturating_sub(specials.len());
+    (specials.get(at).copied().unwrap_or(Role::General), rank)
+}
+
+pub fn make(seed: u64, index: usize) -> Vec<u8> {
+    let mut rng = Rng::stream(seed, index as u64);
+    let (role, rank) = role(index);
+    match role {
+        Role::Empty => Vec::new(),
+        Role::Law => tape::LAW_TAPE.to_vec(),
+        Role::Sized { bytes, cut } => sized(rng, bytes, cut),
+        Role::Cut { kind, kept, opened } => cut(rng, kind, kept, opened),
+        Role::Unknown { kind, followed, opened } => unknown(rng, kind, followed, opened),
+        Role::Damaged => damaged(rng),
+        Role::Shut => shut(rng),
+        Role::Soup => (0..rng.between(2_000, 8_000)).map(|_| rng.byte_below(8)).collect(),
+        Role::Sharing => sharing(rng),
+        Role::General => general(rng, rank),
+    }
+}
+
+type Shape = (u8, u8, u8);
+
+/// Every n, c and m in turn; each third tape any small shape.
+fn shape_of_rank(rank: usize, rng: &mut Rng) -> Shape {
+    if rank % 3 == 2 {
+        return small_shape(rng);
+    }
+    let turn = rank / 3 * 2 + rank % 3;
+    let (n, c, m) = (2 + turn % 7, 1 + (turn + turn / 8) % 8, 1 + turn % 64);
+    (n as u8, c as u8, m as u8)
+}
+
+fn small_shape(rng: &mut Rng) -> Shape {
+    let (any_c, any_m) = (rng.between(1, 8), rng.between(1, 64));
+    let c = rng.pick(&[1, 1, 2, 3, any_c]);
+    let m = rng.pick(&[1, 2, 3, 4, 6, any_m]);
+    (rng.between(2, 8) as u8, c as u8, m as u8)
+}
+
+/// A shape with one or more of its numbers out of range.
+fn bad_shape(rng: &mut Rng) -> Shape {
+    loop {
+        let (mut n, mut c, mut m) = small_shape(rng);
+        if rng.chance(50) {
+            n = rng.pick(&[0, 1, 9, 255]);
+        }
+        if rng.chance(40) {
+            c = rng.pick(&[0, 9, 255]);
+        }
+        if rng.chance(40) {
+            m = rng.pick(&[0, 65, 255]);
+        }
+        if crate::machine::open(n, c, m).is_err() {
+            return (n, c, m);
+        }
+    }
+}
+
+struct Builder {
+    bytes: Vec<u8>,
+    store: Option<Store>,
+    rng: Rng,
+}
+
+impl Builder {
+    fn new(rng: Rng) -> Builder {
+        Builder { bytes: Vec::new(), store: None, rng }
+    }
+
+    /// Adds a record and runs it.
+    fn record(&mut self, record: Record) {
+        self.bytes.extend(record.bytes());
+        if let Ok((after, _)) = tape::run_record(&self.store, record) {
+            self.store = Some(after);
+        }
+    }
+
+    fn open(&mut self, (n, c, m): Shape) {
+        self.record(Record::Open { n, c, m });
+    }
+
+    /// Records before the open, refused one and all.
+    fn prelude(&mut self, records: usize) {
+        for _ in 0..records {
+            if self.rng.chance(40) {
+                let shape = bad_shape(&mut self.rng);
+                self.open(shape);
+            } else {
+                let like = Store::fresh(8, 8, 64);
+                let call = walk::odd_call(&like, &mut self.rng);
+                self.record(Record::Call(call));
+            }
+        }
+    }
+
+    /// A prelude at times, then the open.
+    fn start(&mut self, shape: Shape) {
+        if self.rng.chance(35) {
+            let records = self.rng.between(1, 6);
+            self.prelude(records);
+        }
+        self.open(shape);
+    }
+
+    fn next_record(&mut self, style: &Style) -> Record {
+        let rng = &mut self.rng;
+        if rng.below(400) == 0 {
+            let (n, c, m) = if rng.chance(50) { bad_shape(rng) } else { small_shape(rng) };
+            return Record::Open { n, c, m };
+        }
+        let store = self.store.as_ref().expect("open store");
+        Record::Call(walk::next_call(store, style, rng))
+    }
+
+    fn new_style(&mut self, sharing: bool) -> Style {
+        let store = self.store.as_ref().expect("open store");
+        match sharing {
+            true => Style::sharing(store, &mut self.rng),
+            false => Style::random(store, &mut self.rng),
+        }
+    }
+
+    /// Records in phases of one style each, some ended by a drain.
+    fn run(&mut self, records: usize, sharing: bool) {
+        let (mut left, most) = (records, LONGEST - 600);
+        while left > 0 {
+            let style = self.new_style(sharing);
+            let phase = self.rng.between(60, 300).min(left);
+            for _ in 0..phase {
+                if self.bytes.len() > most {
+                    return;
+                }
+                let record = self.next_record(&style);
+                self.record(record);
+            }
+            left -= phase;
+            if self.rng.chance(25) {
+                self.drain();
+            }
+        }
+    }
+
+    /// Steps until the store is quiet.
+    fn drain(&mut self) {
+        loop {
+            let store = self.store.as_ref().expect("open store");
+            let steps = (0..store.n).flat_map(|k| [Call::Deliver(k), Call::Return(k), Call::Serve(k)]);
+            let open = |call: &Call| tape::run_record(&self.store, Record::Call(*call)).is_ok();
+            let possible: Vec<Call> = steps.filter(open).collect();
+            if possible.is_empty() {
+                return;
+            }
+            let call = self.rng.pick(&possible);
+            self.record(Record::Call(call));
+        }
+    }
+
+    /// Whole records up to exactly so many bytes.
+    fn fill_to(&mut self, bytes: usize) {
+        let mut style = self.new_style(false);
+        while self.bytes.len() + 16 < bytes {
+            if self.rng.below(200) == 0 {
+                style = self.new_style(false);
+            }
+            let record = self.next_record(&style);
+            self.record(record);
+        }
+        while self.bytes.len() + 3 < bytes {
+            let lane = self.rng.byte_below(2);
+            let call = self.rng.pick(&[Call::Serve(lane), Call::Return(lane), Call::Deliver(lane)]);
+            self.record(Record::Call(call));
+        }
+        let lane = self.rng.byte_below(2);
+        let load = Call::Begin { lane, op: Op::Load, word: 0 };
+        match bytes - self.bytes.len() {
+            3 => self.record(Record::Call(load)),
+            2 => self.record(Record::Call(Call::Deliver(lane))),
+            _ => unreachable!("two or three bytes are left"),
+        }
+    }
+}
+
+fn general(mut rng: Rng, rank: usize) -> Vec<u8> {
+    let shape = shape_of_rank(rank, &mut rng);
+    let records = rng.pick(&[300, 1_000, 2_000, 3_000, 5_000]);
+    let mut tape = Builder::new(rng);
+    tape.start(shape);
+    tape.run(records, false);
+    tape.bytes
+}
+
+fn sharing(mut rng: Rng) -> Vec<u8> {
+    let shape = (rng.pick(&[8, 8, 7, 6]), rng.pick(&[1, 2, 4]), rng.pick(&[1, 2, 8, 64]));
+    let mut tape = Builder::new(rng);
+    tape.start(shape);
+    tape.run(4_000, true);
+    tape.bytes
+}
+
+fn sized(mut rng: Rng, bytes: usize, cut: bool) -> Vec<u8> {
+    let shape = small_shape(&mut rng);
+    let mut tape = Builder::new(rng);
+    tape.start(shape);
+    if !cut {
+        tape.fill_to(bytes);
+        return tape.bytes;
+    }
+    let kept = tape.rng.below(6);
+    tape.fill_to(bytes - 1 - kept);
+    let lane = tape.rng.byte_below(2);
+    let store = Call::Begin { lane, op: Op::Store(7), word: 0 };
+    tape.bytes.extend(&Record::Call(store).bytes()[..1 + kept]);
+    tape.bytes
+}
+
+/// An opened tape of some length, or a shut one of a few records.
+fn beginning(mut rng: Rng, opened: bool) -> Builder {
+    let (shape, records) = (small_shape(&mut rng), rng.between(200, 1_200));
+    let mut tape = Builder::new(rng);
+    if opened {
+        tape.start(shape);
+        tape.run(records, false);
+    } else {
+        let records = tape.rng.below(6);
+        tape.prelude(records);
+    }
+    tape
+}
+
+fn cut(rng: Rng, kind: u8, kept: usize, opened: bool) -> Vec<u8> {
+    let mut tape = beginning(rng, opened);
+    tape.bytes.push(kind);
+    for _ in 0..kept {
+        let byte = tape.rng.byte_below(8);
+        tape.bytes.push(byte);
+    }
+    tape.bytes
+}
+
+fn unknown(rng: Rng, kind: u8, followed: bool, opened: bool) -> Vec<u8> {
+    let mut tape = beginning(rng, opened);
+    tape.bytes.push(kind);
+    if followed {
+        tape.run(20, false);
+    }
+    tape.bytes
+}
+
+fn damaged(rng: Rng) -> Vec<u8> {
+    let mut tape = beginning(rng, true);
+    let at = tape.rng.below(tape.bytes.len());
+    let at = tape.rng.pick(&[at, at, at, at % 8]);
+    let change = tape.rng.pick(&[1, 2, 4, 8, 0x80, 0xff]);
+    tape.bytes[at] ^= change;
+    tape.bytes
+}
+
+fn shut(mut rng: Rng) -> Vec<u8> {
+    let (shape, records) = (small_shape(&mut rng), rng.between(50, 150));
+    let mut tape = Builder::new(rng);
+    tape.prelude(records);
+    if tape.rng.chance(75) {
+        tape.open(shape);
+        tape.run(600, false);
+    }
+    tape.bytes
+}
+
+/// The shapes that a tape opens (one at most).
+pub fn shape_opened(bytes: &[u8]) -> Option<Shape> {
+    let mut shape = None;
+    let _ = tape::replay(bytes, &mut |event| {
+        if event.outcome == Outcome::Open {
+            shape = event.after.map(|s| (s.n, s.c, s.m));
+        }
+    });
+    shape
+}
