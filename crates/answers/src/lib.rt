@@ -2,27 +2,26 @@
 ghost use mathlib.Core.Path.{_≡_};
 ghost use Rattle.answers.specs.Refusals.{numberOf, refusedOf};
 ghost use Rattle.answers.specs.Completions.{completionOf};
-
 use words::LaneNo;
 
 // Why a call is refused. Behind each: 01's number and word.
 pub enum Refusal {
-    Truncated,      // 1, cut: a tape ends inside a record
-    UnknownKind,    // 2, stranger: no record has this kind
-    NotOpen,        // 3, shut: no opening so far
-    AlreadyOpen,    // 4, open already
-    InvalidShape,   // 5, no such bench: n, c or m out of range
-    NoSuchLane,     // 6
-    NoSuchWord,     // 7
-    LaneBusy,       // 8, occupied: the lane's operation waits
+    Truncated, // 1, cut: a tape ends inside a record
+    UnknownKind, // 2, stranger: no record has this kind
+    NotOpen, // 3, shut: no opening so far
+    AlreadyOpen, // 4, open already
+    InvalidShape, // 5, no such bench: n, c or m out of range
+    NoSuchLane, // 6
+    NoSuchWord, // 7
+    LaneBusy, // 8, occupied: the lane's operation waits
     NothingPending, // 9, nothing there: no operation to serve, or an empty queue
-    ControlBusy,    // 10, engaged: a service is under way
+    ControlBusy, // 10, engaged: a service is under way
     ReturnsPending, // 11, returns first: the lane's return queue has a message
-    QueueFull,      // 12, jam
-    TapeTooLong,    // 13, too long
-    Corrupt,        // 14, spoilt: the store breaks its own bounds
+    QueueFull, // 12, jam
+    TapeTooLong, // 13, too long
+    Corrupt, // 14, spoilt: the store breaks its own bounds
     BufferTooShort, // 15, sheet short: the picture does not fit
-    Unexpected,     // 16, stray: a message that fits no state of its receiver
+    Unexpected, // 16, stray: a message that fits no state of its receiver
 }
 
 impl Refusal {

@@ -5,7 +5,6 @@ ghost use Prim.Native.Nat.{_≤_, _<_};
 ghost use Rattle.lanes.specs.Search.{searchOf, vacantOf};
 ghost use Rattle.lanes.specs.UseOrder.{carryOf, usedOf};
 ghost use Rattle.lanes.specs.Waits.{idleOf, unservedOf};
-
 use queues::DownQueue;
 use queues::ReturnQueue;
 use words::BlockNo;

@@ -3,7 +3,6 @@
 // stated once, over the element, in specs/Queues.antt.
 ghost use mathlib.Core.Path.{_≡_};
 ghost use Rattle.queues.specs.Queues.{pushReturn, takeReturn, pushDown, takeDown};
-
 use words::BlockNo;
 
 // What a lane sends to memory. The last four answer an order; 01's PURGED has words or has none.

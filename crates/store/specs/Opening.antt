@@ -41,7 +41,8 @@ blankLane = record {
   order = line 0 ∷ line 1 ∷ line 2 ∷ line 3 ∷ line 4 ∷ line 5 ∷ line 6 ∷ line 7 ∷ [];
   returns = record { len = 0; at = replicate 2 (record { kind = Eject; block = record { 0 = 0 }; words = zeros }) };
   downs = record { len = 0; at = replicate 2 (record { kind = Update; block = record { 0 = 0 }; words = zeros }) };
-  waiting = Idle }
+  waiting = Idle;
+}
 
 -- words 0, flags reset
 unfoldable pub blankBlock : Block

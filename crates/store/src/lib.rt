@@ -4,7 +4,6 @@ ghost use mathlib.Core.Path.{_≡_};
 ghost use Rattle.store.specs.Control.{busyOf, serviceOf, startOf, answerOf};
 ghost use Rattle.store.specs.Opening.{badShape, blankLine, blankLane, blankBlock, freshOf, openOf};
 ghost use Rattle.store.specs.Quiet.{stirsOf, quietOf};
-
 use answers::Answer;
 use answers::Refusal;
 use lanes::Command;
@@ -193,7 +192,10 @@ fn blank_lane() -> Lane
             LineNo(6),
             LineNo(7),
         ],
-        returns: ReturnQueue { len: 0, at: [up; 2] },
+        returns: ReturnQueue {
+            len: 0,
+            at: [up; 2],
+        },
         downs: DownQueue {
             len: 0,
             at: [down; 2],

@@ -67,10 +67,9 @@ fn call_condition(s: &Store, lane: &Lane, call: Call, number: u8) -> bool {
         (Call::Serve(_), 11) => lane.returns.length > 0,
         (Call::Serve(k), 12) => serve_meets_full(s, usize::from(k)),
         (Call::Return(_), 9) => lane.returns.length == 0,
-        (Call::Return(_), 16) => stray_answer(s, lane),
+        (_, 16) => !stray_reasons(s, HeldCall::Machine(call)).is_empty(),
         (Call::Return(_), 12) => close_meets_full(s, lane),
         (Call::Deliver(_), 9) => lane.down.length == 0,
-        (Call::Deliver(_), 16) => stray_grant(s, lane),
         (Call::Deliver(_), 12) => {
             let order = lane.down.head().is_some_and(|m| m.kind.is_order());
             order && lane.returns.is_full()
@@ -103,14 +102,51 @@ fn head_answer(lane: &Lane) -> Option<Message<ReturnKind>> {
     lane.returns.head().filter(|m| m.kind.is_answer())
 }
 
-fn stray_answer(s: &Store, lane: &Lane) -> bool {
-    let Some(answer) = head_answer(lane) else {
-        return false;
+/// All the reasons that 16 can have, without settle's.
+pub const STRAY_REASONS: [&str; 9] = [
+    "answer with no service",
+    "answer for a block not in service",
+    "answer with 0 awaited",
+    "grant to an idle lane",
+    "grant to an unserved operation",
+    "grant for another block than the operation's",
+    "bare grant on a block not held",
+    "grant with words on a held block",
+    "grant with words and no free line",
+];
+
+/// The reasons for which a return or deliver meets a stray message.
+pub fn stray_reasons(s: &Store, call: HeldCall) -> Vec<&'static str> {
+    let HeldCall::Machine(call) = call else {
+        return Vec::new();
     };
-    match s.service {
-        None => true,
-        Some(service) => service.block != answer.block || service.awaited == 0,
+    let Some(lane) = s.lanes.get(usize::from(call.lane())) else {
+        return Vec::new();
+    };
+    let (mut holds, answer, grant) = ([false; 9], head_answer(lane), head_grant(lane));
+    match (call, answer, grant) {
+        (Call::Return(_), Some(answer), _) => {
+            holds[0] = s.service.is_none();
+            holds[1] = s.service.is_some_and(|v| v.block != answer.block);
+            holds[2] = s.service.is_some_and(|v| v.awaited == 0);
+        }
+        (Call::Deliver(_), _, Some(grant)) => {
+            let (bare, held) =
+                (grant.kind == DownKind::BareGrant, holds_block(s, lane, grant.block));
+            holds[3] = lane.waiting.is_none();
+            holds[4] = lane.waiting.is_some_and(|w| !w.served);
+            holds[5] = lane.waiting.is_some_and(|w| w.word / 4 != grant.block);
+            holds[6] = bare && !held;
+            holds[7] = !bare && held;
+            holds[8] = !bare && all_lines_valid(s, lane);
+        }
+        _ => {}
     }
+    (0..9).filter(|&i| holds[i]).map(|i| STRAY_REASONS[i]).collect()
+}
+
+fn head_grant(lane: &Lane) -> Option<Message<DownKind>> {
+    lane.down.head().filter(|m| !m.kind.is_order())
 }
 
 /// The head would be the last answer, and the service's lane has no room.
@@ -120,22 +156,6 @@ fn close_meets_full(s: &Store, lane: &Lane) -> bool {
     };
     let target = s.lanes.get(usize::from(service.lane));
     service.awaited <= 1 && target.is_some_and(|l| l.down.is_full())
-}
-
-fn stray_grant(s: &Store, lane: &Lane) -> bool {
-    let Some(grant) = lane.down.head().filter(|m| !m.kind.is_order()) else {
-        return false;
-    };
-    let Some(waiting) = lane.waiting else {
-        return true;
-    };
-    let held = holds_block(s, lane, grant.block);
-    let for_it = waiting.served && waiting.word / 4 == grant.block;
-    let fits = match grant.kind {
-        DownKind::BareGrant => held,
-        _ => !held && !all_lines_valid(s, lane),
-    };
-    !for_it || !fits
 }
 
 /// All the reasons that 14 can have.

@@ -314,7 +314,11 @@ fn lane_part_name(at: usize) -> String {
     };
     let queue = |name: &str, at: usize| match at {
         0 => format!("{name} queue length"),
-        _ => format!("{name} queue place {} {}", (at - 1) / 18, fields((at - 1) % 18, &["kind", "block"])),
+        _ => format!(
+            "{name} queue place {} {}",
+            (at - 1) / 18,
+            fields((at - 1) % 18, &["kind", "block"])
+        ),
     };
     match at {
         0..=151 => format!("line {} {}", at / 19, fields(at % 19, &["VALID", "PRIVATE", "block"])),

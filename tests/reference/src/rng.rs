@@ -11,11 +11,11 @@ impl Rng {
     /// A stream of its own for each (seed, index).
     pub fn stream(seed: u64, index: u64) -> Rng {
         let mut rng = Rng(seed ^ 0x6c61_6e65_7374_6f72);
-        let mixed = rng.next() ^ index.wrapping_mul(0xd134_2543_de82_ef95);
+        let mixed = rng.draw() ^ index.wrapping_mul(0xd134_2543_de82_ef95);
         Rng(mixed)
     }
 
-    pub fn next(&mut self) -> u64 {
+    pub fn draw(&mut self) -> u64 {
         self.0 = self.0.wrapping_add(0x9e37_79b9_7f4a_7c15);
         let mut z = self.0;
         z = (z ^ (z >> 30)).wrapping_mul(0xbf58_476d_1ce4_e5b9);
@@ -25,7 +25,7 @@ impl Rng {
 
     /// 0 to bound - 1.
     pub fn below(&mut self, bound: usize) -> usize {
-        ((u128::from(self.next()) * bound as u128) >> 64) as usize
+        ((u128::from(self.draw()) * bound as u128) >> 64) as usize
     }
 
     pub fn byte_below(&mut self, bound: u8) -> u8 {
@@ -38,7 +38,7 @@ impl Rng {
     }
 
     pub fn byte(&mut self) -> u8 {
-        self.next() as u8
+        self.draw() as u8
     }
 
     pub fn chance(&mut self, percent: usize) -> bool {
@@ -63,7 +63,7 @@ impl Rng {
 
     /// A word value: the edges often, else any.
     pub fn value(&mut self) -> u32 {
-        let any = self.next() as u32;
+        let any = self.draw() as u32;
         self.pick(&[0, 1, u32::MAX, 0x8000_0000, any & 0xff, any, any, any])
     }
 

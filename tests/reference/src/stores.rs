@@ -141,6 +141,24 @@ fn toward_serve(s: &mut Store, k: usize, rng: &mut Rng) {
     if rng.chance(65) {
         s.lanes[k].returns.length = 0;
     }
+    if rng.chance(30) {
+        toward_orders(s, k, rng);
+    }
+}
+
+/// Many lanes have the block, and room for orders unlike k itself.
+fn toward_orders(s: &mut Store, k: usize, rng: &mut Rng) {
+    let Some(waiting) = s.lanes[k].waiting else {
+        return;
+    };
+    let n = usize::from(s.n);
+    let entry = &mut s.blocks[usize::from(waiting.block())];
+    entry.modified = rng.chance(80);
+    for j in 0..n {
+        entry.present[j] = rng.chance(70);
+        let length = &mut s.lanes[j].down.length;
+        *length = if j == k { 2 } else { rng.pick(&[0, 0, 1]) };
+    }
 }
 
 fn toward_return(s: &mut Store, k: usize, rng: &mut Rng) {
@@ -170,6 +188,49 @@ fn toward_deliver(s: &mut Store, k: usize, rng: &mut Rng) {
         let waiting = lane.waiting.get_or_insert(fresh);
         waiting.served = true;
         waiting.word = 4 * lane.down.places[0].block + waiting.word % 4;
+        if rng.chance(10) {
+            (waiting.op, waiting.command) = (Op::Load, Command::Exclude);
+        }
+    }
+    if rng.chance(50) {
+        toward_fit(lane, s.c, rng);
+    }
+    if rng.chance(40) {
+        toward_misfit(lane, s.c, m, rng);
+    }
+}
+
+/// One thing that is wrong for a grant at the head of the down queue.
+fn toward_misfit(lane: &mut Lane, c: u8, m: u8, rng: &mut Rng) {
+    let head = lane.down.places[0];
+    let (one, other) = (usize::from(rng.byte_below(c)), usize::from(rng.byte_below(c)));
+    match (rng.below(5), &mut lane.waiting) {
+        (0, Some(waiting)) => waiting.served = false,
+        (1, Some(waiting)) => waiting.word = 4 * ((waiting.block() + 1) % m),
+        (2, _) => {
+            (lane.lines[one].valid, lane.lines[one].block) = (true, head.block);
+            lane.lines[other].valid = one == other;
+        }
+        (3, _) => {
+            for line in &mut lane.lines[..usize::from(c)] {
+                (line.valid, line.block) = (true, (head.block + 1) % m);
+            }
+        }
+        _ => lane.waiting = None,
+    }
+}
+
+/// Lines that a grant at the head of the down queue fits, or an order finds.
+fn toward_fit(lane: &mut Lane, c: u8, rng: &mut Rng) {
+    let head = lane.down.places[0];
+    let at = usize::from(rng.byte_below(c));
+    if head.kind != DownKind::Grant {
+        (lane.lines[at].valid, lane.lines[at].block) = (true, head.block);
+        return;
+    }
+    lane.lines[at].valid = false;
+    for line in &mut lane.lines[..usize::from(c)] {
+        line.valid &= line.block != head.block;
     }
 }
 

@@ -1,6 +1,6 @@
 //! Counts of what tapes and cases met, for print.
 
-use crate::conditions::{self, REASONS};
+use crate::conditions::{self, REASONS, STRAY_REASONS};
 use crate::held::HeldAnswer;
 use crate::parts::*;
 use crate::situations;
@@ -9,8 +9,7 @@ use crate::tape::{self, Event, Outcome, Record};
 use std::collections::{BTreeMap, BTreeSet};
 use std::fmt::{self, Display, Formatter};
 
-const KINDS: [&str; 8] =
-    ["open", "load", "store", "exchange", "add", "serve", "return", "deliver"];
+const KINDS: [&str; 8] = ["open", "load", "store", "exchange", "add", "serve", "return", "deliver"];
 
 /// Numbers that a tape can give if the machine lets it.
 const TAPE_NUMBERS: [u8; 15] = [1, 2, 3, 4, 5, 6, 7, 8, 9, 10, 11, 12, 13, 14, 16];
@@ -174,7 +173,11 @@ fn pairs<K: Display>(map: &BTreeMap<K, usize>) -> String {
 
 impl Display for Tapes {
     fn fmt(&self, f: &mut Formatter) -> fmt::Result {
-        writeln!(f, "tapes {} (empty {}, too long {}), bytes {}", self.tapes, self.empty, self.too_long, self.bytes)?;
+        writeln!(
+            f,
+            "tapes {} (empty {}, too long {}), bytes {}",
+            self.tapes, self.empty, self.too_long, self.bytes
+        )?;
         writeln!(f, "records read (lines before `end`) {}", self.lines)?;
         writeln!(f, "kinds: {}", pairs(&self.kinds))?;
         writeln!(f, "answers: {}", pairs(&self.answers))?;
@@ -205,6 +208,8 @@ pub struct Cases {
     pub passed_over: BTreeMap<(u8, u8, u8), usize>,
     /// By reason of 14: all, and as the only reason.
     pub reasons: BTreeMap<&'static str, (usize, usize)>,
+    /// By reason of 16, where 16 was given: all, and as the only reason.
+    pub stray_reasons: BTreeMap<&'static str, (usize, usize)>,
     /// By damage: all, and not corrupt after all.
     pub damages: BTreeMap<&'static str, (usize, usize)>,
     pub situations: BTreeMap<&'static str, usize>,
@@ -231,11 +236,7 @@ impl Cases {
             *self.situations.entry(situation).or_default() += 1;
         }
         let reasons = conditions::corrupt_reasons(&case.store);
-        for reason in &reasons {
-            let counts = self.reasons.entry(reason).or_default();
-            counts.0 += 1;
-            counts.1 += usize::from(reasons.len() == 1);
-        }
+        add_reasons(&mut self.reasons, &reasons);
         for damage in &case.damages {
             let counts = self.damages.entry(damage).or_default();
             counts.0 += 1;
@@ -244,6 +245,10 @@ impl Cases {
     }
 
     fn add_refusal(&mut self, case: &Case, number: u8) {
+        if number == 16 {
+            let reasons = conditions::stray_reasons(&case.store, case.call);
+            add_reasons(&mut self.stray_reasons, &reasons);
+        }
         for also in conditions::all(&case.store, case.call) {
             if also != number {
                 let key = (case.call.kind(), number, also);
@@ -255,6 +260,15 @@ impl Cases {
     /// How often a call of the kind was refused with the number.
     pub fn refused(&self, kind: u8, number: u8) -> usize {
         *self.given.get(&(kind, number.to_string())).unwrap_or(&0)
+    }
+}
+
+/// Counts reasons: all, and as the only one.
+fn add_reasons(counts: &mut BTreeMap<&'static str, (usize, usize)>, reasons: &[&'static str]) {
+    for reason in reasons {
+        let entry = counts.entry(reason).or_default();
+        entry.0 += 1;
+        entry.1 += usize::from(reasons.len() == 1);
     }
 }
 
@@ -295,8 +309,9 @@ impl Cases {
         writeln!(f, "number given before another that held too:")?;
         for kind in HELD_KINDS {
             let of_kind = self.passed_over.iter().filter(|((k, _, _), _)| *k == kind);
-            let parts: Vec<String> =
-                of_kind.map(|((_, given, also), count)| format!("{given}<{also} {count}")).collect();
+            let parts: Vec<String> = of_kind
+                .map(|((_, given, also), count)| format!("{given}<{also} {count}"))
+                .collect();
             writeln!(f, "  {}: {}", kind_name(kind), parts.join(", "))?;
         }
         writeln!(f, "situations, not refused:")?;
@@ -306,6 +321,11 @@ impl Cases {
         writeln!(f, "reasons of 14 (stores, stores with no other reason):")?;
         for reason in REASONS {
             let (all, alone) = self.reasons.get(reason).copied().unwrap_or_default();
+            writeln!(f, "  {reason}: {all}, {alone}")?;
+        }
+        writeln!(f, "reasons of 16 where given (cases, cases with no other reason):")?;
+        for reason in STRAY_REASONS {
+            let (all, alone) = self.stray_reasons.get(reason).copied().unwrap_or_default();
             writeln!(f, "  {reason}: {all}, {alone}")?;
         }
         writeln!(f, "damage (stores, of these not corrupt):")?;

@@ -12,11 +12,22 @@ pub enum Role {
     Empty,
     Law,
     /// Exactly so many bytes, the last record whole or cut.
-    Sized { bytes: usize, cut: bool },
+    Sized {
+        bytes: usize,
+        cut: bool,
+    },
     /// Ends in a record of the kind with only so much of its body.
-    Cut { kind: u8, kept: usize, opened: bool },
+    Cut {
+        kind: u8,
+        kept: usize,
+        opened: bool,
+    },
     /// Ends in a kind above 07, perhaps with bytes after it.
-    Unknown { kind: u8, followed: bool, opened: bool },
+    Unknown {
+        kind: u8,
+        followed: bool,
+        opened: bool,
+    },
     /// One byte is changed.
     Damaged,
     /// Many records and refused opens before the open.
@@ -207,7 +218,8 @@ impl Builder {
     fn drain(&mut self) {
         loop {
             let store = self.store.as_ref().expect("open store");
-            let steps = (0..store.n).flat_map(|k| [Call::Deliver(k), Call::Return(k), Call::Serve(k)]);
+            let steps =
+                (0..store.n).flat_map(|k| [Call::Deliver(k), Call::Return(k), Call::Serve(k)]);
             let open = |call: &Call| tape::run_record(&self.store, Record::Call(*call)).is_ok();
             let possible: Vec<Call> = steps.filter(open).collect();
             if possible.is_empty() {

@@ -1,0 +1,110 @@
+-- 01, "Begin": load, store v, exchange v, add v. Assumes nothing.
+use Prim.Native.Nat.{ℕ, _*_}
+use mathlib.Core.Bool.{Bool, true, false, not, cond, _||_}
+use mathlib.Core.List.{List}
+use lib.Dec.{leb}
+use lib.ListN.{set}
+use Rattle.words.specs.declared.LaneNo.{LaneNo}
+use Rattle.words.specs.declared.LineNo.{LineNo}
+use Rattle.words.specs.declared.WordNo.{WordNo}
+use Rattle.words.specs.declared.BlockNo.{BlockNo}
+use Rattle.words.specs.declared.Line.{Line}
+use Rattle.words.specs.declared.Op.{Op}
+use Rattle.words.specs.declared.Op.the-variants as Op
+use Rattle.words.specs.Units.{blockOf}
+use Rattle.words.specs.Operations.{performOf}
+use Rattle.queues.specs.declared.ReturnMessage.{ReturnMessage}
+use Rattle.queues.specs.declared.ReturnKind.{ReturnKind}
+use Rattle.queues.specs.declared.ReturnKind.the-variants.{Eject, WriteEject}
+use Rattle.queues.specs.Queues.{pushReturn}
+use Rattle.lanes.specs.declared.Lane.{Lane}
+use Rattle.lanes.specs.declared.Command.{Command}
+use Rattle.lanes.specs.declared.Command.the-variants.{ReadShared, ReadExclusive, Exclude}
+use Rattle.lanes.specs.declared.Waiting.the-variants.{Idle, Unserved}
+use Rattle.lanes.specs.declared.Found.{Found}
+use Rattle.lanes.specs.declared.Found.the-variants.{At, Nothing}
+use Rattle.lanes.specs.Search.{lineAt, searchOf, vacantOf}
+use Rattle.lanes.specs.UseOrder.{placeAt, usedOf}
+use Rattle.lanes.specs.Waits.{idleOf}
+use Rattle.answers.specs.declared.Answer.the-variants.{Done, Wait}
+use Rattle.answers.specs.declared.Refusal.the-variants.{NoSuchWord, LaneBusy, QueueFull}
+use Rattle.answers.specs.Completions.{completionOf}
+use Rattle.store.specs.declared.Store.{Store}
+use Rattle.store.specs.declared.Outcome.{Outcome}
+use Rattle.store.specs.Opening.{zeros}
+use Rattle.store.specs.Quiet.{laneAt}
+use Rattle.machine.specs.declared.LaneStep.{LaneStep}
+use Rattle.machine.specs.Change.{refuse, refuseLane, guarded, commitLane, withWaiting}
+
+-- the operation is load
+abbrev pub isLoad : Op → Bool
+isLoad Op.Load = true
+isLoad (Op.Store v) = false
+isLoad (Op.Exchange v) = false
+isLoad (Op.Add v) = false
+
+-- Completing does the operation on that word of the line (here x, at place i), gives the value so got, and is a use of the line; an operation that completes waits no more
+unfoldable pub complete : ℕ → LaneNo → LineNo → Line → Op → WordNo → Lane → LaneStep
+complete c k i x op w l =
+    let p = performOf x op w in
+    record {
+      answer = Done (completionOf k (p .value));
+      lane = record { lines = set (l .lines) (i .0) (p .line); order = usedOf c i (l .order); returns = l .returns; downs = l .downs; waiting = Idle };
+    }
+
+-- the lane waits with a command
+abbrev pub waits : Command → Op → WordNo → Lane → LaneStep
+waits x op w l = record { answer = Wait; lane = withWaiting (Unserved (record { command = x; op = op; word = w })) l }
+
+-- Load on a hit completes in that call. So do the other three on a hit with PRIVATE set. A hit with PRIVATE reset makes the lane wait with EXCLUDE
+unfoldable pub hit : ℕ → LaneNo → LineNo → Op → WordNo → Lane → LaneStep
+hit c k i op w l = cond (isLoad op || lineAt l i .private) (complete c k i (lineAt l i) op w l) (waits Exclude op w l)
+
+-- A miss waits with READ, shared for load and exclusive otherwise
+abbrev pub readOf : Op → Command
+readOf op = cond (isLoad op) ReadShared ReadExclusive
+
+-- a return message without words, and one with words
+abbrev pub bareReturn : ReturnKind → BlockNo → ReturnMessage
+bareReturn x a = record { kind = x; block = a; words = zeros }
+
+abbrev pub wordsReturn : ReturnKind → BlockNo → List ℕ → ReturnMessage
+wordsReturn x a ws = record { kind = x; block = a; words = ws }
+
+-- WRITE-EJECT with its words if PRIVATE, else EJECT
+abbrev pub ejectOf : Line → ReturnMessage
+ejectOf x = cond (x .private) (wordsReturn WriteEject (x .block) (x .words)) (bareReturn Eject (x .block))
+
+-- VALID is reset; PRIVATE, block and words stay
+abbrev pub invalid : Line → Line
+invalid x = record { valid = false; private = x .private; block = x .block; words = x .words }
+
+-- eviction: line i is given up and the lane waits, unless its return queue is full
+unfoldable pub evict : LineNo → Op → WordNo → Lane → LaneStep
+evict i op w l =
+    let p = pushReturn (l .returns) (ejectOf (lineAt l i)) in
+    cond (p .full) (refuseLane QueueFull l)
+    (waits (readOf op) op w (record { lines = set (l .lines) (i .0) (invalid (lineAt l i)); order = l .order; returns = p .queue; downs = l .downs; waiting = l .waiting }))
+
+-- On a miss with all lines valid, the oldest line is given up
+abbrev pub missWith : Found → Op → WordNo → Lane → LaneStep
+missWith (At i) op w l = waits (readOf op) op w l
+missWith Nothing op w l = evict (placeAt (l .order) 0) op w l
+
+unfoldable pub miss : ℕ → Op → WordNo → Lane → LaneStep
+miss c op w l = missWith (vacantOf l c) op w l
+
+-- the lane's part of begin, by what Search finds
+abbrev pub beginAt : Found → ℕ → LaneNo → Op → WordNo → Lane → LaneStep
+beginAt (At i) c k op w l = hit c k i op w l
+beginAt Nothing c k op w l = miss c op w l
+
+-- 8, then the lane's part
+unfoldable pub beginLane : ℕ → LaneNo → Op → WordNo → Lane → LaneStep
+beginLane c k op w l = cond (idleOf (l .waiting)) (beginAt (searchOf l c (blockOf w)) c k op w l) (refuseLane LaneBusy l)
+
+-- 14, 6, 7, 8, 12
+unfoldable pub beginOf : Store → LaneNo → Op → WordNo → Outcome
+beginOf s k op w =
+    guarded s k
+    (cond (leb (4 * s .m) (w .0)) (refuse NoSuchWord s) (commitLane s k (beginLane (s .c) k op w (laneAt s (k .0)))))

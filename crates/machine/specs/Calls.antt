@@ -1,0 +1,91 @@
+-- The calls of demand 3 and what a list of them gives. Assumes nothing.
+use Prim.Native.Nat.{ℕ}
+use mathlib.Core.Bool.{Bool, true, false}
+use mathlib.Core.List.{List, [], _∷_}
+use Rattle.words.specs.declared.LaneNo.{LaneNo}
+use Rattle.words.specs.declared.WordNo.{WordNo}
+use Rattle.words.specs.declared.Op.{Op}
+use Rattle.answers.specs.declared.Answer.{Answer}
+use Rattle.answers.specs.declared.Answer.the-variants.{Opened, Done, Wait, Step}
+use Rattle.answers.specs.declared.Completion.{Completion}
+use Rattle.answers.specs.Refusals.{refusedOf}
+use Rattle.store.specs.declared.Store.{Store}
+use Rattle.store.specs.declared.Outcome.{Outcome}
+use Rattle.machine.specs.declared.Settled.{Settled}
+use Rattle.machine.specs.declared.Settled.the-variants.{Steps}
+use Rattle.machine.specs.Begin.{beginOf}
+use Rattle.machine.specs.Serve.{serveOf}
+use Rattle.machine.specs.Return.{returnOf}
+use Rattle.machine.specs.Deliver.{deliverOf}
+use Rattle.machine.specs.Settle.{Settlement, settleOf, doneIn}
+
+-- load, store, exchange and add are begin calls, with their operation; lane and word are any numbers
+pub data Call : Type 0 where
+  Begin : LaneNo → Op → WordNo → Call
+  Serve : LaneNo → Call
+  Return : LaneNo → Call
+  Deliver : LaneNo → Call
+  Settle : Call
+
+-- what a call is answered with
+pub data Reply : Type 0 where
+  Answers : Answer → Reply
+  Settles : Settled → List Completion → Reply
+
+-- an answer, and the store after it
+pub record Called : Type 0 where
+  pub reply : Reply
+  pub store : Store
+
+abbrev pub answered : Outcome → Called
+answered r = record { reply = Answers (r .answer); store = r .store }
+
+abbrev pub settled : Settlement → Called
+settled r = record { reply = Settles (r .answer) (r .completions); store = r .store }
+
+-- each call gives what its contract says
+unfoldable pub callOf : Store → Call → Called
+callOf s (Begin k op w) = answered (beginOf s k op w)
+callOf s (Serve k) = answered (serveOf s k)
+callOf s (Return k) = answered (returnOf s k)
+callOf s (Deliver k) = answered (deliverOf s k)
+callOf s Settle = settled (settleOf s)
+
+-- a call with its answer
+pub record Entry : Type 0 where
+  pub call : Call
+  pub reply : Reply
+
+-- a list of calls with their answers, and the last store
+pub record Run : Type 0 where
+  pub history : List Entry
+  pub store : Store
+
+-- each call on the store that the last one left, refused ones included
+unfoldable pub run : Store → List Call → Run
+run s [] = record { history = []; store = s }
+run s (c ∷ cs) =
+    let r = callOf s c in
+    let rest = run (r .store) cs in
+    record { history = record { call = c; reply = r .reply } ∷ rest .history; store = rest .store }
+
+-- a call gives the completions in its answer, settle in the order it lists them; a refused call gives none
+abbrev pub completionsOf : Reply → List Completion
+completionsOf (Answers a) = doneIn a
+completionsOf (Settles (Steps count) cs) = cs
+completionsOf (Settles (Settled.Refused r) cs) = []
+
+-- the call was answered with a wait
+abbrev pub isWait : Reply → Bool
+isWait (Answers Opened) = false
+isWait (Answers (Done x)) = false
+isWait (Answers Wait) = true
+isWait (Answers Step) = false
+isWait (Answers (Answer.Refused r)) = false
+isWait (Settles a cs) = false
+
+-- the call was refused
+abbrev pub isRefused : Reply → Bool
+isRefused (Answers a) = refusedOf a
+isRefused (Settles (Steps count) cs) = false
+isRefused (Settles (Settled.Refused r) cs) = true

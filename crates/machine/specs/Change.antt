@@ -1,0 +1,107 @@
+-- What every call shares: a refusal leaves the store as it was; a lane, or a lane with a block, the control and a message to some
+-- lanes, is put back in one place. Assumes nothing.
+use Prim.Native.Nat.{ℕ, _+_}
+use mathlib.Core.Bool.{Bool, false, true, cond, _&&_}
+use mathlib.Core.List.{List}
+use lib.Dec.{leb}
+use lib.ListN.{getD, set, replicate}
+use Rattle.words.specs.declared.LaneNo.{LaneNo}
+use Rattle.words.specs.declared.BlockNo.{BlockNo}
+use Rattle.words.specs.Folds.{upTo, anyTo}
+use Rattle.queues.specs.declared.ReturnQueue.{ReturnQueue}
+use Rattle.queues.specs.declared.DownMessage.{DownMessage}
+use Rattle.queues.specs.declared.DownKind.the-variants.{Update}
+use Rattle.queues.specs.declared.DownQueue.{DownQueue}
+use Rattle.queues.specs.Queues.{fullAt, pushDown}
+use Rattle.lanes.specs.declared.Lane.{Lane}
+use Rattle.lanes.specs.declared.Waiting.{Waiting}
+use Rattle.answers.specs.declared.Answer.{Answer}
+use Rattle.answers.specs.declared.Answer.the-variants.{Step, Refused}
+use Rattle.answers.specs.declared.Refusal.{Refusal}
+use Rattle.answers.specs.declared.Refusal.the-variants.{NoSuchLane, QueueFull, Corrupt}
+use Rattle.answers.specs.Refusals.{refusedOf}
+use Rattle.store.specs.declared.Store.{Store}
+use Rattle.store.specs.declared.Block.{Block}
+use Rattle.store.specs.declared.Control.{Control}
+use Rattle.store.specs.declared.Outcome.{Outcome}
+use Rattle.store.specs.Opening.{zeros}
+use Rattle.store.specs.Quiet.{laneAt, noLane}
+use Rattle.machine.specs.declared.LaneStep.{LaneStep}
+use Rattle.machine.specs.declared.Move.{Move}
+use Rattle.machine.specs.Corruption.{corruptOf}
+
+-- A refusal gives its number alone; the store is the same as before the call
+abbrev pub refuse : Refusal → Store → Outcome
+refuse r s = record { answer = Refused r; store = s }
+
+-- 14, then 6: the first checks of every call on a lane
+abbrev pub guarded : Store → LaneNo → Outcome → Outcome
+guarded s k r = cond (corruptOf s) (refuse Corrupt s) (cond (leb (s .n) (k .0)) (refuse NoSuchLane s) r)
+
+-- a lane with another waiting operation, return queue, down queue
+abbrev pub withWaiting : Waiting → Lane → Lane
+withWaiting w l = record { lines = l .lines; order = l .order; returns = l .returns; downs = l .downs; waiting = w }
+
+abbrev pub withReturns : ReturnQueue → Lane → Lane
+withReturns q l = record { lines = l .lines; order = l .order; returns = q; downs = l .downs; waiting = l .waiting }
+
+abbrev pub withDowns : DownQueue → Lane → Lane
+withDowns q l = record { lines = l .lines; order = l .order; returns = l .returns; downs = q; waiting = l .waiting }
+
+-- a store with another lane k
+abbrev pub withLane : Store → ℕ → Lane → Store
+withLane s k l = record { n = s .n; c = s .c; m = s .m; control = s .control; lanes = set (s .lanes) k l; blocks = s .blocks }
+
+-- a refusal of a lane's part
+abbrev pub refuseLane : Refusal → Lane → LaneStep
+refuseLane r l = record { answer = Refused r; lane = l }
+
+-- lane k after its part of a call
+unfoldable pub commitLane : Store → LaneNo → LaneStep → Outcome
+commitLane s k r = record { answer = r .answer; store = cond (refusedOf (r .answer)) s (withLane s (k .0) (r .lane)) }
+
+-- a down message without words
+abbrev pub noMessage : DownMessage
+noMessage = record { kind = Update; block = record { 0 = 0 }; words = zeros }
+
+-- no lane; lane k alone
+abbrev pub nobody : List Bool
+nobody = replicate 8 false
+
+abbrev pub only : LaneNo → List Bool
+only k = set nobody (k .0) true
+
+-- whether a message goes to lane j
+abbrev pub goesTo : List Bool → ℕ → Bool
+goesTo to j = getD to j false
+
+-- 12: a queue the step adds to is full
+unfoldable pub someFull : List Bool → List Lane → Bool
+someFull to ls = anyTo (λ j. goesTo to j && fullAt (getD ls j noLane .downs .len)) 8
+
+-- the message joins the down queue of a lane
+abbrev pub posted : DownMessage → Lane → Lane
+posted x l = withDowns (pushDown (l .downs) x .queue) l
+
+-- .. of lane j if it goes there
+unfoldable pub postTo : List Bool → DownMessage → ℕ → List Lane → List Lane
+postTo to x j ls = cond (goesTo to j) (set ls j (posted x (getD ls j noLane))) ls
+
+-- .. of each lane that it goes to
+unfoldable pub postAll : List Bool → DownMessage → List Lane → List Lane
+postAll to x ls = upTo (postTo to x) 8 ls
+
+-- a refusal of memory's part
+abbrev pub refuseMove : Refusal → Lane → Block → Control → Move
+refuseMove r l b x = record { answer = Refused r; lane = l; block = b; control = x; to = nobody; message = noMessage }
+
+-- lane k, block a, the control and the queues of those that a message goes to, after memory's part of a call
+unfoldable pub commitMove : Store → LaneNo → BlockNo → Move → Outcome
+commitMove s k a v =
+    let ls = set (s .lanes) (k .0) (v .lane) in
+    cond (refusedOf (v .answer)) (record { answer = v .answer; store = s })
+    (cond (someFull (v .to) ls) (refuse QueueFull s)
+    (record {
+      answer = v .answer;
+      store = record { n = s .n; c = s .c; m = s .m; control = v .control; lanes = postAll (v .to) (v .message) ls; blocks = set (s .blocks) (a .0) (v .block) };
+    }))

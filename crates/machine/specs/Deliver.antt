@@ -1,0 +1,120 @@
+-- 01, "Deliver k". Assumes nothing.
+use Prim.Native.Nat.{ℕ}
+use mathlib.Core.Bool.{Bool, true, false, not, cond}
+use lib.Dec.{eqb}
+use lib.ListN.{set}
+use Rattle.words.specs.declared.LaneNo.{LaneNo}
+use Rattle.words.specs.declared.LineNo.{LineNo}
+use Rattle.words.specs.declared.BlockNo.{BlockNo}
+use Rattle.words.specs.declared.Line.{Line}
+use Rattle.words.specs.declared.Op.{Op}
+use Rattle.words.specs.Units.{blockOf}
+use Rattle.queues.specs.declared.ReturnMessage.{ReturnMessage}
+use Rattle.queues.specs.declared.ReturnKind.the-variants.{Updated, Purged, PurgedWords, Gone}
+use Rattle.queues.specs.declared.DownMessage.{DownMessage}
+use Rattle.queues.specs.declared.DownKind.{DownKind}
+use Rattle.queues.specs.declared.DownKind.the-variants.{Update, Purge, Grant, BareGrant}
+use Rattle.queues.specs.Queues.{emptyAt, headDown, takeDown, pushReturn}
+use Rattle.lanes.specs.declared.Lane.{Lane}
+use Rattle.lanes.specs.declared.Operation.{Operation}
+use Rattle.lanes.specs.declared.Waiting.{Waiting}
+use Rattle.lanes.specs.declared.Waiting.the-variants.{Idle, Unserved, Served}
+use Rattle.lanes.specs.declared.Found.{Found}
+use Rattle.lanes.specs.declared.Found.the-variants.{At, Nothing}
+use Rattle.lanes.specs.Search.{lineAt, searchOf, vacantOf}
+use Rattle.answers.specs.declared.Answer.the-variants.{Step}
+use Rattle.answers.specs.Refusals.{refusedOf}
+use Rattle.answers.specs.declared.Refusal.the-variants.{NothingPending, QueueFull, Unexpected}
+use Rattle.store.specs.declared.Store.{Store}
+use Rattle.store.specs.declared.Outcome.{Outcome}
+use Rattle.store.specs.Quiet.{laneAt}
+use Rattle.machine.specs.declared.LaneStep.{LaneStep}
+use Rattle.machine.specs.declared.Ready.{Ready}
+use Rattle.machine.specs.declared.Ready.the-variants.{Go, No}
+use Rattle.machine.specs.Change.{refuseLane, guarded, commitLane, withReturns, withDowns}
+use Rattle.machine.specs.Begin.{isLoad, complete, invalid, bareReturn, wordsReturn}
+
+-- an answer joins the lane's return queue; 12 where that is full
+unfoldable pub reply : ReturnMessage → Lane → LaneStep
+reply y l =
+    let p = pushReturn (l .returns) y in
+    cond (p .full) (refuseLane QueueFull l)
+    (record { answer = Step; lane = withReturns (p .queue) l })
+
+-- the lane with another line i
+abbrev pub withLine : LineNo → Line → Lane → Lane
+withLine i x l = record { lines = set (l .lines) (i .0) x; order = l .order; returns = l .returns; downs = l .downs; waiting = l .waiting }
+
+-- PRIVATE is reset
+abbrev pub shared : Line → Line
+shared x = record { valid = x .valid; private = false; block = x .block; words = x .words }
+
+-- UPDATE on a held block: UPDATED with the words, PRIVATE reset. On a block not held: GONE
+abbrev pub updateAt : Found → BlockNo → Lane → LaneStep
+updateAt (At i) a l = reply (wordsReturn Updated a (lineAt l i .words)) (withLine i (shared (lineAt l i)) l)
+updateAt Nothing a l = reply (bareReturn Gone a) l
+
+-- PURGED, with words only if PRIVATE was set
+abbrev pub purgedOf : BlockNo → Line → ReturnMessage
+purgedOf a x = cond (x .private) (wordsReturn PurgedWords a (x .words)) (bareReturn Purged a)
+
+-- PURGE on a held block: VALID reset, PURGED. On a block not held: GONE
+abbrev pub purgeAt : Found → BlockNo → Lane → LaneStep
+purgeAt (At i) a l = reply (purgedOf a (lineAt l i)) (withLine i (invalid (lineAt l i)) l)
+purgeAt Nothing a l = reply (bareReturn Gone a) l
+
+-- PRIVATE is set if the operation isn't load, and reset if it is
+abbrev pub claimed : Op → Line → Line
+claimed op x = record { valid = x .valid; private = not (isLoad op); block = x .block; words = x .words }
+
+-- A grant with words fills the lowest-numbered line that is not valid, and the operation completes; 16 with no free line
+abbrev pub fillAt : Found → ℕ → LaneNo → DownMessage → Operation → Lane → LaneStep
+fillAt (At i) c k x o l =
+    complete c k i (claimed (o .op) (record { valid = true; private = false; block = x .block; words = x .words })) (o .op) (o .word) l
+fillAt Nothing c k x o l = refuseLane Unexpected l
+
+-- 16 for a grant with words on a held block
+abbrev pub grantAt : Found → ℕ → LaneNo → DownMessage → Operation → Lane → LaneStep
+grantAt (At i) c k x o l = refuseLane Unexpected l
+grantAt Nothing c k x o l = fillAt (vacantOf l c) c k x o l
+
+-- a bare grant uses the held line, and the operation completes; 16 on a block not held
+abbrev pub bareAt : Found → ℕ → LaneNo → Operation → Lane → LaneStep
+bareAt (At i) c k o l = complete c k i (claimed (o .op) (lineAt l i)) (o .op) (o .word) l
+bareAt Nothing c k o l = refuseLane Unexpected l
+
+-- the served operation on block a; 16 where there is none
+abbrev pub servedOn : Waiting → BlockNo → Ready
+servedOn Idle a = No Unexpected
+servedOn (Unserved o) a = No Unexpected
+servedOn (Served o) a = cond (eqb (blockOf (o .word) .0) (a .0)) (Go o) (No Unexpected)
+
+abbrev pub grantTo : Ready → ℕ → LaneNo → DownMessage → Lane → LaneStep
+grantTo (No r) c k x l = refuseLane r l
+grantTo (Go o) c k x l = grantAt (searchOf l c (x .block)) c k x o l
+
+abbrev pub bareTo : Ready → ℕ → LaneNo → DownMessage → Lane → LaneStep
+bareTo (No r) c k x l = refuseLane r l
+bareTo (Go o) c k x l = bareAt (searchOf l c (x .block)) c k o l
+
+-- what a message does in a lane that has taken it
+abbrev pub deliverKind : DownKind → ℕ → LaneNo → DownMessage → Lane → LaneStep
+deliverKind Update c k x l = updateAt (searchOf l c (x .block)) (x .block) l
+deliverKind Purge c k x l = purgeAt (searchOf l c (x .block)) (x .block) l
+deliverKind Grant c k x l = grantTo (servedOn (l .waiting) (x .block)) c k x l
+deliverKind BareGrant c k x l = bareTo (servedOn (l .waiting) (x .block)) c k x l
+
+-- on a refusal the lane is as it was, with the message still in its queue
+abbrev pub orAsBefore : Lane → LaneStep → LaneStep
+orAsBefore l r = record { answer = r .answer; lane = cond (refusedOf (r .answer)) l (r .lane) }
+
+-- 9; then lane k takes the head of its down queue
+unfoldable pub deliverLane : ℕ → LaneNo → Lane → LaneStep
+deliverLane c k l =
+    let x = headDown (l .downs) in
+    cond (emptyAt (l .downs .len)) (refuseLane NothingPending l)
+    (orAsBefore l (deliverKind (x .kind) c k x (withDowns (takeDown (l .downs) .queue) l)))
+
+-- 14, 6, 9, 16, 12
+unfoldable pub deliverOf : Store → LaneNo → Outcome
+deliverOf s k = guarded s k (commitLane s k (deliverLane (s .c) k (laneAt s (k .0))))

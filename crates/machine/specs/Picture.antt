@@ -1,0 +1,48 @@
+-- 01, "Tape and picture": the picture. Assumes nothing.
+use Prim.Native.Nat.{ℕ, _/_, _%_}
+use mathlib.Core.Bool.{cond}
+use mathlib.Core.List.{List, [], _∷_, _++_}
+use lib.Dec.{ltb}
+use lib.ListN.{length, getD, drop}
+use Rattle.words.specs.declared.Line.{Line}
+use Rattle.words.specs.Lines.{noLine}
+use Rattle.words.specs.Folds.{gatherTo}
+use Rattle.answers.specs.declared.Refusal.the-variants.{Corrupt, BufferTooShort}
+use Rattle.store.specs.declared.Store.{Store}
+use Rattle.store.specs.Quiet.{laneAt}
+use Rattle.machine.specs.declared.Pictured.{Pictured}
+use Rattle.machine.specs.declared.Pictured.the-variants.{Length, Refused}
+use Rattle.machine.specs.Corruption.{corruptOf}
+
+-- a word in four bytes, low byte first
+abbrev pub wordBytes : ℕ → List ℕ
+wordBytes x = x % 256 ∷ x / 256 % 256 ∷ x / 65536 % 256 ∷ x / 16777216 % 256 ∷ []
+
+-- 19 bytes: kind 10 hexadecimal, lane, block, words low byte first
+unfoldable pub recordBytes : ℕ → Line → List ℕ
+recordBytes k x =
+    16 ∷
+    k ∷
+    x .block .0 ∷
+    (wordBytes (getD (x .words) 0 0) ++ (wordBytes (getD (x .words) 1 0) ++ (wordBytes (getD (x .words) 2 0) ++ wordBytes (getD (x .words) 3 0))))
+
+-- the record of line i of lane k, where it is valid
+abbrev pub lineBytes : Store → ℕ → ℕ → List ℕ
+lineBytes s k i = let x = getD (laneAt s k .lines) i noLine in cond (x .valid) (recordBytes k x) []
+
+-- for each valid line its record: by lane, then by line (01 leaves the order free)
+unfoldable pub pictureBytes : Store → List ℕ
+pictureBytes s = gatherTo (λ k. gatherTo (lineBytes s k) (s .c)) (s .n)
+
+-- what picture gives: its answer, and the lent buffer after it
+pub record Sheet : Type 0 where
+  pub answer : Pictured
+  pub buffer : List ℕ
+
+-- It gives the length; bytes after the records are unchanged. 14, 15, and then nothing is written
+unfoldable pub pictureOf : Store → List ℕ → Sheet
+pictureOf s buffer =
+    let p = pictureBytes s in
+    cond (corruptOf s) (record { answer = Refused Corrupt; buffer = buffer })
+    (cond (ltb (length buffer) (length p)) (record { answer = Refused BufferTooShort; buffer = buffer })
+    (record { answer = Length (length p); buffer = p ++ drop (length p) buffer }))

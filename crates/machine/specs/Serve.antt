@@ -1,0 +1,115 @@
+-- 01, "Serve k" and "Close". Assumes nothing.
+use Prim.Native.Nat.{ℕ}
+use mathlib.Core.Bool.{Bool, true, false, cond}
+use mathlib.Core.List.{List}
+use lib.Dec.{ltb, eqb}
+use lib.ListN.{getD, set}
+use Rattle.words.specs.declared.LaneNo.{LaneNo}
+use Rattle.words.specs.declared.BlockNo.{BlockNo}
+use Rattle.words.specs.Units.{blockOf}
+use Rattle.words.specs.Folds.{countTo}
+use Rattle.queues.specs.declared.DownMessage.{DownMessage}
+use Rattle.queues.specs.declared.DownKind.{DownKind}
+use Rattle.queues.specs.declared.DownKind.the-variants.{Update, Purge, Grant, BareGrant}
+use Rattle.lanes.specs.declared.Lane.{Lane}
+use Rattle.lanes.specs.declared.Operation.{Operation}
+use Rattle.lanes.specs.declared.Command.{Command}
+use Rattle.lanes.specs.declared.Command.the-variants.{ReadShared, ReadExclusive, Exclude}
+use Rattle.lanes.specs.declared.Waiting.{Waiting}
+use Rattle.lanes.specs.declared.Waiting.the-variants.{Idle, Unserved, Served}
+use Rattle.answers.specs.declared.Answer.the-variants.{Step}
+use Rattle.answers.specs.declared.Refusal.the-variants.{NothingPending, ControlBusy, ReturnsPending}
+use Rattle.store.specs.declared.Store.{Store}
+use Rattle.store.specs.declared.Block.{Block}
+use Rattle.store.specs.declared.Service.{Service}
+use Rattle.store.specs.declared.Control.{Control}
+use Rattle.store.specs.declared.Control.the-variants.{Busy}
+use Rattle.store.specs.declared.Outcome.{Outcome}
+use Rattle.store.specs.Control.{busyOf}
+use Rattle.store.specs.Opening.{zeros}
+use Rattle.store.specs.Quiet.{laneAt, blockAt}
+use Rattle.machine.specs.declared.Ready.{Ready}
+use Rattle.machine.specs.declared.Ready.the-variants.{Go, No}
+use Rattle.machine.specs.declared.Move.{Move}
+use Rattle.machine.specs.Change.{refuse, guarded, commitMove, withWaiting, nobody, only, goesTo}
+
+-- a down message without words
+abbrev pub bareDown : DownKind → BlockNo → DownMessage
+bareDown x a = record { kind = x; block = a; words = zeros }
+
+-- READ shared sends orders if MODIFIED is set, else nothing; READ exclusive and EXCLUDE send orders
+abbrev pub sendsOf : Command → Bool → Bool
+sendsOf ReadShared modified = modified
+sendsOf ReadExclusive modified = true
+sendsOf Exclude modified = true
+
+-- READ shared sends UPDATE; READ exclusive and EXCLUDE send PURGE
+abbrev pub orderOf : Command → DownKind
+orderOf ReadShared = Update
+orderOf ReadExclusive = Purge
+orderOf Exclude = Purge
+
+-- .. to every other PRESENT lane
+unfoldable pub ordered : Block → LaneNo → Command → List Bool
+ordered b k x = cond (sendsOf x (b .modified)) (set (b .present) (k .0) false) nobody
+
+-- The count of sent orders is awaited
+unfoldable pub countOf : List Bool → ℕ
+countOf to = countTo (goesTo to) 8
+
+-- The grant is bare only for EXCLUDE with k's PRESENT set
+abbrev pub bareOf : Command → Bool → Bool
+bareOf ReadShared present = false
+bareOf ReadExclusive present = false
+bareOf Exclude present = present
+
+-- Shared: set k's PRESENT. Exclusive: k's PRESENT is set, every other PRESENT of the block is reset, MODIFIED is set
+abbrev pub exclusively : Block → LaneNo → Block
+exclusively b k = record { words = b .words; present = only k; modified = true }
+
+abbrev pub closedBlock : Command → Block → LaneNo → Block
+closedBlock ReadShared b k = record { words = b .words; present = set (b .present) (k .0) true; modified = b .modified }
+closedBlock ReadExclusive b k = exclusively b k
+closedBlock Exclude b k = exclusively b k
+
+-- The grant (bare, or with main memory's words)
+abbrev pub grantOf : Block → Service → DownMessage
+grantOf b v = cond (v .bare) (bareDown BareGrant (v .block)) (record { kind = Grant; block = v .block; words = b .words })
+
+-- Close: the flags, the grant to the service's lane; x is the control without the service
+unfoldable pub close : Service → Lane → Block → Control → Move
+close v l b x =
+    record { answer = Step; lane = l; block = closedBlock (v .command) b (v .lane); control = x; to = only (v .lane); message = grantOf b v }
+
+-- 9, 10, 11
+abbrev pub readyWith : Waiting → Lane → Control → Ready
+readyWith Idle l x = No NothingPending
+readyWith (Served o) l x = No NothingPending
+readyWith (Unserved o) l x = cond (busyOf x) (No ControlBusy) (cond (ltb 0 (l .returns .len)) (No ReturnsPending) (Go o))
+
+unfoldable pub readyOf : Lane → Control → Ready
+readyOf l x = readyWith (l .waiting) l x
+
+-- the service of lane k's operation
+abbrev pub serviceFor : LaneNo → Operation → Block → ℕ → Service
+serviceFor k o b awaited =
+    record { lane = k; block = blockOf (o .word); command = o .command; awaited = awaited; bare = bareOf (o .command) (getD (b .present) (k .0) false) }
+
+-- Memory takes lane k's command; the operation is then served. If none are awaited the service closes in this step
+unfoldable pub serveMove : LaneNo → Operation → Lane → Block → Control → Move
+serveMove k o l b x =
+    let to = ordered b k (o .command) in
+    let v : Service = serviceFor k o b (countOf to) in
+    let t = withWaiting (Served o) l in
+    cond (eqb (countOf to) 0) (close v t b x)
+    (record { answer = Step; lane = t; block = b; control = Busy v; to = to; message = bareDown (orderOf (o .command)) (blockOf (o .word)) })
+
+-- 12 is left to the place where the message is sent
+abbrev pub serveReady : Ready → Store → LaneNo → Outcome
+serveReady (No r) s k = refuse r s
+serveReady (Go o) s k =
+    commitMove s k (blockOf (o .word)) (serveMove k o (laneAt s (k .0)) (blockAt s (blockOf (o .word) .0)) (s .control))
+
+-- 14, 6, 9, 10, 11, 12
+unfoldable pub serveOf : Store → LaneNo → Outcome
+serveOf s k = guarded s k (serveReady (readyOf (laneAt s (k .0)) (s .control)) s k)

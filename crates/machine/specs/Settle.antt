@@ -1,0 +1,139 @@
+-- 01, "Settle". Assumes nothing.
+use Prim.Native.Nat.{ℕ, zero, suc, _+_, _*_}
+use mathlib.Core.Bool.{Bool, true, false, not, cond, _||_, _&&_}
+use mathlib.Core.List.{List, [], _∷_, _++_}
+use lib.Dec.{ltb}
+use lib.ListN.{getD}
+use Rattle.words.specs.declared.LaneNo.{LaneNo}
+use Rattle.words.specs.Folds.{countTo, sumTo, lowestTo}
+use Rattle.queues.specs.declared.DownKind.{DownKind}
+use Rattle.queues.specs.declared.DownKind.the-variants.{Update, Purge, Grant, BareGrant}
+use Rattle.queues.specs.declared.DownQueue.{DownQueue}
+use Rattle.queues.specs.Queues.{capacity, noDown}
+use Rattle.lanes.specs.Waits.{unservedOf}
+use Rattle.answers.specs.declared.Answer.{Answer}
+use Rattle.answers.specs.declared.Answer.the-variants.{Opened, Done, Wait, Step}
+use Rattle.answers.specs.declared.Completion.{Completion}
+use Rattle.answers.specs.declared.Refusal.{Refusal}
+use Rattle.answers.specs.declared.Refusal.the-variants.{Corrupt, Unexpected}
+use Rattle.answers.specs.Refusals.{refusedOf}
+use Rattle.store.specs.declared.Store.{Store}
+use Rattle.store.specs.declared.Outcome.{Outcome}
+use Rattle.store.specs.Control.{busyOf}
+use Rattle.store.specs.Quiet.{laneAt, quietOf}
+use Rattle.machine.specs.declared.Settled.{Settled}
+use Rattle.machine.specs.declared.Settled.the-variants.{Steps}
+use Rattle.machine.specs.Corruption.{corruptOf}
+use Rattle.machine.specs.Change.{refuse}
+use Rattle.machine.specs.Serve.{serveOf}
+use Rattle.machine.specs.Return.{returnOf}
+use Rattle.machine.specs.Deliver.{deliverOf}
+
+-- the lane of number k
+abbrev pub lane : ℕ → LaneNo
+lane k = record { 0 = k }
+
+-- deliver to the lowest lane with a filled down queue; else return from the lowest with a filled return queue; else serve the lowest unserved; 16 where there is none of these
+unfoldable pub settleStep : Store → Outcome
+settleStep s =
+    let d = lowestTo (λ k. ltb 0 (laneAt s k .downs .len)) (s .n) in
+    let r = lowestTo (λ k. ltb 0 (laneAt s k .returns .len)) (s .n) in
+    let u = lowestTo (λ k. unservedOf (laneAt s k .waiting)) (s .n) in
+    cond (ltb d (s .n)) (deliverOf s (lane d))
+    (cond (ltb r (s .n)) (returnOf s (lane r)) (cond (ltb u (s .n)) (serveOf s (lane u)) (refuse Unexpected s)))
+
+-- R: messages in return queues
+abbrev pub returnsIn : Store → ℕ
+returnsIn s = sumTo (λ k. laneAt s k .returns .len) (s .n)
+
+-- UPDATE and PURGE are orders, the others grants
+abbrev pub isOrder : DownKind → Bool
+isOrder Update = true
+isOrder Purge = true
+isOrder Grant = false
+isOrder BareGrant = false
+
+-- the messages of a down queue that are orders, or that are grants
+abbrev pub downsOf : Bool → DownQueue → ℕ
+downsOf order q =
+    countTo (λ i. ltb i (q .len) && cond order (isOrder (getD (q .at) i noDown .kind)) (not (isOrder (getD (q .at) i noDown .kind)))) capacity
+
+-- G: grants in down queues
+abbrev pub grantsIn : Store → ℕ
+grantsIn s = sumTo (λ k. downsOf false (laneAt s k .downs)) (s .n)
+
+-- Q: orders in down queues
+abbrev pub ordersIn : Store → ℕ
+ordersIn s = sumTo (λ k. downsOf true (laneAt s k .downs)) (s .n)
+
+-- S: services (0 or 1)
+abbrev pub servicesIn : Store → ℕ
+servicesIn s = cond (busyOf (s .control)) 1 0
+
+-- U: unserved operations
+abbrev pub unservedIn : Store → ℕ
+unservedIn s = countTo (λ k. unservedOf (laneAt s k .waiting)) (s .n)
+
+-- The count is at most R + G + 2 × Q + S + 2 × n × U
+unfoldable pub boundOf : Store → ℕ
+boundOf s = returnsIn s + grantsIn s + 2 * ordersIn s + servicesIn s + 2 * s .n * unservedIn s
+
+-- how far a settle is: its steps, its completions in order, the last step's answer and store
+pub record Progress : Type 0 where
+  pub count : ℕ
+  pub completions : List Completion
+  pub answer : Answer
+  pub store : Store
+
+-- the completion that an answer has
+abbrev pub doneIn : Answer → List Completion
+doneIn Opened = []
+doneIn (Done x) = x ∷ []
+doneIn Wait = []
+doneIn Step = []
+doneIn (Answer.Refused r) = []
+
+-- one step more
+unfoldable pub advance : Progress → Progress
+advance p =
+    let r = settleStep (p .store) in
+    record { count = suc (p .count); completions = p .completions ++ doneIn (r .answer); answer = r .answer; store = r .store }
+
+-- It ends when the store is quiet, or where a step is refused
+unfoldable pub ended : Progress → Bool
+ended p = refusedOf (p .answer) || quietOf (p .store)
+
+-- Settle repeats, here at most the given number of times
+unfoldable pub repeatStep : ℕ → Progress → Progress
+repeatStep zero p = p
+repeatStep (suc more) p = let r = repeatStep more (advance p) in cond (ended p) p r
+
+-- what settle gives: the step count or the refusal, the completions in order, the store after it
+pub record Settlement : Type 0 where
+  pub answer : Settled
+  pub completions : List Completion
+  pub store : Store
+
+-- a refused settle gives its number alone; the store is the same as before
+abbrev pub refuseSettle : Refusal → Store → Settlement
+refuseSettle r s = record { answer = Settled.Refused r; completions = []; store = s }
+
+-- the store that was reached is quiet; a store that is not, after boundOf steps, is stuck: 16
+abbrev pub reached : Store → Progress → Settlement
+reached s p =
+    cond (quietOf (p .store)) (record { answer = Steps (p .count); completions = p .completions; store = p .store })
+    (refuseSettle Unexpected s)
+
+-- Settle refused inside gives that step's number
+abbrev pub unlessRefused : Answer → Store → Settlement → Settlement
+unlessRefused Opened s r = r
+unlessRefused (Done x) s r = r
+unlessRefused Wait s r = r
+unlessRefused Step s r = r
+unlessRefused (Answer.Refused n) s r = refuseSettle n s
+
+-- 14, then the numbers of its steps
+unfoldable pub settleOf : Store → Settlement
+settleOf s =
+    let p = repeatStep (boundOf s) (record { count = 0; completions = []; answer = Step; store = s }) in
+    cond (corruptOf s) (refuseSettle Corrupt s) (unlessRefused (p .answer) s (reached s p))

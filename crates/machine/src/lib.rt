@@ -1,0 +1,44 @@
+// Document 01's machine is in specs/, as definitions that the calls' contracts cite. Here are the declared types that they speak
+// of beside the store's own.
+use answers::Answer;
+use answers::Refusal;
+use lanes::Lane;
+use lanes::Operation;
+use queues::DownMessage;
+use store::Block;
+use store::Control;
+
+// A lane's part of a call: the answer, and the lane after it; on a refusal the lane as it was.
+pub struct LaneStep {
+    pub answer: Answer,
+    pub lane: Lane,
+}
+
+// Whether a lane's operation can be served.
+pub enum Ready {
+    Go(Operation),
+    No(Refusal),
+}
+
+// Memory's part of a call: the answer; what becomes of the lane, the block and the control; the message that it sends, and to
+// which lanes. On a refusal lane, block and control are as they were and nothing is sent.
+pub struct Move {
+    pub answer: Answer,
+    pub lane: Lane,
+    pub block: Block,
+    pub control: Control,
+    pub to: [bool; 8],
+    pub message: DownMessage,
+}
+
+// What settle answers: how many steps it took, or why it is refused.
+pub enum Settled {
+    Steps(u8),
+    Refused(Refusal),
+}
+
+// What picture answers: how many bytes it wrote, or why it is refused.
+pub enum Pictured {
+    Length(usize),
+    Refused(Refusal),
+}

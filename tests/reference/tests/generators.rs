@@ -1,0 +1,210 @@
+//! What the generators promise.
+
+use reference::conditions::{self, REASONS, STRAY_REASONS};
+use reference::damage::{CORRUPTING, FAIR};
+use reference::held::{self, HeldAnswer, HeldCall};
+use reference::machine;
+use reference::rng::Rng;
+use reference::situations;
+use reference::summary::{Cases, Tapes, HELD_KINDS};
+use reference::tape::LAW_TAPE;
+use reference::{stores, tape, tapes};
+use std::collections::BTreeSet;
+
+#[test]
+fn tapes_cover_what_they_must() {
+    let mut summary = Tapes::default();
+    let mut lengths = BTreeSet::new();
+    for index in 0..300 {
+        let bytes = tapes::make(1, index);
+        summary.add(&bytes);
+        lengths.insert(bytes.len());
+    }
+    assert!(summary.lines >= 300_000, "{} lines", summary.lines);
+    for length in [0, LAW_TAPE.len(), 65_535, 65_536, 65_537] {
+        assert!(lengths.contains(&length), "no tape of {length} bytes");
+    }
+    for number in (1..=11).chain([13]) {
+        assert!(summary.refused.contains_key(&number), "refusal {number}");
+    }
+    for number in [12, 14, 16] {
+        assert!(!summary.refused.contains_key(&number), "refusal {number}");
+    }
+    assert!(summary.orders.iter().all(|&count| count > 0), "{:?}", summary.orders);
+    assert_eq!(summary.events.len(), 21, "{:?}", summary.events.keys());
+    for n in 2..=8 {
+        assert!(summary.shapes.iter().any(|s| s.0 == n));
+    }
+    for c in 1..=8 {
+        assert!(summary.shapes.iter().any(|s| s.1 == c));
+    }
+    for m in 1..=64 {
+        assert!(summary.shapes.iter().any(|s| s.2 == m), "m {m}");
+    }
+}
+
+#[test]
+fn long_tapes_end_as_planned() {
+    let long: Vec<Vec<u8>> =
+        (0..300).map(|i| tapes::make(2, i)).filter(|t| t.len() == 65_536).collect();
+    let cut = |t: &Vec<u8>| {
+        let lines = tape::print(t);
+        let last = lines.lines().rev().nth(1).expect("two lines").to_string();
+        last.ends_with(" refused 1")
+    };
+    assert!(long.iter().any(cut));
+    assert!(!long.iter().all(cut));
+}
+
+#[test]
+fn makers_are_deterministic() {
+    for index in [0, 3, 80, 150, 299, 310] {
+        assert_eq!(tapes::make(9, index), tapes::make(9, index));
+    }
+    assert_ne!(tapes::make(9, 299), tapes::make(10, 299));
+    for index in 0..50 {
+        let (one, two) = (stores::make(9, index), stores::make(9, index));
+        assert!(one.store == two.store && one.call == two.call);
+    }
+}
+
+/// Every case: bytes round trip, the first condition that holds is the
+/// number given, and a refusal changes nothing.
+#[test]
+fn cases_agree_with_the_conditions() {
+    for index in 0..20_000 {
+        let case = stores::make(3, index);
+        let bytes = held::encode_case(&case.store, case.call);
+        let (store, call) = held::decode_case(&bytes).expect("well formed");
+        assert!(store == case.store && call == case.call);
+        let given = held::run(&case.store, case.call);
+        let holds = conditions::all(&case.store, case.call);
+        match given.answer {
+            HeldAnswer::Refused(number) => {
+                assert_eq!(Some(&number), holds.first(), "case {index} {:?}", case.call);
+                assert!(conditions::applicable(case.call.kind()).contains(&number));
+                assert!(given.store == case.store);
+                assert!(given.buffer.iter().flatten().all(|&byte| byte == 0xa5));
+            }
+            _ => {
+                assert!(holds.is_empty(), "case {index} {:?} {holds:?}", case.call);
+                assert!(!machine::corrupt(&given.store));
+            }
+        }
+    }
+}
+
+#[test]
+fn cases_cover_what_they_must() {
+    for seed in [1, 2, 3] {
+        let mut summary = Cases::default();
+        for index in 0..20_000 {
+            let case = stores::make(seed, index);
+            summary.add(&case, held::run(&case.store, case.call).answer);
+        }
+        for number in conditions::ORDER {
+            let total: usize = HELD_KINDS.iter().map(|&kind| summary.refused(kind, number)).sum();
+            assert!(total >= 100, "refusal {number}: {total}");
+        }
+        for kind in HELD_KINDS {
+            for &number in conditions::applicable(kind) {
+                let count = summary.refused(kind, number);
+                assert!(count >= 20, "kind {kind} refusal {number}: {count}");
+            }
+        }
+        let alone = |reason| summary.reasons.get(reason).map_or(0, |counts| counts.1);
+        assert!(REASONS.iter().all(|reason| alone(reason) >= 50));
+        let alone = |reason| summary.stray_reasons.get(reason).map_or(0, |counts| counts.1);
+        assert!(STRAY_REASONS.iter().all(|reason| alone(reason) >= 10));
+        let met = |name| summary.situations.get(name).copied().unwrap_or(0);
+        assert!(situations::NAMES.iter().all(|name| met(name) >= 10));
+        check_pairs(&summary);
+    }
+}
+
+/// Pairs of numbers that can hold at once are met, in the law's order.
+fn check_pairs(summary: &Cases) {
+    let begin = [(14, 6), (14, 7), (14, 8), (14, 12), (6, 7), (7, 8), (7, 12), (8, 12)];
+    let serve = [
+        (14, 9),
+        (14, 10),
+        (14, 11),
+        (14, 12),
+        (9, 10),
+        (9, 11),
+        (9, 12),
+        (10, 11),
+        (10, 12),
+        (11, 12),
+    ];
+    let step = [(14, 6), (14, 9), (14, 16), (14, 12)];
+    let met = |kind: u8, pairs: &[(u8, u8)]| {
+        for &(given, also) in pairs {
+            let count = summary.passed_over.get(&(kind, given, also)).copied().unwrap_or(0);
+            assert!(count >= 5, "kind {kind}: {given} before {also}: {count}");
+        }
+    };
+    (1..=4).for_each(|kind| met(kind, &begin));
+    met(5, &serve);
+    met(6, &step);
+    met(6, &[(16, 12)]);
+    met(7, &step);
+    met(0x10, &[(14, 15)]);
+}
+
+#[test]
+fn damage_does_what_it_says() {
+    let mut rng = Rng::new(5);
+    for damage in CORRUPTING.iter().chain(&FAIR) {
+        let mut done = 0;
+        for _ in 0..200 {
+            let (mut store, _) = stores::reached(&mut rng);
+            if !(damage.act)(&mut store, &mut rng) {
+                continue;
+            }
+            done += 1;
+            let reasons = conditions::corrupt_reasons(&store);
+            match damage.reason {
+                Some(reason) => assert!(reasons.contains(&reason), "{reason}: {reasons:?}"),
+                None => assert!(reasons.is_empty(), "{}: {reasons:?}", damage.name),
+            }
+            assert_eq!(machine::corrupt(&store), damage.reason.is_some());
+        }
+        assert!(done > 50, "{}: {done}", damage.name);
+    }
+}
+
+#[test]
+fn differences_are_found() {
+    let cases: Vec<u8> = (0..40)
+        .flat_map(|index| {
+            let case = stores::make(4, index);
+            held::encode_case(&case.store, case.call)
+        })
+        .collect();
+    let mut answers = held::answers(&cases).expect("well formed");
+    assert_eq!(held::differences(&cases, &answers, 9), Ok(vec![]));
+    answers[8 + 9 + 242 + 234] ^= 1;
+    let found = held::differences(&cases, &answers, 9).expect("well formed");
+    assert_eq!(found.len(), 1);
+    assert!(found[0].starts_with("case 0 ") && found[0].contains("lane 1 waiting byte 0"));
+    answers.pop();
+    let found = held::differences(&cases, &answers, 9).expect("well formed");
+    assert!(found.len() == 2 && found[1].ends_with("the answers end early"));
+}
+
+#[test]
+fn picture_lengths_are_near_the_need() {
+    let (mut exact, mut one_short) = (0, 0);
+    for index in 0..20_000 {
+        let case = stores::make(1, index);
+        let HeldCall::Picture(lent) = case.call else { continue };
+        assert!(lent <= 1_300);
+        let mut buffer = [0; 1_300];
+        if let Ok(need) = machine::picture(&case.store, &mut buffer) {
+            exact += usize::from(need == lent as usize);
+            one_short += usize::from(need == lent as usize + 1);
+        }
+    }
+    assert!(exact > 50 && one_short > 50, "{exact} {one_short}");
+}

@@ -1,0 +1,215 @@
+//! Random runs from openings against flat memory, and the four properties.
+
+use reference::machine;
+use reference::parts::*;
+use reference::rng::Rng;
+use reference::walk::{self, Style};
+
+/// Flat memory, fed with completed operations.
+struct Flat(Vec<u32>);
+
+impl Flat {
+    fn feed(&mut self, op: Op, word: u8) -> u32 {
+        let cell = &mut self.0[usize::from(word)];
+        let former = *cell;
+        match op {
+            Op::Load => former,
+            Op::Store(v) => {
+                *cell = v;
+                v
+            }
+            Op::Exchange(v) => {
+                *cell = v;
+                former
+            }
+            Op::Add(v) => {
+                *cell = former.wrapping_add(v);
+                former
+            }
+        }
+    }
+}
+
+/// A machine, flat memory, and each lane's last begin call that waited.
+struct Run {
+    store: Store,
+    flat: Flat,
+    waited: [Option<(Op, u8)>; LANES],
+    completions: usize,
+    refused: usize,
+}
+
+impl Run {
+    fn new(n: u8, c: u8, m: u8) -> Run {
+        let store = machine::open(n, c, m).expect("shape in range");
+        let flat = Flat(vec![0; 4 * usize::from(m)]);
+        Run { store, flat, waited: [None; LANES], completions: 0, refused: 0 }
+    }
+
+    fn call(&mut self, call: Call) -> Result<Answer, u8> {
+        let before = self.store.clone();
+        let (after, answer) = match machine::call(&self.store, call) {
+            Ok(given) => given,
+            Err(number) => {
+                assert!(self.store == before, "a refusal changed the store");
+                assert!([6, 7, 8, 9, 10, 11].contains(&number), "refused {number}");
+                self.refused += 1;
+                return Err(number);
+            }
+        };
+        self.store = after;
+        assert!(!machine::corrupt(&self.store));
+        match (call, answer) {
+            (Call::Begin { lane, op, word }, Answer::Wait) => {
+                self.waited[usize::from(lane)] = Some((op, word));
+            }
+            (Call::Begin { op, word, .. }, Answer::Done { value, .. }) => {
+                self.completed(op, word, value);
+            }
+            (_, Answer::Done { lane, value }) => {
+                let (op, word) = self.waited[usize::from(lane)].expect("a begin that waited");
+                self.completed(op, word, value);
+            }
+            _ => assert_eq!(answer, Answer::Step),
+        }
+        Ok(answer)
+    }
+
+    fn completed(&mut self, op: Op, word: u8, value: u32) {
+        assert_eq!(self.flat.feed(op, word), value, "{op:?} of word {word}");
+        self.completions += 1;
+    }
+
+    /// Delivers, returns and serves, lowest lane first, until quiet.
+    fn drain(&mut self) {
+        let bound = 100 * usize::from(self.store.n);
+        for _ in 0..bound {
+            if self.store.quiet() {
+                return;
+            }
+            let lanes = 0..self.store.n;
+            let steps = lanes.clone().map(Call::Deliver);
+            let mut steps =
+                steps.chain(lanes.clone().map(Call::Return)).chain(lanes.map(Call::Serve));
+            let taken = steps
+                .any(|step| machine::call(&self.store, step).is_ok() && self.call(step).is_ok());
+            assert!(taken, "no step is possible in a store that is not quiet");
+        }
+        panic!("not quiet after {bound} steps");
+    }
+}
+
+/// The valid lines of a lane that have the block.
+fn copies(s: &Store, k: usize, block: usize) -> Vec<Line> {
+    let lines = s.lanes[k].lines[..usize::from(s.c)].iter();
+    lines.filter(|l| l.valid && usize::from(l.block) == block).copied().collect()
+}
+
+/// The four properties of a quiet store, and its words against flat memory.
+fn check_quiet(s: &Store, flat: &Flat) {
+    assert!(s.quiet());
+    let n = usize::from(s.n);
+    for (a, entry) in s.blocks[..usize::from(s.m)].iter().enumerate() {
+        let held: Vec<Vec<Line>> = (0..n).map(|k| copies(s, k, a)).collect();
+        let private = held.iter().flatten().find(|l| l.private);
+        for k in 0..n {
+            assert!(held[k].len() <= 1, "two lines of one block");
+            assert!(!entry.present[k] || !held[k].is_empty(), "property 1");
+            if held[k].iter().any(|l| l.private) {
+                let others = (0..n).filter(|&j| j != k);
+                assert!(others.clone().all(|j| held[j].is_empty()), "property 3, copies");
+                assert!(entry.present[k], "property 3, own PRESENT");
+                assert!(others.clone().all(|j| !entry.present[j]), "property 3, PRESENT");
+            }
+            let shared = held[k].iter().filter(|l| !l.private);
+            assert!(shared.clone().all(|l| l.words == entry.words), "property 4");
+        }
+        assert!(!entry.modified || private.is_some(), "property 2");
+        let shown = private.map_or(entry.words, |l| l.words);
+        assert_eq!(shown, flat.0[4 * a..4 * a + 4], "words of block {a}");
+    }
+}
+
+fn random_run(seed: u64, index: u64, calls: usize) -> Run {
+    let mut rng = Rng::stream(seed, index);
+    let (any_c, any_m) = (rng.between(1, 8), rng.between(1, 64));
+    let (c, m) = (rng.pick(&[1, 2, any_c]) as u8, rng.pick(&[1, 2, 4, any_m]) as u8);
+    let mut run = Run::new(rng.between(2, 8) as u8, c, m);
+    let mut style = Style::random(&run.store, &mut rng);
+    for i in 0..calls {
+        if i % 150 == 149 {
+            run.drain();
+            check_quiet(&run.store, &run.flat);
+            style = match rng.chance(20) {
+                true => Style::sharing(&run.store, &mut rng),
+                false => Style::random(&run.store, &mut rng),
+            };
+        }
+        let _ = run.call(walk::next_call(&run.store, &style, &mut rng));
+        if run.store.quiet() {
+            check_quiet(&run.store, &run.flat);
+        }
+    }
+    run.drain();
+    check_quiet(&run.store, &run.flat);
+    run
+}
+
+#[test]
+fn random_runs_equal_flat_memory() {
+    let (mut completions, mut refused) = (0, 0);
+    for index in 0..150 {
+        let run = random_run(7, index, 1_500);
+        completions += run.completions;
+        refused += run.refused;
+    }
+    assert!(completions > 50_000, "{completions} completions");
+    assert!(refused > 10_000, "{refused} refusals");
+}
+
+#[test]
+fn every_lane_adds_one_to_one_word() {
+    for n in 2..=8 {
+        let mut run = Run::new(n, 1, 1);
+        for _ in 0..20 {
+            for lane in 0..n {
+                let _ = run.call(Call::Begin { lane, op: Op::Add(1), word: 2 });
+            }
+            run.drain();
+        }
+        check_quiet(&run.store, &run.flat);
+        assert_eq!(run.flat.0[2], 20 * u32::from(n));
+        assert_eq!(run.completions, 20 * usize::from(n));
+    }
+}
+
+/// Orders in which steps can come are all taken, to a depth.
+fn explore(run: &Store, depth: usize, seen: &mut usize) {
+    *seen += 1;
+    if depth == 0 {
+        return;
+    }
+    for lane in 0..run.n {
+        let begins =
+            [Op::Load, Op::Add(1)].map(|op| Call::Begin { lane, op, word: 4 * (lane % run.m) });
+        let steps = [Call::Serve(lane), Call::Return(lane), Call::Deliver(lane)];
+        for call in begins.into_iter().chain(steps) {
+            match machine::call(run, call) {
+                Ok((after, _)) => {
+                    assert!(!machine::corrupt(&after));
+                    explore(&after, depth - 1, seen);
+                }
+                Err(number) => assert!((8..=11).contains(&number), "refused {number}"),
+            }
+        }
+    }
+}
+
+#[test]
+fn no_short_run_meets_a_full_queue_or_a_stray() {
+    let mut seen = 0;
+    for (c, m) in [(1, 1), (1, 2)] {
+        explore(&machine::open(2, c, m).expect("in range"), 9, &mut seen);
+    }
+    assert!(seen > 20_000, "{seen} stores");
+}
