@@ -82,8 +82,8 @@ impl Lane {
         let mut k: u8 = 0;
         while k < c {
             let i = k as usize;
-            let l = self.lines[i];
-            if l.holds(a) {
+            let x = self.lines[i];
+            if x.holds(a) {
                 return Found::At(LineNo(k));
             }
             k += 1;

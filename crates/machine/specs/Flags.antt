@@ -40,7 +40,7 @@ pub record Flags (s : Store) : Type 0 where
   pub modified : (a : ℕ) → a < s .m → blockAt s a .modified ≡ true → anyTo (λ k. anyTo (λ i. owns s k i a) (s .c)) (s .n) ≡ true
   -- 3. PRIVATE in k on a valid line: no other lane has the block, and only k's PRESENT is set
   pub private : (a k i : ℕ) → k < s .n → i < s .c → owns s k i a ≡ true →
-    (presentIn s a k ≡ true) × ((j : ℕ) → j < s .n → j ≢ k → (hasCopy s j a ≡ false) × (presentIn s a j ≡ false))
+      (presentIn s a k ≡ true) × ((j : ℕ) → j < s .n → j ≢ k → (hasCopy s j a ≡ false) × (presentIn s a j ≡ false))
   -- 4. PRIVATE reset on a valid line: its words are main memory's
   pub shared : (k i : ℕ) → k < s .n → i < s .c → lineIn s k i .valid ≡ true → lineIn s k i .private ≡ false →
-    lineIn s k i .words ≡ blockAt s (lineIn s k i .block .0) .words
+      lineIn s k i .words ≡ blockAt s (lineIn s k i .block .0) .words

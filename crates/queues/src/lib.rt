@@ -5,6 +5,11 @@ ghost use mathlib.Core.Path.{_≡_};
 ghost use Rattle.queues.specs.Queues.{pushReturn, takeReturn, pushDown, takeDown};
 use words::BlockNo;
 
+// The places of a queue.
+pub const CAPACITY: u8 = 2;
+
+const PLACES: usize = 2;
+
 // What a lane sends to memory. The last four answer an order; 01's PURGED has words or has none.
 pub enum ReturnKind {
     Eject,
@@ -33,7 +38,7 @@ pub struct ReturnMessage {
 // A queue of at most two messages from a lane to memory, first in, first out: the first len of at, head first.
 pub struct ReturnQueue {
     pub len: u8,
-    pub at: [ReturnMessage; 2],
+    pub at: [ReturnMessage; PLACES],
 }
 
 // The queue after a message joined it; the queue as it was where it is full.
@@ -55,7 +60,7 @@ impl ReturnQueue {
         ensures { λ r. ⌜ r ≡ pushReturn self x ⌝ }
     {
         let n = self.len;
-        if 2 <= n {
+        if CAPACITY <= n {
             return ReturnPushed {
                 full: true,
                 queue: self,
@@ -105,7 +110,7 @@ pub struct DownMessage {
 // A queue of at most two messages from memory to a lane, first in, first out: the first len of at, head first.
 pub struct DownQueue {
     pub len: u8,
-    pub at: [DownMessage; 2],
+    pub at: [DownMessage; PLACES],
 }
 
 // The queue after a message joined it; the queue as it was where it is full.
@@ -123,23 +128,23 @@ pub struct DownTaken {
 
 impl DownQueue {
     // The message joins the queue.
-    pub fn push(self, x: DownMessage) -> DownPushed
-        ensures { λ r. ⌜ r ≡ pushDown self x ⌝ }
+    pub fn push(self, y: DownMessage) -> DownPushed
+        ensures { λ r. ⌜ r ≡ pushDown self y ⌝ }
     {
-        let n = self.len;
-        if 2 <= n {
+        let k = self.len;
+        if CAPACITY <= k {
             return DownPushed {
                 full: true,
                 queue: self,
             };
         }
-        let i = n as usize;
-        let mut q = self;
-        q.at[i] = x;
-        q.len = n + 1;
+        let i = k as usize;
+        let mut d = self;
+        d.at[i] = y;
+        d.len = k + 1;
         DownPushed {
             full: false,
-            queue: q,
+            queue: d,
         }
     }
 
@@ -147,22 +152,22 @@ impl DownQueue {
     pub fn take(self) -> DownTaken
         ensures { λ r. ⌜ r ≡ takeDown self ⌝ }
     {
-        let n = self.len;
-        let h = self.at[0];
-        if n == 0 {
+        let k = self.len;
+        let g = self.at[0];
+        if k == 0 {
             return DownTaken {
                 empty: true,
-                head: h,
+                head: g,
                 queue: self,
             };
         }
-        let mut q = self;
-        q.at[0] = self.at[1];
-        q.len = n - 1;
+        let mut d = self;
+        d.at[0] = self.at[1];
+        d.len = k - 1;
         DownTaken {
             empty: false,
-            head: h,
-            queue: q,
+            head: g,
+            queue: d,
         }
     }
 }

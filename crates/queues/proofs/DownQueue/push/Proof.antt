@@ -5,29 +5,29 @@ use Rattle.queues.proofs.DownQueue.push.Tie as tie
 use Rattle.queues.proofs.DownQueue.push.Reads as reads
 use Rattle.queues.proofs.DownQueue.push.Lts as lts
 
--- src/lib.rt:132:13
+-- src/lib.rt:131:13
 returns : tie.Need-returns
 returns c = simp (le-leb _ _ (c .if1 .taken))
 
--- src/lib.rt:137:17
+-- src/lib.rt:136:17
 cast-i : tie.Need-cast-i
 cast-i c = search needs
 
--- src/lib.rt:139:9
-mul-x : tie.Need-mul-x
-mul-x c = search needs
+-- src/lib.rt:138:9
+mul-y : tie.Need-mul-y
+mul-y c = search needs
 
--- src/lib.rt:139:9
-element-set-from-x : tie.Need-element-set-from-x
-element-set-from-x c = search needs
+-- src/lib.rt:138:9
+element-set-from-y : tie.Need-element-set-from-y
+element-set-from-y c = search needs
 
--- src/lib.rt:140:17
-add-q : tie.Need-add-q
-add-q c = search needs
+-- src/lib.rt:139:17
+add-d : tie.Need-add-d
+add-d c = search needs
 
--- src/lib.rt:127:5
+-- src/lib.rt:126:5
 returns-2 : tie.Need-returns-2
 returns-2 c = simp (lt-leb _ _ (c .if1 .left))
 
 pub push-spec : {M : Type 1} → statement M
-push-spec = tie.close (tie.spec returns cast-i mul-x element-set-from-x add-q returns-2)
+push-spec = tie.close (tie.spec returns cast-i mul-y element-set-from-y add-d returns-2)
