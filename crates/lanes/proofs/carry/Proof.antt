@@ -1,35 +1,27 @@
+-- `lanes::carry` meets its contract. Assumes nothing.
 use borrow.Author.Tests.{eq-eqb, ne-eqb}
 use borrow.Author.Needs.{needs}
 use Rattle.lanes.proofs.carry.Statement.{statement}
 use Rattle.lanes.proofs.carry.Tie as tie
-use Rattle.lanes.proofs.carry.Reads as reads
-use Rattle.lanes.proofs.carry.Lts as lts
 
--- src/lib.rt:119:13
 array-copy-out-x : tie.Need-array-copy-out-x
 array-copy-out-x c = search needs
 
--- src/lib.rt:121:17
 add-j : tie.Need-add-j
 add-j c = search needs
 
--- src/lib.rt:123:16
 array-copy-out-t : tie.Need-array-copy-out-t
 array-copy-out-t c = search needs
 
--- src/lib.rt:123:9
 array-set-from-t : tie.Need-array-set-from-t
 array-set-from-t c = search needs
 
--- src/lib.rt:124:9
 array-set-from-t-2 : tie.Need-array-set-from-t-2
 array-set-from-t-2 c = search needs
 
--- src/lib.rt:125:9
 returns : tie.Need-returns
 returns c = simp (eq-eqb _ _ (c .before .if1 .taken))
 
--- src/lib.rt:115:1
 returns-2 : tie.Need-returns-2
 returns-2 c = simp (ne-eqb _ _ (c .if1 .left))
 

@@ -1,37 +1,30 @@
+-- `store::bad_shape` meets its contract. Assumes nothing.
 use borrow.Author.Tests.{lt-ltb, le-ltb}
 use Rattle.words.specs.Folds.{anyOf}
 use Rattle.store.specs.Opening.{badShape}
 use Rattle.store.proofs.bad_shape.Statement.{statement}
 use Rattle.store.proofs.bad_shape.Tie as tie
-use Rattle.store.proofs.bad_shape.Reads as reads
-use Rattle.store.proofs.bad_shape.Lts as lts
 
--- src/lib.rt:142:9
 returns : tie.Need-returns
 unfolding badShape anyOf
 returns c = rw (badShape, anyOf, lt-ltb _ _ (c .if1 .taken))
 
--- src/lib.rt:145:9
 returns-2 : tie.Need-returns-2
 unfolding badShape anyOf
 returns-2 c = rw (badShape, anyOf, le-ltb _ _ (c .before .if1 .left), lt-ltb _ _ (c .if2 .taken))
 
--- src/lib.rt:148:9
 returns-3 : tie.Need-returns-3
 unfolding badShape anyOf
 returns-3 c = rw (badShape, anyOf, le-ltb _ _ (c .before .before .if1 .left), le-ltb _ _ (c .before .if2 .left), lt-ltb _ _ (c .if3 .taken))
 
--- src/lib.rt:151:9
 returns-4 : tie.Need-returns-4
 unfolding badShape anyOf
 returns-4 c = rw (badShape, anyOf, le-ltb _ _ (c .before .before .before .if1 .left), le-ltb _ _ (c .before .before .if2 .left), le-ltb _ _ (c .before .if3 .left), lt-ltb _ _ (c .if4 .taken))
 
--- src/lib.rt:154:9
 returns-5 : tie.Need-returns-5
 unfolding badShape anyOf
 returns-5 c = rw (badShape, anyOf, le-ltb _ _ (c .before .before .before .before .if1 .left), le-ltb _ _ (c .before .before .before .if2 .left), le-ltb _ _ (c .before .before .if3 .left), le-ltb _ _ (c .before .if4 .left), lt-ltb _ _ (c .if5 .taken))
 
--- src/lib.rt:138:1
 returns-6 : tie.Need-returns-6
 unfolding badShape anyOf
 returns-6 c = rw (badShape, anyOf, le-ltb _ _ (c .before .before .before .before .if1 .left), le-ltb _ _ (c .before .before .before .if2 .left), le-ltb _ _ (c .before .before .if3 .left), le-ltb _ _ (c .before .if4 .left), le-ltb _ _ (c .if5 .left))

@@ -1,11 +1,9 @@
+-- `store::blank_block` meets its contract. Assumes nothing.
 use mathlib.Core.Path.{refl}
 use Rattle.store.specs.Opening.{blankBlock}
 use Rattle.store.proofs.blank_block.Statement.{statement}
 use Rattle.store.proofs.blank_block.Tie as tie
-use Rattle.store.proofs.blank_block.Reads as reads
-use Rattle.store.proofs.blank_block.Lts as lts
 
--- src/lib.rt:205:1
 returns : tie.Need-returns
 unfolding blankBlock
 returns c = refl

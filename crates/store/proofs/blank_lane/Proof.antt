@@ -1,16 +1,12 @@
+-- `store::blank_lane` meets its contract. Assumes nothing.
 use Rattle.store.specs.Opening.{blankLane}
 use borrow.Author.Needs.{needs}
 use Rattle.store.proofs.blank_lane.Statement.{statement}
 use Rattle.store.proofs.blank_lane.Tie as tie
-use Rattle.store.proofs.blank_lane.Reads as reads
-use Rattle.store.proofs.blank_lane.Lts as lts
-use Rattle.store.proofs.blank_line.Reads as blank-line-reads
 
--- src/lib.rt:173:9
 blank-line-requires : tie.Need-blank-line-requires
 blank-line-requires c κs = search needs
 
--- src/lib.rt:170:1
 returns : tie.Need-returns
 unfolding blankLane
 returns c = rw (c .blank-line .ensures)

@@ -1,8 +1,9 @@
+-- `store::quiet` meets its contract. Assumes nothing.
 use borrow.Author.Needs.{needs}
-use Prim.Native.Nat.{ℕ, _≤_, _-_, _<_}
+use Prim.Native.Nat.{_≤_, _-_}
 use native.Mathlib.Omega.{arith}
-use mathlib.Core.Bool.{not, false}
-use mathlib.Core.Path.{_≡_, ap, sym, _∙_}
+use mathlib.Core.Bool.{false}
+use mathlib.Core.Path.{_≡_, sym, _∙_}
 use lib.ListN.{length, length-map}
 use Rattle.words.specs.Folds.{anyTo}
 use Rattle.words.proofs.Folds.{any-none, any-more, any-true}
@@ -10,10 +11,6 @@ use Rattle.store.specs.Quiet.{laneAt, stirsOf, quietOf}
 use Rattle.store.proofs.Quieting.{stirs-past}
 use Rattle.store.proofs.quiet.Statement.{statement}
 use Rattle.store.proofs.quiet.Tie as tie
-use Rattle.store.proofs.quiet.Reads as reads
-use Rattle.store.proofs.quiet.Lts as lts
-use Rattle.store.proofs.Control.busy.Reads as busy-reads
-use Rattle.store.proofs.stirs.Reads as stirs-reads
 
 abbrev Inv-loop : tie.InvT-loop
 Inv-loop s n k₀ k = (k ≤ n) × (anyTo (λ i. stirsOf (laneAt s i)) k ≡ false)
@@ -21,61 +18,48 @@ Inv-loop s n k₀ k = (k ≤ n) × (anyTo (λ i. stirsOf (laneAt s i)) k ≡ fal
 abbrev μ-loop : tie.MeasureT-loop
 μ-loop s n k₀ k = n - k
 
--- src/lib.rt:268:8
 busy-requires : tie.Need-busy-requires Inv-loop μ-loop
 busy-requires c κs = search needs
 
--- src/lib.rt:269:9
 returns : tie.Need-returns Inv-loop μ-loop
 unfolding quietOf
 returns c = rw (quietOf, ← c .before .busy .ensures, c .if1 .taken)
 
--- src/lib.rt:273:5
 loop-holds : tie.Need-loop-holds Inv-loop μ-loop
 loop-holds c = (omega arith, any-none _)
 
--- src/lib.rt:275:13
 returns-2 : tie.Need-returns-2 Inv-loop μ-loop
 unfolding quietOf
 returns-2 c = let h : length (c .before .before .before .before .before .args .t1 .lanes) ≡ 8 = simp length-map at (c .before .before .before .before .before .good .0 .1 .1 .1 .1 .1 .1 .0 .1 .0 .1) in
     let z = stirs-past (c .before .before .before .before .before .args .t1) (c .before .before .loop .k) (c .before .before .before .before .before .args .t1 .n) (omega arith) (c .before .before .loop .inv .1) in
     rw (quietOf, ← c .before .before .before .before .busy .ensures, c .before .before .before .if1 .left, z)
 
--- src/lib.rt:277:17
 cast-i : tie.Need-cast-i Inv-loop μ-loop
 cast-i c = search needs
 
--- src/lib.rt:278:17
 mul-l : tie.Need-mul-l Inv-loop μ-loop
 mul-l c = search needs
 
--- src/lib.rt:278:17
 element-copy-out-l : tie.Need-element-copy-out-l Inv-loop μ-loop
 element-copy-out-l c = search needs
 
--- src/lib.rt:279:12
 stirs-requires : tie.Need-stirs-requires Inv-loop μ-loop
 stirs-requires c κs = search needs
 
--- src/lib.rt:280:13
 returns-3 : tie.Need-returns-3 Inv-loop μ-loop
 unfolding quietOf
 returns-3 c = let h = any-true (λ i. stirsOf (laneAt (c .before .before .before .before .before .before .before .before .args .t1) i)) (c .before .before .before .before .before .before .before .before .args .t1 .n) (c .before .before .before .before .before .loop .k) (sym (c .before .stirs .ensures) ∙ c .if3 .taken) (omega arith) in
     rw (quietOf, ← c .before .before .before .before .before .before .before .busy .ensures, c .before .before .before .before .before .before .if1 .left, h)
 
--- src/lib.rt:282:9
 add-k : tie.Need-add-k Inv-loop μ-loop
 add-k c = search needs
 
--- src/lib.rt:273:5
 loop-less : tie.Need-loop-less Inv-loop μ-loop
 loop-less c = search needs
 
--- src/lib.rt:273:5
 loop-again : tie.Need-loop-again Inv-loop μ-loop
 loop-again c = (omega arith, any-more _ _ (c .before .before .before .before .before .loop .inv .1) (sym (c .before .stirs .ensures) ∙ c .if3 .left))
 
--- src/lib.rt:264:1
 returns-4 : tie.Need-returns-4 Inv-loop μ-loop
 unfolding quietOf
 returns-4 c = let e : c .before .loop .k ≡ c .before .before .before .before .args .t1 .n = omega arith in

@@ -1,27 +1,21 @@
+-- `store::Control::service` meets its contract. Assumes nothing.
 use borrow.Author.Tests.{eq-eqb, ne-eqb}
 use borrow.Author.Needs.{needs}
 use Rattle.store.proofs.Control.service.Statement.{statement}
 use Rattle.store.proofs.Control.service.Tie as tie
-use Rattle.store.proofs.Control.service.Reads as reads
-use Rattle.store.proofs.Control.service.Lts as lts
 
--- src/lib.rt:81:30
 enum-told : tie.Need-enum-told
 enum-told c = search needs
 
--- src/lib.rt:82:27
 enum-known-self : tie.Need-enum-known-self
 enum-known-self c = search needs
 
--- src/lib.rt:84:21
 returns : tie.Need-returns
 returns c = rw (c .before .before .before .before .self .given .1, eq-eqb _ _ (c .if1 .taken))
 
--- src/lib.rt:77:5
 returns-2 : tie.Need-returns-2
 returns-2 c = rw (c .enum-told .given .1)
 
--- src/lib.rt:77:5
 returns-3 : tie.Need-returns-3
 returns-3 c = rw (c .before .before .before .before .self .given .1, ne-eqb _ _ (c .if1 .left))
 
