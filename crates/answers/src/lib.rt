@@ -21,7 +21,7 @@ pub enum Refusal {
     TapeTooLong, // 13, too long
     Corrupt, // 14, spoilt: the store breaks its own bounds
     BufferTooShort, // 15, sheet short: the picture does not fit
-    Unexpected, // 16, stray: a message that fits no state of its receiver
+    Unexpected, // 16, stray: a message that nobody waits for, or a settle that is stuck
 }
 
 impl Refusal {

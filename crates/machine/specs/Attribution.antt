@@ -26,7 +26,7 @@ pub record Attributed : Type 0 where
   pub completion : Completion
   pub origin : Origin
 
--- the begin call at a place
+-- the operation of the begin call at place i
 abbrev pub begunAt : ℕ → LaneNo → Op → WordNo → Begun
 begunAt i k op w = record { place = i; lane = k; op = op; word = w }
 
@@ -73,11 +73,12 @@ unfoldable pub begunFrom : ℕ → List Entry → List Begun
 begunFrom i [] = []
 begunFrom i (e ∷ es) = begunBy i (e .call) (isRefused (e .reply)) ++ begunFrom (suc i) es
 
--- the operations that completions are of, in their order
+-- an origin as a list of none or one
 abbrev pub known : Origin → List Begun
 known Unknown = []
 known (Of b) = b ∷ []
 
+-- the operations that completions are of, in their order
 unfoldable pub operationsOf : List Attributed → List Begun
 operationsOf [] = []
 operationsOf (x ∷ xs) = known (x .origin) ++ operationsOf xs

@@ -43,7 +43,7 @@ isLoad (Op.Store v) = false
 isLoad (Op.Exchange v) = false
 isLoad (Op.Add v) = false
 
--- Completing does the operation on that word of the line (here x, at place i), gives the value so got, and is a use of the line; an operation that completes waits no more
+-- Completing does the operation on that word of the line (line i, here with the contents x), gives the value so got, and is a use of the line; an operation that completes waits no more
 unfoldable pub complete : ℕ → LaneNo → LineNo → Line → Op → WordNo → Lane → LaneStep
 complete c k i x op w l =
     let p = performOf x op w in

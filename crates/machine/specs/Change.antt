@@ -60,7 +60,7 @@ refuseLane r l = record { answer = Refused r; lane = l }
 unfoldable pub commitLane : Store → LaneNo → LaneStep → Outcome
 commitLane s k r = record { answer = r .answer; store = cond (refusedOf (r .answer)) s (withLane s (k .0) (r .lane)) }
 
--- a down message without words
+-- what stands where nothing is sent
 abbrev pub noMessage : DownMessage
 noMessage = record { kind = Update; block = record { 0 = 0 }; words = zeros }
 
@@ -75,7 +75,7 @@ only k = set nobody (k .0) true
 abbrev pub goesTo : List Bool → ℕ → Bool
 goesTo to j = getD to j false
 
--- 12: a queue the step adds to is full
+-- 12 for messages to lanes: a down queue the step adds to is full
 unfoldable pub someFull : List Bool → List Lane → Bool
 someFull to ls = anyTo (λ j. goesTo to j && fullAt (getD ls j noLane .downs .len)) 8
 

@@ -1,7 +1,7 @@
 -- Demand 3, stated: the order of completion is the order of memory. One claim about every list of load, store, exchange, add,
 -- serve, return, deliver and settle calls, refused ones included, from any opening that isn't refused.
 -- The supply contract's sentence: a lane reads the last word stored, in every order in which the lanes' messages reach the
--- controller. This file only states it; docs/ARCHITECTURE.md says where it is proved, or that it is not yet. Assumes nothing.
+-- controller. This file only states it; docs/ARCHITECTURE.md says whether and where it is proved. Assumes nothing.
 use Prim.Native.Nat.{ℕ, _<_}
 use mathlib.Core.Path.{_≡_}
 use mathlib.Core.Bool.{true}
@@ -39,7 +39,7 @@ pub record Owned (h : List Entry) (x : Attributed) : Type 0 where
   pub lane : operation .lane ≡ x .completion .lane
   pub was-begun : List·Memᴰ operation (begun h)
 
--- what holds besides where the last store is quiet
+-- what also holds where the last store is quiet
 pub record WhenQuiet (m : ℕ) (h : List Entry) (s : Store) : Type 0 where
   -- every operation begun has completed
   pub all-completed : (b : Begun) → List·Memᴰ b (begun h) → List·Memᴰ b (operations h)
@@ -48,8 +48,12 @@ pub record WhenQuiet (m : ℕ) (h : List Entry) (s : Store) : Type 0 where
   -- the four properties of the flags
   pub flags : Flags s
 
--- the claim, of a history and the last store
-pub record Coherent (m : ℕ) (h : List Entry) (s : Store) : Type 0 where
+-- the claim, of a history and the last store, from an opening of n, c, m
+pub record Coherent (n c m : ℕ) (h : List Entry) (s : Store) : Type 0 where
+  -- the store still has the shape that it was opened with
+  pub lanes : s .n ≡ n
+  pub lines : s .c ≡ c
+  pub blocks : s .m ≡ m
   -- every completion is of an operation begun
   pub owned : (x : Attributed) → List·Memᴰ x (completed h) → Owned h x
   -- no operation completes twice: its begin call's place in the list tells it from all others
@@ -62,4 +66,4 @@ pub record Coherent (m : ℕ) (h : List Entry) (s : Store) : Type 0 where
 pub Demand3 : Type 0
 Demand3 =
     (n c m : ℕ) (calls : List Call) → openOf n c m .answer ≡ Opened →
-    Coherent m (run (openOf n c m .store) calls .history) (run (openOf n c m .store) calls .store)
+    Coherent n c m (run (openOf n c m .store) calls .history) (run (openOf n c m .store) calls .store)

@@ -39,7 +39,7 @@ pub record Sheet : Type 0 where
   pub answer : Pictured
   pub buffer : List ℕ
 
--- It gives the length; bytes after the records are unchanged. 14, 15, and then nothing is written
+-- It gives the length; bytes after the records are unchanged. On 14 and on 15 nothing is written
 unfoldable pub pictureOf : Store → List ℕ → Sheet
 pictureOf s buffer =
     let p = pictureBytes s in

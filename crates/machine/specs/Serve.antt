@@ -63,10 +63,11 @@ bareOf ReadShared present = false
 bareOf ReadExclusive present = false
 bareOf Exclude present = present
 
--- Shared: set k's PRESENT. Exclusive: k's PRESENT is set, every other PRESENT of the block is reset, MODIFIED is set
+-- Exclusive: k's PRESENT is set, every other PRESENT of the block is reset, MODIFIED is set
 abbrev pub exclusively : Block → LaneNo → Block
 exclusively b k = record { words = b .words; present = only k; modified = true }
 
+-- Shared: set k's PRESENT; exclusive as above
 abbrev pub closedBlock : Command → Block → LaneNo → Block
 closedBlock ReadShared b k = record { words = b .words; present = set (b .present) (k .0) true; modified = b .modified }
 closedBlock ReadExclusive b k = exclusively b k

@@ -74,7 +74,7 @@ servicesIn s = cond (busyOf (s .control)) 1 0
 abbrev pub unservedIn : Store → ℕ
 unservedIn s = countTo (λ k. unservedOf (laneAt s k .waiting)) (s .n)
 
--- The count is at most R + G + 2 × Q + S + 2 × n × U
+-- The count is at most R + G + 2 × Q + S + 2 × n × U: the bound, here of a store
 unfoldable pub boundOf : Store → ℕ
 boundOf s = returnsIn s + grantsIn s + 2 * ordersIn s + servicesIn s + 2 * s .n * unservedIn s
 
@@ -103,7 +103,7 @@ advance p =
 unfoldable pub ended : Progress → Bool
 ended p = refusedOf (p .answer) || quietOf (p .store)
 
--- Settle repeats, here at most the given number of times
+-- Settle repeats, here at most the given number of times: boundOf many, and the one that is refused by 16 where the store is stuck
 unfoldable pub repeatStep : ℕ → Progress → Progress
 repeatStep zero p = p
 repeatStep (suc more) p = let r = repeatStep more (advance p) in cond (ended p) p r
@@ -118,7 +118,7 @@ pub record Settlement : Type 0 where
 abbrev pub refuseSettle : Refusal → Store → Settlement
 refuseSettle r s = record { answer = Settled.Refused r; completions = []; store = s }
 
--- the store that was reached is quiet; a store that is not, after boundOf steps, is stuck: 16
+-- the store that was reached is quiet; the last case is never met (owed with settle's code: the count is at most boundOf)
 abbrev pub reached : Store → Progress → Settlement
 reached s p =
     cond (quietOf (p .store)) (record { answer = Steps (p .count); completions = p .completions; store = p .store })
@@ -135,5 +135,5 @@ unlessRefused (Answer.Refused n) s r = refuseSettle n s
 -- 14, then the numbers of its steps
 unfoldable pub settleOf : Store → Settlement
 settleOf s =
-    let p = repeatStep (boundOf s) (record { count = 0; completions = []; answer = Step; store = s }) in
+    let p = repeatStep (suc (boundOf s)) (record { count = 0; completions = []; answer = Step; store = s }) in
     cond (corruptOf s) (refuseSettle Corrupt s) (unlessRefused (p .answer) s (reached s p))

@@ -8,9 +8,10 @@ use Rattle.words.specs.declared.Op.the-variants as Op
 use Rattle.words.specs.Operations.{applyOf}
 use Rattle.answers.specs.declared.Answer.{Answer}
 use Rattle.answers.specs.declared.Answer.the-variants.{Opened, Done, Wait, Step, Refused}
-use Rattle.answers.specs.declared.Refusal.the-variants.{InvalidShape, NoSuchWord, ReturnsPending}
+use Rattle.answers.specs.declared.Refusal.the-variants.{ReturnsPending}
 use Rattle.answers.specs.declared.Completion.{Completion}
 use Rattle.answers.specs.Completions.{completionOf}
+use Rattle.answers.specs.Refusals.{numberOf}
 use Rattle.store.specs.declared.Store.{Store}
 use Rattle.store.specs.Opening.{openOf}
 use Rattle.machine.specs.declared.Settled.{Settled}
@@ -20,9 +21,10 @@ use Rattle.machine.specs.Settle.{Settlement, settleOf}
 use Rattle.machine.specs.Tape.{replayOf}
 use Rattle.machine.specs.Text.{printed}
 
--- what a row shows: an answer, a tape's lines, bytes, a word, or a settle's count with its completions
+-- what a row shows: an answer, 01's number of a refusal, a tape's lines, bytes, a word, or a settle's count with its completions
 pub data Shown : Type 0 where
   Answers : Answer → Shown
+  Number : ℕ → Shown
   Lines : List Answer → Shown
   Bytes : List ℕ → Shown
   Word : ℕ → Shown
@@ -32,9 +34,17 @@ pub record Row : Type 0 where
   pub given : Shown
   pub wanted : Shown
 
+-- an answer, a refusal by its number
+abbrev pub saying : Answer → Shown
+saying Opened = Answers Opened
+saying (Done x) = Answers (Done x)
+saying Wait = Answers Wait
+saying Step = Answers Step
+saying (Refused r) = Number (numberOf r)
+
 -- the answer of an opening
 abbrev pub opening : ℕ → ℕ → ℕ → Shown
-opening n c m = Answers (openOf n c m .answer)
+opening n c m = saying (openOf n c m .answer)
 
 -- the store of an opening
 abbrev pub opened : ℕ → ℕ → ℕ → Store
@@ -46,7 +56,7 @@ begins s k op w = beginOf s (record { 0 = k }) op (record { 0 = w }) .store
 
 -- the answer of a load of word w by lane 0
 abbrev pub loads : Store → ℕ → Shown
-loads s w = Answers (beginOf s (record { 0 = 0 }) Op.Load (record { 0 = w }) .answer)
+loads s w = saying (beginOf s (record { 0 = 0 }) Op.Load (record { 0 = w }) .answer)
 
 -- a settle's count and completions
 abbrev pub settles : Store → Shown
@@ -138,12 +148,12 @@ unfoldable pub rows : List Row
 rows =
     record { given = opening 2 1 1; wanted = Answers Opened } ∷
     record { given = opening 8 8 64; wanted = Answers Opened } ∷
-    record { given = opening 1 1 1; wanted = Answers (Refused InvalidShape) } ∷
-    record { given = opening 9 1 1; wanted = Answers (Refused InvalidShape) } ∷
-    record { given = opening 2 0 1; wanted = Answers (Refused InvalidShape) } ∷
-    record { given = opening 2 1 65; wanted = Answers (Refused InvalidShape) } ∷
+    record { given = opening 1 1 1; wanted = Number 5 } ∷
+    record { given = opening 9 1 1; wanted = Number 5 } ∷
+    record { given = opening 2 0 1; wanted = Number 5 } ∷
+    record { given = opening 2 1 65; wanted = Number 5 } ∷
     record { given = loads (opened 2 1 1) 3; wanted = Answers Wait } ∷
-    record { given = loads (opened 2 1 1) 4; wanted = Answers (Refused NoSuchWord) } ∷
+    record { given = loads (opened 2 1 1) 4; wanted = Number 7 } ∷
     record { given = Lines (replayOf wholeTape .lines); wanted = Lines wholeLines } ∷
     record { given = Bytes (printed wholeTape); wanted = Bytes wholeText } ∷
     record { given = Word (applyOf (Op.Add 1) 4294967295 .word); wanted = Word 0 } ∷

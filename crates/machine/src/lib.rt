@@ -8,13 +8,13 @@ use queues::DownMessage;
 use store::Block;
 use store::Control;
 
-// A lane's part of a call: the answer, and the lane after it; on a refusal the lane as it was.
+// A lane's part of a call: the answer, and the lane after it; of a refused call the lane as it was.
 pub struct LaneStep {
     pub answer: Answer,
     pub lane: Lane,
 }
 
-// Whether a lane's operation can be served.
+// The operation that a call goes on with, or why it is refused.
 pub enum Ready {
     Go(Operation),
     No(Refusal),

@@ -35,7 +35,7 @@ messages len places = take len places
 abbrev pub joined : {A : Type 0} → ℕ → List A → A → List A
 joined len places x = set places len x
 
--- the places after the head left: the second message comes first; the place that is free now keeps what it had
+-- the places after the head left: place 0 gets what place 1 has, and place 1 keeps it
 abbrev pub shifted : {A : Type 0} → A → List A → List A
 shifted none places = set places 0 (getD places 1 none)
 

@@ -28,7 +28,7 @@ pub enum DownKind {
     BareGrant,
 }
 
-// A message from a lane to memory. Where its kind has no words they are 0.
+// A message from a lane to memory. Where its kind has no words they are made 0 and are not looked at.
 pub struct ReturnMessage {
     pub kind: ReturnKind,
     pub block: BlockNo,
@@ -100,7 +100,7 @@ impl ReturnQueue {
     }
 }
 
-// A message from memory to a lane. Where its kind has no words they are 0.
+// A message from memory to a lane. Where its kind has no words they are made 0 and are not looked at.
 pub struct DownMessage {
     pub kind: DownKind,
     pub block: BlockNo,

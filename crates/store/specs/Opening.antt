@@ -48,7 +48,7 @@ blankLane = record {
 unfoldable pub blankBlock : Block
 blankBlock = record { words = zeros; present = replicate 8 false; modified = false }
 
--- the store of an opening; with 0, 0, 0 the blank store, that a tape has before it is opened
+-- the store of an opening; with 0, 0, 0 the blank store that a tape has before it is opened
 unfoldable pub freshOf : ℕ → ℕ → ℕ → Store
 freshOf n c m = record { n = n; c = c; m = m; control = Free; lanes = replicate 8 blankLane; blocks = replicate 64 blankBlock }
 

@@ -54,7 +54,7 @@ pub enum Started {
     Busy,
 }
 
-// The control after an answer came in: with that answer fewer awaited, or without the service that it closes.
+// The control after an answer came in: with one answer fewer awaited, or without the service that it closes; or nobody awaits it.
 pub enum Counted {
     Awaits(Control),
     Closes(Service, Control),

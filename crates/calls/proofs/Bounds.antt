@@ -1,0 +1,74 @@
+-- The bounds that a call's parts ask for, from a store that is not corrupt. Assumes nothing.
+use Prim.Native.Nat.{ℕ, _<_, _≤_}
+use native.Mathlib.Omega.{arith}
+use mathlib.Core.Bool.{Bool, true, false, cond}
+use mathlib.Core.Path.{_≡_, refl, ap, sym, _∙_}
+use lib.Dec.{ltb}
+use lib.ListN.{getD}
+use Rattle.words.specs.declared.LaneNo.{LaneNo}
+use Rattle.words.specs.declared.BlockNo.{BlockNo}
+use Rattle.words.specs.Units.{blockOf}
+use Rattle.words.proofs.Folds.{skip}
+use Rattle.queues.specs.Queues.{noReturn}
+use Rattle.lanes.specs.declared.Lane.{Lane}
+use Rattle.lanes.specs.declared.Operation.{Operation}
+use Rattle.lanes.specs.declared.Waiting.{Waiting}
+use Rattle.lanes.specs.declared.Waiting.the-variants.{Idle, Unserved, Served}
+use Rattle.lanes.specs.UseOrder.{placeAt}
+use Rattle.answers.specs.declared.Refusal.{Refusal}
+use Rattle.store.specs.declared.Store.{Store}
+use Rattle.store.specs.declared.Service.{Service}
+use Rattle.store.specs.declared.Control.{Control}
+use Rattle.store.specs.declared.Control.the-variants.{Free, Busy}
+use Rattle.store.specs.Control.{busyOf}
+use Rattle.store.specs.Quiet.{laneAt}
+use Rattle.machine.specs.declared.Ready.{Ready}
+use Rattle.machine.specs.declared.Ready.the-variants.{Go, No}
+use Rattle.machine.specs.Corruption.{corruptOf}
+use Rattle.machine.specs.Serve.{readyWith, readyOf}
+use Rattle.memory.specs.Bounds.{laneBelow}
+use Rattle.checks.proofs.Sound.{Sound, ControlSound, sound}
+
+no-go : {r : Refusal} {o : Operation} → No r ≡ Go o → ⊥
+no-go e = let z : _≡_ {A = ℕ} 0 1 = cc in omega arith
+
+-- an operation that is ready is the lane's unserved one
+ready-waits : (l : Lane) (x : Control) (w : Waiting) (o : Operation) → readyWith w l x ≡ Go o → w ≡ Unserved o
+ready-waits l x Idle o e = absurd (no-go e)
+ready-waits l x (Served p) o e = absurd (no-go e)
+ready-waits l x (Unserved p) o e =
+    let f = skip (busyOf x) e no-go .1 in
+    let g = skip (ltb 0 (l .returns .len)) f no-go .1 in
+    cc
+
+below-eight : (n m : ℕ) (x : Control) → n ≤ 8 → ControlSound n m x → laneBelow x 8
+below-eight n m Free h g = tt
+below-eight n m (Busy v) h g = let l = g .service v refl .lane in omega arith
+
+module _ (s : Store) (k : LaneNo) (e : corruptOf s ≡ false) (h : k .0 < s .n) where
+  pub lane-bound : k .0 < 8
+  lane-bound = let g = sound s e .n-high in omega arith
+
+  pub lines-bound : s .c ≤ 8
+  lines-bound = sound s e .c-high
+
+  pub oldest-bound : placeAt (laneAt s (k .0) .order) 0 .0 < 8
+  oldest-bound = let g = sound s e in let p = g .lane (k .0) h .order .named 0 (g .c-low) in let q = g .c-high in omega arith
+
+  pub ready-bound : (o : Operation) → readyOf (laneAt s (k .0)) (s .control) ≡ Go o → blockOf (o .word) .0 < 64
+  unfolding readyOf
+  ready-bound o r =
+      let g = sound s e in
+      let p = g .lane (k .0) h .unserved o (ready-waits (laneAt s (k .0)) (s .control) (laneAt s (k .0) .waiting) o r) in
+      let q = g .m-high in
+      omega arith
+
+  pub head-bound : (laneAt s (k .0) .returns .len ≡ 0 → ⊥) → getD (laneAt s (k .0) .returns .at) 0 noReturn .block .0 < 64
+  head-bound n =
+      let g = sound s e in
+      let p = g .lane (k .0) h .returns .inside 0 (omega (arith, n)) in
+      let q = g .m-high in
+      omega arith
+
+  pub service-bound : laneBelow (s .control) 8
+  service-bound = below-eight (s .n) (s .m) (s .control) (sound s e .n-high) (sound s e .control)

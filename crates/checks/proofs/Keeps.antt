@@ -1,0 +1,75 @@
+-- Every step keeps a store that is not corrupt so, whatever its answer: who repeats steps pays 14 once.
+--
+-- Begin and deliver use a line, and a use moves places of a use order. In the definitions an order is a list of any length, and one
+-- that is a place short of c is not corrupt (a read past its end gives line 0) until a use carries a line past its end. So
+-- these two laws also want the 8 places of each lane's order. A store of the program has them (its arrays are of 8), an opening
+-- gives them and every step keeps them, corrupt or not. Assumes nothing.
+use Prim.Native.Nat.{ℕ, _<_, _≤_}
+use native.Mathlib.Omega.{arith}
+use mathlib.Core.Path.{_≡_}
+use mathlib.Core.Bool.{false}
+use lib.ListN.{length}
+use Rattle.words.specs.declared.LaneNo.{LaneNo}
+use Rattle.words.specs.declared.WordNo.{WordNo}
+use Rattle.words.specs.declared.Op.{Op}
+use Rattle.store.specs.declared.Store.{Store}
+use Rattle.store.specs.Opening.{badShape, freshOf}
+use Rattle.store.specs.Quiet.{laneAt}
+use Rattle.machine.specs.Corruption.{corruptOf}
+use Rattle.machine.specs.Begin.{beginOf}
+use Rattle.machine.specs.Serve.{serveOf}
+use Rattle.machine.specs.Return.{returnOf}
+use Rattle.machine.specs.Deliver.{deliverOf}
+use Rattle.checks.proofs.Tests.{on}
+use Rattle.checks.proofs.Sound.{sound, not-corrupt}
+use Rattle.checks.proofs.KeepsStore.{Fit}
+use Rattle.checks.proofs.KeepsBegin.{begin-fit}
+use Rattle.checks.proofs.KeepsServe.{serve-fit}
+use Rattle.checks.proofs.KeepsReturn.{return-fit}
+use Rattle.checks.proofs.KeepsDeliver.{deliver-fit}
+use Rattle.checks.proofs.KeepsOpen.{open-fit}
+
+-- the use order of each lane has its 8 places
+abbrev pub Whole : Store → Type 0
+Whole s = (k : ℕ) → k < s .n → 8 ≤ length (laneAt s k .order)
+
+fit : (s : Store) → corruptOf s ≡ false → Whole s → Fit 8 s
+fit s e w = record { sound = sound s e; long = w }
+
+-- a store of any lengths
+any-fit : (s : Store) → corruptOf s ≡ false → Fit 0 s
+any-fit s e = record { sound = sound s e; long = λ k h. omega arith }
+
+pub open-keeps : (n c m : ℕ) → badShape n c m ≡ false → corruptOf (freshOf n c m) ≡ false
+open-keeps n c m e = not-corrupt (freshOf n c m) (open-fit n c m e .sound)
+
+pub begin-keeps : (s : Store) (k : LaneNo) (op : Op) (w : WordNo) → corruptOf s ≡ false → Whole s → corruptOf (beginOf s k op w .store) ≡ false
+begin-keeps s k op w e h = not-corrupt (beginOf s k op w .store) (begin-fit 8 s k op w (sound s e .c-high) (fit s e h) .sound)
+
+pub serve-keeps : (s : Store) (k : LaneNo) → corruptOf s ≡ false → corruptOf (serveOf s k .store) ≡ false
+serve-keeps s k e = not-corrupt (serveOf s k .store) (serve-fit 0 s k (any-fit s e) .sound)
+
+pub return-keeps : (s : Store) (k : LaneNo) → corruptOf s ≡ false → corruptOf (returnOf s k .store) ≡ false
+return-keeps s k e = not-corrupt (returnOf s k .store) (return-fit 0 s k (any-fit s e) .sound)
+
+pub deliver-keeps : (s : Store) (k : LaneNo) → corruptOf s ≡ false → Whole s → corruptOf (deliverOf s k .store) ≡ false
+deliver-keeps s k e h = not-corrupt (deliverOf s k .store) (deliver-fit 8 s k (sound s e .c-high) (fit s e h) .sound)
+
+pub open-whole : (n c m : ℕ) → badShape n c m ≡ false → Whole (freshOf n c m)
+open-whole n c m e = open-fit n c m e .long
+
+pub begin-whole : (s : Store) (k : LaneNo) (op : Op) (w : WordNo) → Whole s → Whole (beginOf s k op w .store)
+unfolding beginOf
+begin-whole s k op w h = on (corruptOf s) (λ e. rw e h) (λ e. begin-fit 8 s k op w (sound s e .c-high) (fit s e h) .long)
+
+pub serve-whole : (s : Store) (k : LaneNo) → Whole s → Whole (serveOf s k .store)
+unfolding serveOf
+serve-whole s k h = on (corruptOf s) (λ e. rw e h) (λ e. serve-fit 8 s k (fit s e h) .long)
+
+pub return-whole : (s : Store) (k : LaneNo) → Whole s → Whole (returnOf s k .store)
+unfolding returnOf
+return-whole s k h = on (corruptOf s) (λ e. rw e h) (λ e. return-fit 8 s k (fit s e h) .long)
+
+pub deliver-whole : (s : Store) (k : LaneNo) → Whole s → Whole (deliverOf s k .store)
+unfolding deliverOf
+deliver-whole s k h = on (corruptOf s) (λ e. rw e h) (λ e. deliver-fit 8 s k (sound s e .c-high) (fit s e h) .long)

@@ -1,0 +1,4 @@
+pub mod Types
+pub mod Steady
+pub mod Going
+pub mod Enough

@@ -1,0 +1,3 @@
+pub mod Records
+pub mod Sheets
+pub mod Places

@@ -1,0 +1,51 @@
+-- `picture::picture` meets its contract. Assumes nothing.
+use native.Mathlib.Omega.{arith}
+use mathlib.Core.Path.{refl, sym, _∙_}
+use Rattle.checks.proofs.Sound.{sound}
+use Rattle.picture.proofs.Records.{valid-most, picture-length}
+use Rattle.picture.proofs.Sheets.{picture-corrupt, picture-short, picture-fits}
+use borrow.Author.Needs.{needs}
+use Rattle.picture.proofs.picture.Statement.{statement}
+use Rattle.picture.proofs.picture.Tie as tie
+
+corrupt-requires : tie.Need-corrupt-requires
+corrupt-requires c κs = search needs
+
+returns : tie.Need-returns
+returns c = rw (picture-corrupt _ _ (sym (c .before .corrupt .ensures) ∙ c .if1 .taken)) (refl, refl)
+
+valid-lines-requires : tie.Need-valid-lines-requires
+valid-lines-requires c κs = let s = sound (c .before .before .before .args .s) (sym (c .before .corrupt .ensures) ∙ c .if1 .left) in (s .n-high, s .c-high)
+
+mul-needed : tie.Need-mul-needed
+mul-needed c = let s = sound (c .before .before .before .before .args .s) (sym (c .before .before .corrupt .ensures) ∙ c .before .if1 .left) in
+    let v = valid-most (c .before .before .before .before .args .s) (c .before .before .before .before .args .s .n) (s .c-high) in
+    let n = s .n-high in omega arith
+
+returns-2 : tie.Need-returns-2
+returns-2 c = let l = picture-length (c .before .before .before .before .before .args .s) in
+    rw (picture-short (c .before .before .before .before .before .args .s) (c .before .before .before .before .before .args .buffer .now) (sym (c .before .before .before .corrupt .ensures) ∙ c .before .before .if1 .left) (omega arith)) (refl, refl)
+
+write-lanes-requires : tie.Need-write-lanes-requires
+write-lanes-requires c κs = let s = sound (c .before .before .before .before .before .before .args .s) (sym (c .before .before .before .before .corrupt .ensures) ∙ c .before .before .before .if1 .left) in
+    let l = picture-length (c .before .before .before .before .before .before .args .s) in (s .n-high, s .c-high, omega arith)
+
+same-length : tie.Need-same-length
+same-length c = search needs
+
+returns-3 : tie.Need-returns-3
+returns-3 c = let l = picture-length (c .before .before .before .before .before .before .before .before .before .args .s) in
+    rw (picture-fits (c .before .before .before .before .before .before .before .before .before .args .s) (c .before .before .before .before .before .before .before .before .before .args .buffer .now) (sym (c .before .before .before .before .before .before .before .corrupt .ensures) ∙ c .before .before .before .before .before .before .if1 .left) (omega arith)) (rw (c .before .before .write-lanes .ensures .0), c .before .before .write-lanes .ensures .1)
+
+pub picture-spec : {M : Type 1} → statement M
+picture-spec =
+    tie.close
+    (tie.spec
+    corrupt-requires
+    returns
+    valid-lines-requires
+    mul-needed
+    returns-2
+    write-lanes-requires
+    same-length
+    returns-3)

@@ -1,0 +1,67 @@
+-- `picture::write_lane` meets its contract. Assumes nothing.
+use Rattle.picture.proofs.Records.{gather-none, gather-next, wrote-more, wrote-kept}
+use native.Mathlib.Omega.{arith}
+use Prim.Native.Nat.{_-_, _≤_}
+use borrow.Author.Needs.{needs}
+use mathlib.Core.Path.{_≡_}
+use lib.ListN.{getD}
+use Rattle.words.specs.Lines.{noLine}
+use Rattle.text.proofs.Writing.{Wrote, written-none}
+use Rattle.picture.specs.Records.{lineRecord, laneRecords}
+use Rattle.picture.proofs.Records.{gather-none, gather-next, wrote-more}
+use Rattle.picture.proofs.write_lane.Statement.{statement}
+use Rattle.picture.proofs.write_lane.Tie as tie
+
+abbrev Inv-loop : tie.InvT-loop
+Inv-loop buffer₀ at k c l place₀ i₀ buffer place i = (i ≤ c) × Wrote buffer₀ at (laneRecords (k .0) l i) place buffer
+
+abbrev μ-loop : tie.MeasureT-loop
+μ-loop buffer₀ at k c l place₀ i₀ buffer place i = c - i
+
+loop-holds : tie.Need-loop-holds Inv-loop μ-loop
+loop-holds c = (omega arith, rw (gather-none (λ i. lineRecord (c .before .args .k .0) (getD (c .before .args .t4 .lines) i noLine))) (omega arith, written-none _ _))
+
+cast-j : tie.Need-cast-j Inv-loop μ-loop
+cast-j c = search needs
+
+mul-x : tie.Need-mul-x Inv-loop μ-loop
+mul-x c = search needs
+
+element-copy-out-x : tie.Need-element-copy-out-x Inv-loop μ-loop
+element-copy-out-x c = search needs
+
+write-line-requires : tie.Need-write-line-requires Inv-loop μ-loop
+write-line-requires c κs = let g = gather-next (λ i. lineRecord (c .before .before .before .before .before .args .k .0) (getD (c .before .before .before .before .before .args .t4 .lines) i noLine)) (c .before .before .before .loop .i) (c .before .before .before .before .before .args .c) (c .before .before .loop-test .taken) in
+    let e = wrote-kept (λ i. lineRecord (c .before .before .before .before .before .args .k .0) (getD (c .before .before .before .before .before .args .t4 .lines) i noLine)) (c .before .before .before .loop .i) (c .before .before .before .before .before .args .c) (c .before .before .before .before .before .args .buffer .now) (c .before .before .before .before .before .args .at) (c .before .before .before .loop .inv .1) (c .before .before .before .loop .inv .0) (c .before .before .before .before .before .pre .1) in omega arith
+
+add-i : tie.Need-add-i Inv-loop μ-loop
+add-i c = search needs
+
+loop-less : tie.Need-loop-less Inv-loop μ-loop
+loop-less c = search needs
+
+loop-again : tie.Need-loop-again Inv-loop μ-loop
+loop-again c = (omega arith, wrote-more _ _ (c .before .before .before .before .before .before .before .before .args .c) _ _ (c .before .before .before .before .before .before .loop .inv .1) (c .before .before .write-line .ensures) (omega arith) (c .before .before .before .before .before .before .before .before .pre .1))
+
+same-length : tie.Need-same-length Inv-loop μ-loop
+same-length c = wrote-kept (λ i. lineRecord (c .before .before .before .args .k .0) (getD (c .before .before .before .args .t4 .lines) i noLine)) (c .before .loop .i) (c .before .before .before .args .c) (c .before .before .before .args .buffer .now) (c .before .before .before .args .at) (c .before .loop .inv .1) (c .before .loop .inv .0) (c .before .before .before .pre .1)
+
+returns : tie.Need-returns Inv-loop μ-loop
+returns c = let e : c .before .loop .i ≡ c .before .before .before .args .c = omega arith in rw (← e) (c .before .loop .inv .1)
+
+pub write-lane-spec : {M : Type 1} → statement M
+write-lane-spec =
+    tie.close
+    (tie.spec
+    Inv-loop
+    μ-loop
+    loop-holds
+    cast-j
+    mul-x
+    element-copy-out-x
+    write-line-requires
+    add-i
+    loop-less
+    loop-again
+    same-length
+    returns)

@@ -1,0 +1,50 @@
+-- `picture::write_line` meets its contract. Assumes nothing.
+use Prim.Native.Nat.{_+_, _≤_}
+use lib.ListN.{length, length-take, length-drop}
+use Rattle.picture.proofs.Records.{part-written, line-valid, line-invalid, valid-length}
+use native.Mathlib.Omega.{arith}
+use Rattle.text.proofs.Writing.{written-none}
+use Rattle.picture.proofs.Records.{record-length, part-written}
+use lib.ListN.{length}
+use borrow.Author.Needs.{needs}
+use Rattle.picture.proofs.write_line.Statement.{statement}
+use Rattle.picture.proofs.write_line.Tie as tie
+
+sub-write-record : tie.Need-sub-write-record
+sub-write-record c = search needs
+
+part-write-record-start : tie.Need-part-write-record-start
+part-write-record-start c = search needs
+
+part-write-record-end : tie.Need-part-write-record-end
+part-write-record-end c = search needs
+
+write-record-requires : tie.Need-write-record-requires
+write-record-requires c κs = let l = valid-length (c .before .before .before .args .k .0) (c .before .before .before .args .x) (c .before .if1 .taken) in simp (length-take, length-drop) (omega arith)
+
+add-result : tie.Need-add-result
+add-result c = search needs
+
+same-length : tie.Need-same-length
+same-length c = search needs
+
+returns : tie.Need-returns
+returns c = let l = valid-length (c .before .before .before .before .before .before .args .k .0) (c .before .before .before .before .before .before .args .x) (c .before .before .before .before .if1 .taken) in
+    let e : c .before .before .before .before .before .before .args .at + 19 ≤ length (c .before .before .before .before .before .before .args .buffer .now) = omega arith in
+    rw (line-valid (c .before .before .before .before .before .before .args .k .0) (c .before .before .before .before .before .before .args .x) (c .before .before .before .before .if1 .taken)) (omega (arith, record-length (c .before .before .before .before .before .before .args .k .0) (c .before .before .before .before .before .before .args .x)), part-written _ _ _ (omega arith) (c .before .before .write-record .ensures))
+
+returns-2 : tie.Need-returns-2
+returns-2 c = rw (line-invalid (c .before .before .args .k .0) (c .before .before .args .x) (c .if1 .left)) (omega arith, written-none _ _)
+
+pub write-line-spec : {M : Type 1} → statement M
+write-line-spec =
+    tie.close
+    (tie.spec
+    sub-write-record
+    part-write-record-start
+    part-write-record-end
+    write-record-requires
+    add-result
+    same-length
+    returns
+    returns-2)

@@ -1,0 +1,152 @@
+// The picture: a record of 19 bytes for each valid line, into a lent buffer.
+// Only `picture` is open to others; the other functions require what it has checked.
+ghost use mathlib.Core.Path.{_≡_};
+ghost use mathlib.Core.Bool.{cond};
+ghost use Prim.Native.Nat.{_+_, _≤_};
+ghost use lib.ListN.{length};
+ghost use Rattle.text.specs.Written.{written};
+ghost use Rattle.machine.specs.Picture.{wordBytes, recordBytes, pictureBytes, pictureOf};
+ghost use Rattle.picture.specs.Records.{lineRecord, laneRecords, validIn, validOf};
+use answers::Refusal;
+use lanes::Lane;
+use machine::Pictured;
+use store::Store;
+use words::LaneNo;
+use words::Line;
+
+// The length of a record.
+const RECORD: usize = 19;
+
+// 1 for a valid line.
+fn one(l: Line) -> usize
+    ensures { λ r. ⌜ r ≡ cond (l .valid) 1 0 ⌝ }
+{
+    if l.valid {
+        return 1;
+    }
+    0
+}
+
+// How many of the first c lines of a lane are valid.
+fn valid_in(l: Lane, c: u8) -> usize
+    requires { ⌜ c ≤ 8 ⌝ }
+    ensures { λ r. ⌜ r ≡ validIn l c ⌝ }
+{
+    let mut count: usize = 0;
+    let mut i: u8 = 0;
+    while i < c {
+        let j = i as usize;
+        let x = l.lines[j];
+        let more = one(x);
+        count += more;
+        i += 1;
+    }
+    count
+}
+
+// How many lines are valid.
+fn valid_lines(s: Store) -> usize
+    requires { ⌜ (s .n ≤ 8) × (s .c ≤ 8) ⌝ }
+    ensures { λ r. ⌜ r ≡ validOf s ⌝ }
+{
+    let n = s.n;
+    let c = s.c;
+    let mut count: usize = 0;
+    let mut k: u8 = 0;
+    while k < n {
+        let i = k as usize;
+        let l = s.lanes[i];
+        let more = valid_in(l, c);
+        count += more;
+        k += 1;
+    }
+    count
+}
+
+// A word in four bytes, low byte first.
+fn write_word(part: &mut [u8], at: usize, x: u32) -> usize
+    requires { ⌜ at + 4 ≤ length (now part) ⌝ }
+    ensures { λ r. ⌜ (r ≡ at + 4) × (now (part .exit) ≡ written (now (part .entry)) at (wordBytes x)) ⌝ }
+{
+    let a = (x % 256) as u8;
+    let b = (x / 256 % 256) as u8;
+    let c = (x / 65536 % 256) as u8;
+    let d = (x / 16777216 % 256) as u8;
+    text::put4(part, at, a, b, c, d)
+}
+
+// A record, from the start of a part of the buffer on.
+fn write_record(part: &mut [u8], k: LaneNo, x: Line)
+    requires { ⌜ 19 ≤ length (now part) ⌝ }
+    ensures { λ _. ⌜ now (part .exit) ≡ written (now (part .entry)) 0 (recordBytes (k .0) x) ⌝ }
+{
+    let first = text::put3(part, 0, 16, k.0, x.block.0);
+    let second = write_word(part, first, x.words[0]);
+    let third = write_word(part, second, x.words[1]);
+    let fourth = write_word(part, third, x.words[2]);
+    write_word(part, fourth, x.words[3]);
+}
+
+// The record of a line, where it is valid, into the part of the buffer that starts at its offset; the next offset.
+fn write_line(buffer: &mut [u8], at: usize, k: LaneNo, x: Line) -> usize
+    requires { ⌜ at + length (lineRecord (k .0) x) ≤ length (now buffer) ⌝ }
+    ensures { λ r. ⌜ (r ≡ at + length (lineRecord (k .0) x)) × (now (buffer .exit) ≡ written (now (buffer .entry)) at (lineRecord (k .0) x)) ⌝ }
+{
+    if x.valid {
+        write_record(&mut buffer[at..], k, x);
+        return at + RECORD;
+    }
+    at
+}
+
+// The records of lane k.
+fn write_lane(buffer: &mut [u8], at: usize, k: LaneNo, l: Lane, c: u8) -> usize
+    requires { ⌜ (c ≤ 8) × (at + length (laneRecords (k .0) l c) ≤ length (now buffer)) ⌝ }
+    ensures { λ r. ⌜ (r ≡ at + length (laneRecords (k .0) l c)) × (now (buffer .exit) ≡ written (now (buffer .entry)) at (laneRecords (k .0) l c)) ⌝ }
+{
+    let mut place = at;
+    let mut i: u8 = 0;
+    while i < c {
+        let j = i as usize;
+        let x = l.lines[j];
+        let next = write_line(buffer, place, k, x);
+        place = next;
+        i += 1;
+    }
+    place
+}
+
+// The records of all lanes.
+fn write_lanes(buffer: &mut [u8], s: Store) -> usize
+    requires { ⌜ (s .n ≤ 8) × (s .c ≤ 8) × (length (pictureBytes s) ≤ length (now buffer)) ⌝ }
+    ensures { λ r. ⌜ (r ≡ length (pictureBytes s)) × (now (buffer .exit) ≡ written (now (buffer .entry)) 0 (pictureBytes s)) ⌝ }
+{
+    let n = s.n;
+    let c = s.c;
+    let mut place: usize = 0;
+    let mut k: u8 = 0;
+    while k < n {
+        let i = k as usize;
+        let l = s.lanes[i];
+        let next = write_lane(buffer, place, LaneNo(k), l, c);
+        place = next;
+        k += 1;
+    }
+    place
+}
+
+// Picture.
+pub fn picture(s: Store, buffer: &mut [u8]) -> Pictured
+    ensures { λ r. ⌜ (r ≡ pictureOf s (now (buffer .entry)) .answer) × (now (buffer .exit) ≡ pictureOf s (now (buffer .entry)) .buffer) ⌝ }
+{
+    if checks::corrupt(s) {
+        return Pictured::Refused(Refusal::Corrupt);
+    }
+    let lines = valid_lines(s);
+    let needed = RECORD * lines;
+    if buffer.len() < needed {
+        return Pictured::Refused(Refusal::BufferTooShort);
+    }
+    let end = write_lanes(buffer, s);
+    Pictured::Length(end)
+}

@@ -1,0 +1,54 @@
+-- `tape::open_record` meets its contract. Assumes nothing.
+use borrow.Author.Tests.{eq-eqb, ne-eqb}
+use Rattle.machine.specs.Tape.{openRecord}
+use borrow.Author.Needs.{needs}
+use Rattle.tape.proofs.open_record.Statement.{statement}
+use Rattle.tape.proofs.open_record.Tie as tie
+
+shared-slice-read-n : tie.Need-shared-slice-read-n
+shared-slice-read-n c = search needs
+
+shared-slice-read-c : tie.Need-shared-slice-read-c
+shared-slice-read-c c = search needs
+
+shared-slice-read-m : tie.Need-shared-slice-read-m
+shared-slice-read-m c = search needs
+
+bad-shape-requires : tie.Need-bad-shape-requires
+bad-shape-requires c κs = search needs
+
+refused-requires : tie.Need-refused-requires
+refused-requires c κs = search needs
+
+returns : tie.Need-returns
+unfolding openRecord
+returns c = rw (openRecord, eq-eqb _ _ (c .before .before .before .before .before .before .if1 .taken), ← c .before .before .bad-shape .ensures, c .before .if2 .taken, c .refused .ensures)
+
+fresh-requires : tie.Need-fresh-requires
+fresh-requires c κs = search needs
+
+returns-2 : tie.Need-returns-2
+unfolding openRecord
+returns-2 c = rw (openRecord, eq-eqb _ _ (c .before .before .before .before .before .before .if1 .taken), ← c .before .before .bad-shape .ensures, c .before .if2 .left, c .fresh .ensures)
+
+refused-requires-2 : tie.Need-refused-requires-2
+refused-requires-2 c κs = search needs
+
+returns-3 : tie.Need-returns-3
+unfolding openRecord
+returns-3 c = rw (openRecord, ne-eqb _ _ (c .before .if1 .left), c .refused2 .ensures)
+
+pub open-record-spec : {M : Type 1} → statement M
+open-record-spec =
+    tie.close
+    (tie.spec
+    shared-slice-read-n
+    shared-slice-read-c
+    shared-slice-read-m
+    bad-shape-requires
+    refused-requires
+    returns
+    fresh-requires
+    returns-2
+    refused-requires-2
+    returns-3)

@@ -1,0 +1,35 @@
+-- `text::done_into` meets its contract. Assumes nothing.
+use native.Mathlib.Omega.{arith}
+use Rattle.text.proofs.Writing.{wrote-then}
+use Rattle.text.proofs.Decimals.{decimal-fits}
+use Rattle.machine.specs.Text.{answerText}
+use lib.ListN.{length-append}
+use borrow.Author.Needs.{needs}
+use Rattle.text.proofs.done_into.Statement.{statement}
+use Rattle.text.proofs.done_into.Tie as tie
+
+put4-requires : tie.Need-put4-requires
+put4-requires c κs = search needs
+
+cast-k : tie.Need-cast-k
+cast-k c = search needs
+
+spaced-into-requires : tie.Need-spaced-into-requires
+spaced-into-requires c κs = search needs
+
+spaced-into-requires-2 : tie.Need-spaced-into-requires-2
+spaced-into-requires-2 c κs = omega (arith, decimal-fits 10 (c .before .before .before .before .before .before .before .before .before .before .before .args .x .lane .0))
+
+same-length : tie.Need-same-length
+same-length c = search needs
+
+returns : tie.Need-returns
+unfolding answerText
+returns c = let k = decimal-fits 10 (c .before .before .before .before .before .before .before .before .before .before .before .before .before .before .args .x .lane .0) in
+    let v = decimal-fits 10 (c .before .before .before .before .before .before .before .before .before .before .before .before .before .before .args .x .value) in
+    wrote-then _ _ _ _ (c .before .before .before .before .before .before .before .before .before .before .before .put4 .ensures) (wrote-then _ _ _ _ (c .before .before .before .before .before .before .spaced-into .ensures) (c .before .before .spaced-into2 .ensures) (omega arith)) (simp length-append (omega arith))
+
+pub done-into-spec : {M : Type 1} → statement M
+done-into-spec =
+    tie.close
+    (tie.spec put4-requires cast-k spaced-into-requires spaced-into-requires-2 same-length returns)

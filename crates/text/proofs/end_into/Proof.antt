@@ -1,0 +1,30 @@
+-- `text::end_into` meets its contract. Assumes nothing.
+use native.Mathlib.Omega.{arith}
+use Rattle.text.proofs.Writing.{wrote-then}
+use Rattle.text.proofs.Decimals.{decimal-fits}
+use Rattle.machine.specs.Text.{endText}
+use lib.ListN.{length-append}
+use borrow.Author.Needs.{needs}
+use Rattle.text.proofs.end_into.Statement.{statement}
+use Rattle.text.proofs.end_into.Tie as tie
+
+put3-requires : tie.Need-put3-requires
+put3-requires c κs = search needs
+
+spaced-into-requires : tie.Need-spaced-into-requires
+spaced-into-requires c κs = search needs
+
+put-requires : tie.Need-put-requires
+put-requires c κs = omega (arith, decimal-fits 10 (c .before .before .before .before .before .before .before .before .before .before .args .count))
+
+same-length : tie.Need-same-length
+same-length c = search needs
+
+returns : tie.Need-returns
+unfolding endText
+returns c = let n = decimal-fits 10 (c .before .before .before .before .before .before .before .before .before .before .before .before .before .args .count) in
+    wrote-then _ _ _ _ (c .before .before .before .before .before .before .before .before .before .before .put3 .ensures) (wrote-then _ _ _ _ (c .before .before .before .before .before .before .spaced-into .ensures) (c .before .before .put .ensures) (omega arith)) (simp length-append (omega arith))
+
+pub end-into-spec : {M : Type 1} → statement M
+end-into-spec =
+    tie.close (tie.spec put3-requires spaced-into-requires put-requires same-length returns)

@@ -1,0 +1,43 @@
+-- `text::refused_into` meets its contract. Assumes nothing.
+use native.Mathlib.Omega.{arith}
+use Rattle.text.proofs.Writing.{wrote-then}
+use Rattle.text.proofs.Decimals.{decimal-fits}
+use Rattle.answers.specs.Refusals.{numberOf}
+use borrow.Author.Needs.{needs}
+use Rattle.text.proofs.refused_into.Statement.{statement}
+use Rattle.text.proofs.refused_into.Tie as tie
+
+put4-requires : tie.Need-put4-requires
+put4-requires c κs = search needs
+
+put3-requires : tie.Need-put3-requires
+put3-requires c κs = search needs
+
+number-requires : tie.Need-number-requires
+number-requires c κs = search needs
+
+cast-n : tie.Need-cast-n
+cast-n c = search needs
+
+spaced-into-requires : tie.Need-spaced-into-requires
+spaced-into-requires c κs = search needs
+
+same-length : tie.Need-same-length
+same-length c = search needs
+
+returns : tie.Need-returns
+returns c = let n = decimal-fits 10 (numberOf (c .before .before .before .before .before .before .before .before .before .before .before .before .before .before .args .x)) in
+    let number = rw (c .before .before .before .before .number .ensures) at (c .before .before .spaced-into .ensures) in
+    wrote-then _ _ _ _ (c .before .before .before .before .before .before .before .before .before .before .before .put4 .ensures) (wrote-then _ _ _ _ (c .before .before .before .before .before .before .before .put3 .ensures) number (omega arith)) (omega arith)
+
+pub refused-into-spec : {M : Type 1} → statement M
+refused-into-spec =
+    tie.close
+    (tie.spec
+    put4-requires
+    put3-requires
+    number-requires
+    cast-n
+    spaced-into-requires
+    same-length
+    returns)

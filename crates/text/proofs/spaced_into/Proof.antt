@@ -1,0 +1,22 @@
+-- `text::spaced_into` meets its contract. Assumes nothing.
+use native.Mathlib.Omega.{arith}
+use Rattle.text.proofs.Writing.{wrote-then}
+use Rattle.text.proofs.Decimals.{decimal-fits}
+use borrow.Author.Needs.{needs}
+use Rattle.text.proofs.spaced_into.Statement.{statement}
+use Rattle.text.proofs.spaced_into.Tie as tie
+
+put-requires : tie.Need-put-requires
+put-requires c κs = search needs
+
+decimal-in-requires : tie.Need-decimal-in-requires
+decimal-in-requires c κs = search needs
+
+same-length : tie.Need-same-length
+same-length c = search needs
+
+returns : tie.Need-returns
+returns c = wrote-then _ _ _ _ (c .before .before .before .before .before .before .put .ensures) (c .before .before .decimal-in .ensures) (omega (arith, decimal-fits 10 (c .before .before .before .before .before .before .before .before .before .args .n)))
+
+pub spaced-into-spec : {M : Type 1} → statement M
+spaced-into-spec = tie.close (tie.spec put-requires decimal-in-requires same-length returns)

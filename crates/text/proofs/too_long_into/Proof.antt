@@ -1,0 +1,22 @@
+-- `text::too_long_into` meets its contract. Assumes nothing.
+use native.Mathlib.Omega.{arith}
+use Rattle.text.proofs.Writing.{wrote-then}
+use Rattle.text.proofs.Decimals.{decimal-fits}
+use borrow.Author.Needs.{needs}
+use Rattle.text.proofs.too_long_into.Statement.{statement}
+use Rattle.text.proofs.too_long_into.Tie as tie
+
+refused-into-requires : tie.Need-refused-into-requires
+refused-into-requires c κs = search needs
+
+put-requires : tie.Need-put-requires
+put-requires c κs = omega (arith, decimal-fits 10 13)
+
+same-length : tie.Need-same-length
+same-length c = search needs
+
+returns : tie.Need-returns
+returns c = wrote-then _ _ _ _ (c .before .before .before .before .before .before .refused-into .ensures) (c .before .before .put .ensures) (omega (arith, decimal-fits 10 13))
+
+pub too-long-into-spec : {M : Type 1} → statement M
+too-long-into-spec = tie.close (tie.spec refused-into-requires put-requires same-length returns)
