@@ -10,7 +10,6 @@ ghost use Rattle.machine.specs.Begin.{beginOf};
 ghost use Rattle.machine.specs.Serve.{serveOf};
 ghost use Rattle.machine.specs.Return.{returnOf};
 ghost use Rattle.machine.specs.Deliver.{deliverOf};
-
 use answers::Answer;
 use answers::Refusal;
 use machine::Ready;

@@ -423,14 +423,12 @@ pub fn commit_lane(s: Store, k: LaneNo, p: LaneStep) -> Outcome
     }
 }
 
-// Whether the message goes to lane i, and its down queue is full.
-fn blocked(to: [bool; 8], ls: [Lane; 8], i: usize) -> bool
-    requires { ⌜ i < 8 ⌝ }
-    ensures { λ r. ⌜ r ≡ (goesTo to i && fullAt (getD ls i noLane .downs .len)) ⌝ }
+// Whether a message goes to a lane whose down queue has len messages and takes no more.
+fn blocked(goes: bool, len: u8) -> bool
+    ensures { λ r. ⌜ r ≡ (goes && fullAt len) ⌝ }
 {
-    if to[i] {
-        let l = ls[i];
-        return CAPACITY <= l.downs.len;
+    if goes {
+        return CAPACITY <= len;
     }
     false
 }
@@ -441,7 +439,8 @@ fn some_full(to: [bool; 8], ls: [Lane; 8]) -> bool
 {
     let mut i: usize = 0;
     while i < 8 {
-        if blocked(to, ls, i) {
+        let len = ls[i].downs.len;
+        if blocked(to[i], len) {
             return true;
         }
         i += 1;
@@ -461,30 +460,26 @@ fn post(x: DownMessage, l: Lane) -> Lane
     t
 }
 
-// .. of lane i, if it goes there.
-fn post_to(to: [bool; 8], x: DownMessage, i: usize, ls: [Lane; 8]) -> [Lane; 8]
-    requires { ⌜ i < 8 ⌝ }
-    ensures { λ r. ⌜ r ≡ postTo to x i ls ⌝ }
+// .. if it goes there.
+fn post_if(goes: bool, x: DownMessage, l: Lane) -> Lane
+    ensures { λ r. ⌜ r ≡ cond goes (posted x l) l ⌝ }
 {
-    if to[i] {
-        let l = ls[i];
-        let p = post(x, l);
-        let mut t = ls;
-        t[i] = p;
-        return t;
+    if goes {
+        return post(x, l);
     }
-    ls
+    l
 }
 
-// .. of each lane that it goes to.
+// .. of each lane that it goes to, in a copy of the lanes that is changed in place.
 fn post_all(to: [bool; 8], x: DownMessage, lanes: [Lane; 8]) -> [Lane; 8]
     ensures { λ r. ⌜ r ≡ postAll to x lanes ⌝ }
 {
     let mut ls = lanes;
     let mut j: usize = 0;
     while j < 8 {
-        let t = post_to(to, x, j, ls);
-        ls = t;
+        let l = ls[j];
+        let t = post_if(to[j], x, l);
+        ls[j] = t;
         j += 1;
     }
     ls

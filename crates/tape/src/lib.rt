@@ -19,12 +19,19 @@ use words::WordNo;
 
 // The kinds of record.
 pub const OPEN: u8 = 0;
+
 pub const LOAD: u8 = 1;
+
 pub const STORE: u8 = 2;
+
 pub const EXCHANGE: u8 = 3;
+
 pub const ADD: u8 = 4;
+
 pub const SERVE: u8 = 5;
+
 pub const RETURN: u8 = 6;
+
 pub const DELIVER: u8 = 7;
 
 // What a record does.

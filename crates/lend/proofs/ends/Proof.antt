@@ -1,14 +1,11 @@
+-- `lend::ends` meets its contract. Assumes nothing.
 use borrow.Author.Tests.{eq-eqb, ne-eqb}
 use Rattle.lend.proofs.ends.Statement.{statement}
 use Rattle.lend.proofs.ends.Tie as tie
-use Rattle.lend.proofs.ends.Reads as reads
-use Rattle.lend.proofs.ends.Lts as lts
 
--- src/lib.rt:37:9
 returns : tie.Need-returns
 returns c = rw (eq-eqb _ _ (c .if1 .taken))
 
--- src/lib.rt:33:1
 returns-2 : tie.Need-returns-2
 returns-2 c = rw (ne-eqb _ _ (c .if1 .left))
 

@@ -1,3 +1,4 @@
+-- `lend::replay` meets its contract. Assumes nothing.
 use borrow.Author.Needs.{needs}
 use Prim.Native.Nat.{_-_, _+_, _<_, _≤_}
 use native.Mathlib.Omega.{arith}
@@ -12,12 +13,6 @@ use Rattle.lend.specs.Replays.{endsCode}
 use Rattle.lend.proofs.Going.{Going, going-start, going-full, going-read, going-last, going-next, code-ends, field-at}
 use Rattle.lend.proofs.replay.Statement.{statement}
 use Rattle.lend.proofs.replay.Tie as tie
-use Rattle.lend.proofs.replay.Reads as reads
-use Rattle.lend.proofs.replay.Lts as lts
-use Rattle.lend.proofs.ends.Reads as ends-reads
-use Rattle.lend.proofs.lend_store.Reads as lend-store-reads
-use Rattle.lend.proofs.size.Reads as size-reads
-use Rattle.store.proofs.fresh.Reads as fresh-reads
 
 abbrev Inv-loop : tie.InvT-loop
 Inv-loop tape lines₀ s₀ at₀ i₀ lines s at i = Going tape lines₀ lines i at s
@@ -25,74 +20,57 @@ Inv-loop tape lines₀ s₀ at₀ i₀ lines s at i = Going tape lines₀ lines 
 abbrev μ-loop : tie.MeasureT-loop
 μ-loop tape lines₀ s₀ at₀ i₀ lines s at i = length lines₀ - i
 
--- src/lib.rt:64:9
 fresh-requires : tie.Need-fresh-requires Inv-loop μ-loop
 fresh-requires c κs = search needs
 
--- src/lib.rt:67:5
 loop-holds : tie.Need-loop-holds Inv-loop μ-loop
 loop-holds c = rw (c .fresh .ensures) (going-start _ _)
 
--- src/lib.rt:69:13
 same-length : tie.Need-same-length Inv-loop μ-loop
 same-length c = c .before .before .loop .inv .same
 
--- src/lib.rt:69:13
 returns : tie.Need-returns Inv-loop μ-loop
 returns c = going-read (c .before .before .before .before .before .before .args .tape .now) (c .before .before .before .before .before .before .args .lines .now) (c .before .before .loop .lines) (c .before .before .loop .i) (c .before .before .loop .at) (c .before .before .loop .s) (c .before .before .loop .inv) (c .if1 .taken)
 
--- src/lib.rt:71:31
 sub-lend-store : tie.Need-sub-lend-store Inv-loop μ-loop
 sub-lend-store c = omega (arith, c .before .before .loop .inv .inside)
 
--- src/lib.rt:71:31
 part-lend-store-start : tie.Need-part-lend-store-start Inv-loop μ-loop
 part-lend-store-start c = omega (arith, c .before .before .loop .inv .inside)
 
--- src/lib.rt:71:31
 part-lend-store-end : tie.Need-part-lend-store-end Inv-loop μ-loop
 part-lend-store-end c = search needs
 
--- src/lib.rt:71:13
 lend-store-requires : tie.Need-lend-store-requires Inv-loop μ-loop
 lend-store-requires c κs = c .before .before .before .loop .inv .tapes .steady
 
--- src/lib.rt:75:9
 mul-lines : tie.Need-mul-lines Inv-loop μ-loop
 mul-lines c = search needs
 
--- src/lib.rt:75:9
 slice-write-lines : tie.Need-slice-write-lines Inv-loop μ-loop
 slice-write-lines c = search needs
 
--- src/lib.rt:76:9
 add-i : tie.Need-add-i Inv-loop μ-loop
 add-i c = search needs
 
--- src/lib.rt:77:12
 ends-requires : tie.Need-ends-requires Inv-loop μ-loop
 ends-requires c κs = search needs
 
--- src/lib.rt:78:13
 same-length-2 : tie.Need-same-length-2 Inv-loop μ-loop
 same-length-2 c = simp length-set (c .before .before .before .before .before .before .before .loop .inv .same)
 
--- src/lib.rt:78:13
 returns-2 : tie.Need-returns-2 Inv-loop μ-loop
 returns-2 c = let room : c .before .before .before .before .before .before .before .loop .i < length (c .before .before .before .before .before .before .before .before .before .before .before .args .lines .now) = omega (arith, c .before .before .before .before .before .before .before .loop .inv .same) in
     let q : c .before .before .before .lend-store .result ≡ codedOf (recordOf (c .before .before .before .before .before .before .before .loop .s) (drop (c .before .before .before .before .before .before .before .loop .at) (c .before .before .before .before .before .before .before .before .before .before .before .args .tape .now))) = c .before .before .before .lend-store .ensures ∙ rw (rest-is (c .before .before .before .before .before .before .before .loop .at) (c .before .before .before .before .before .before .before .before .before .before .before .args .tape .now)) in
     let e : endsTape (recordOf (c .before .before .before .before .before .before .before .loop .s) (drop (c .before .before .before .before .before .before .before .loop .at) (c .before .before .before .before .before .before .before .before .before .before .before .args .tape .now)) .answer) ≡ true = code-ends (recordOf (c .before .before .before .before .before .before .before .loop .s) (drop (c .before .before .before .before .before .before .before .loop .at) (c .before .before .before .before .before .before .before .before .before .before .before .args .tape .now)) .answer) ∙ (sym (ap (λ (x : Coded). endsCode (x .code)) q) ∙ (sym (c .before .ends .ensures) ∙ c .if2 .taken)) in
     rw q (going-last (c .before .before .before .before .before .before .before .before .before .before .before .args .tape .now) (c .before .before .before .before .before .before .before .before .before .before .before .args .lines .now) (c .before .before .before .before .before .before .before .loop .lines) (c .before .before .before .before .before .before .before .loop .i) (c .before .before .before .before .before .before .before .loop .at) (c .before .before .before .before .before .before .before .loop .s) (c .before .before .before .before .before .before .before .loop .inv) room (c .before .before .before .before .before .if1 .left) e)
 
--- src/lib.rt:80:22
 shared-slice-read-size : tie.Need-shared-slice-read-size Inv-loop μ-loop
 shared-slice-read-size c = search needs
 
--- src/lib.rt:80:13
 size-requires : tie.Need-size-requires Inv-loop μ-loop
 size-requires c κs = search needs
 
--- src/lib.rt:81:9
 add-at : tie.Need-add-at Inv-loop μ-loop
 add-at c = let room : c .before .before .before .before .before .before .before .before .before .loop .i < length (c .before .before .before .before .before .before .before .before .before .before .before .before .before .args .lines .now) = omega (arith, c .before .before .before .before .before .before .before .before .before .loop .inv .same) in
     let q : c .before .before .before .before .before .lend-store .result ≡ codedOf (recordOf (c .before .before .before .before .before .before .before .before .before .loop .s) (drop (c .before .before .before .before .before .before .before .before .before .loop .at) (c .before .before .before .before .before .before .before .before .before .before .before .before .before .args .tape .now))) = c .before .before .before .before .before .lend-store .ensures ∙ rw (rest-is (c .before .before .before .before .before .before .before .before .before .loop .at) (c .before .before .before .before .before .before .before .before .before .before .before .before .before .args .tape .now)) in
@@ -100,22 +78,18 @@ add-at c = let room : c .before .before .before .before .before .before .before 
     let h : c .before .before .before .before .before .before .before .before .before .loop .at + c .size .result ≤ length (c .before .before .before .before .before .before .before .before .before .before .before .before .before .args .tape .now) = rw (c .size .ensures, ← field-at (c .before .before .before .before .before .before .before .before .before .before .before .before .before .args .tape .now) (c .before .before .before .before .before .before .before .before .before .loop .at)) ((going-next (c .before .before .before .before .before .before .before .before .before .before .before .before .before .args .tape .now) (c .before .before .before .before .before .before .before .before .before .before .before .before .before .args .lines .now) (c .before .before .before .before .before .before .before .before .before .loop .lines) (c .before .before .before .before .before .before .before .before .before .loop .i) (c .before .before .before .before .before .before .before .before .before .loop .at) (c .before .before .before .before .before .before .before .before .before .loop .s) (c .before .before .before .before .before .before .before .before .before .loop .inv) room (c .before .before .before .before .before .before .before .if1 .left) e) .inside) in
     omega arith
 
--- src/lib.rt:67:5
 loop-less : tie.Need-loop-less Inv-loop μ-loop
 loop-less c = omega (arith, c .before .before .before .before .before .before .before .before .before .loop .inv .same)
 
--- src/lib.rt:67:5
 loop-again : tie.Need-loop-again Inv-loop μ-loop
 loop-again c = let room : c .before .before .before .before .before .before .before .before .before .loop .i < length (c .before .before .before .before .before .before .before .before .before .before .before .before .before .args .lines .now) = omega (arith, c .before .before .before .before .before .before .before .before .before .loop .inv .same) in
     let q : c .before .before .before .before .before .lend-store .result ≡ codedOf (recordOf (c .before .before .before .before .before .before .before .before .before .loop .s) (drop (c .before .before .before .before .before .before .before .before .before .loop .at) (c .before .before .before .before .before .before .before .before .before .before .before .before .before .args .tape .now))) = c .before .before .before .before .before .lend-store .ensures ∙ rw (rest-is (c .before .before .before .before .before .before .before .before .before .loop .at) (c .before .before .before .before .before .before .before .before .before .before .before .before .before .args .tape .now)) in
     let e : endsTape (recordOf (c .before .before .before .before .before .before .before .before .before .loop .s) (drop (c .before .before .before .before .before .before .before .before .before .loop .at) (c .before .before .before .before .before .before .before .before .before .before .before .before .before .args .tape .now)) .answer) ≡ false = code-ends (recordOf (c .before .before .before .before .before .before .before .before .before .loop .s) (drop (c .before .before .before .before .before .before .before .before .before .loop .at) (c .before .before .before .before .before .before .before .before .before .before .before .before .before .args .tape .now)) .answer) ∙ (sym (ap (λ (x : Coded). endsCode (x .code)) q) ∙ (sym (c .before .before .before .ends .ensures) ∙ c .before .before .if2 .left)) in
     rw (q, c .size .ensures, ← field-at (c .before .before .before .before .before .before .before .before .before .before .before .before .before .args .tape .now) (c .before .before .before .before .before .before .before .before .before .loop .at)) (going-next (c .before .before .before .before .before .before .before .before .before .before .before .before .before .args .tape .now) (c .before .before .before .before .before .before .before .before .before .before .before .before .before .args .lines .now) (c .before .before .before .before .before .before .before .before .before .loop .lines) (c .before .before .before .before .before .before .before .before .before .loop .i) (c .before .before .before .before .before .before .before .before .before .loop .at) (c .before .before .before .before .before .before .before .before .before .loop .s) (c .before .before .before .before .before .before .before .before .before .loop .inv) room (c .before .before .before .before .before .before .before .if1 .left) e)
 
--- src/lib.rt:61:1
 same-length-3 : tie.Need-same-length-3 Inv-loop μ-loop
 same-length-3 c = c .before .loop .inv .same
 
--- src/lib.rt:61:1
 returns-3 : tie.Need-returns-3 Inv-loop μ-loop
 returns-3 c = going-full (c .before .before .before .before .before .args .tape .now) (c .before .before .before .before .before .args .lines .now) (c .before .loop .lines) (c .before .loop .i) (c .before .loop .at) (c .before .loop .s) (c .before .loop .inv) (omega (arith, c .before .loop .inv .same))
 

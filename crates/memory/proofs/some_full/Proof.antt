@@ -1,4 +1,5 @@
 -- `memory::some_full` meets its contract. Assumes nothing.
+use borrow.Author.Needs.{needs}
 use Prim.Native.Nat.{_≤_, _-_, _<_}
 use mathlib.Core.Bool.{false, _&&_}
 use mathlib.Core.Path.{_≡_, sym, _∙_}
@@ -21,8 +22,17 @@ abbrev μ-loop : tie.MeasureT-loop
 loop-holds : tie.Need-loop-holds Inv-loop μ-loop
 loop-holds c = (omega arith, any-none _)
 
+mul-len : tie.Need-mul-len Inv-loop μ-loop
+mul-len c = search needs
+
+element-copy-out-len : tie.Need-element-copy-out-len Inv-loop μ-loop
+element-copy-out-len c = search needs
+
+array-read-blocked : tie.Need-array-read-blocked Inv-loop μ-loop
+array-read-blocked c = search needs
+
 blocked-requires : tie.Need-blocked-requires Inv-loop μ-loop
-blocked-requires c κs = omega arith
+blocked-requires c κs = search needs
 
 returns : tie.Need-returns Inv-loop μ-loop
 unfolding someFull
@@ -48,6 +58,9 @@ some-full-spec =
     Inv-loop
     μ-loop
     loop-holds
+    mul-len
+    element-copy-out-len
+    array-read-blocked
     blocked-requires
     returns
     add-i
