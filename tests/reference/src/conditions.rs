@@ -67,7 +67,7 @@ fn call_condition(s: &Store, lane: &Lane, call: Call, number: u8) -> bool {
         (Call::Serve(_), 11) => lane.returns.length > 0,
         (Call::Serve(k), 12) => serve_meets_full(s, usize::from(k)),
         (Call::Return(_), 9) => lane.returns.length == 0,
-        (_, 16) => !stray_reasons(s, HeldCall::Machine(call)).is_empty(),
+        (_, 16) => !unexpected_reasons(s, HeldCall::Machine(call)).is_empty(),
         (Call::Return(_), 12) => close_meets_full(s, lane),
         (Call::Deliver(_), 9) => lane.down.length == 0,
         (Call::Deliver(_), 12) => {
@@ -103,7 +103,7 @@ fn head_answer(lane: &Lane) -> Option<Message<ReturnKind>> {
 }
 
 /// All the reasons that 16 can have, without settle's.
-pub const STRAY_REASONS: [&str; 9] = [
+pub const UNEXPECTED_REASONS: [&str; 9] = [
     "answer with no service",
     "answer for a block not in service",
     "answer with 0 awaited",
@@ -115,8 +115,8 @@ pub const STRAY_REASONS: [&str; 9] = [
     "grant with words and no free line",
 ];
 
-/// The reasons for which a return or deliver meets a stray message.
-pub fn stray_reasons(s: &Store, call: HeldCall) -> Vec<&'static str> {
+/// The reasons for which a return or deliver meets a unexpected message.
+pub fn unexpected_reasons(s: &Store, call: HeldCall) -> Vec<&'static str> {
     let HeldCall::Machine(call) = call else {
         return Vec::new();
     };
@@ -142,7 +142,7 @@ pub fn stray_reasons(s: &Store, call: HeldCall) -> Vec<&'static str> {
         }
         _ => {}
     }
-    (0..9).filter(|&i| holds[i]).map(|i| STRAY_REASONS[i]).collect()
+    (0..9).filter(|&i| holds[i]).map(|i| UNEXPECTED_REASONS[i]).collect()
 }
 
 fn head_grant(lane: &Lane) -> Option<Message<DownKind>> {

@@ -3,22 +3,22 @@
 
 use crate::parts::*;
 
-pub const CUT: u8 = 1;
-pub const STRANGER: u8 = 2;
-pub const SHUT: u8 = 3;
-pub const OPEN_ALREADY: u8 = 4;
-pub const NO_SUCH_BENCH: u8 = 5;
+pub const TRUNCATED: u8 = 1;
+pub const UNKNOWN_KIND: u8 = 2;
+pub const NOT_OPEN: u8 = 3;
+pub const ALREADY_OPEN: u8 = 4;
+pub const INVALID_SHAPE: u8 = 5;
 pub const NO_SUCH_LANE: u8 = 6;
 pub const NO_SUCH_WORD: u8 = 7;
-pub const OCCUPIED: u8 = 8;
-pub const NOTHING_THERE: u8 = 9;
-pub const ENGAGED: u8 = 10;
-pub const RETURNS_FIRST: u8 = 11;
+pub const LANE_BUSY: u8 = 8;
+pub const NOTHING_PENDING: u8 = 9;
+pub const CONTROL_BUSY: u8 = 10;
+pub const RETURNS_PENDING: u8 = 11;
 pub const FULL: u8 = 12;
-pub const TOO_LONG: u8 = 13;
+pub const TAPE_TOO_LONG: u8 = 13;
 pub const CORRUPT: u8 = 14;
 pub const BUFFER_SHORT: u8 = 15;
-pub const STRAY: u8 = 16;
+pub const UNEXPECTED: u8 = 16;
 
 pub const PICTURE_RECORD: usize = 19;
 
@@ -30,7 +30,7 @@ pub fn open(n: u8, c: u8, m: u8) -> Result<Store, u8> {
     if shape_in_range(n, c, m) {
         Ok(Store::fresh(n, c, m))
     } else {
-        Err(NO_SUCH_BENCH)
+        Err(INVALID_SHAPE)
     }
 }
 
@@ -126,7 +126,7 @@ fn begin(s: &mut Store, k: u8, op: Op, word: u8) -> Result<Answer, u8> {
     }
     let lane = &mut s.lanes[usize::from(k)];
     if lane.waiting.is_some() {
-        return Err(OCCUPIED);
+        return Err(LANE_BUSY);
     }
     let command = match search(lane, s.c, word / 4) {
         Some(i) if op.is_load() || lane.lines[i].private => {
@@ -174,13 +174,13 @@ fn serve(s: &mut Store, k: u8) -> Result<Answer, u8> {
     let lane = &mut s.lanes[usize::from(k)];
     let waiting = match &mut lane.waiting {
         Some(waiting) if !waiting.served => waiting,
-        _ => return Err(NOTHING_THERE),
+        _ => return Err(NOTHING_PENDING),
     };
     if s.service.is_some() {
-        return Err(ENGAGED);
+        return Err(CONTROL_BUSY);
     }
     if !lane.returns.is_empty() {
-        return Err(RETURNS_FIRST);
+        return Err(RETURNS_PENDING);
     }
     waiting.served = true;
     let (block, command) = (waiting.block(), waiting.command);
@@ -228,11 +228,11 @@ fn close(s: &mut Store) -> Result<(), u8> {
 }
 
 fn take_return(s: &mut Store, k: u8) -> Result<Answer, u8> {
-    let message = s.lanes[usize::from(k)].returns.take().ok_or(NOTHING_THERE)?;
+    let message = s.lanes[usize::from(k)].returns.take().ok_or(NOTHING_PENDING)?;
     let kind = message.kind;
     let expected = s.service.is_some_and(|v| v.block == message.block && v.awaited > 0);
     if kind.is_answer() && !expected {
-        return Err(STRAY);
+        return Err(UNEXPECTED);
     }
     let entry = &mut s.blocks[usize::from(message.block)];
     if kind != ReturnKind::Updated {
@@ -259,7 +259,7 @@ fn lower_awaited(s: &mut Store) -> Result<(), u8> {
 
 fn deliver(s: &mut Store, k: u8) -> Result<Answer, u8> {
     let (c, lane) = (s.c, &mut s.lanes[usize::from(k)]);
-    let message = lane.down.take().ok_or(NOTHING_THERE)?;
+    let message = lane.down.take().ok_or(NOTHING_PENDING)?;
     if message.kind.is_order() {
         obey(lane, c, message)?;
         Ok(Answer::Step)
@@ -294,17 +294,17 @@ fn obey(lane: &mut Lane, c: u8, order: Message<DownKind>) -> Result<(), u8> {
 fn accept_grant(lane: &mut Lane, c: u8, grant: Message<DownKind>) -> Result<u32, u8> {
     let waiting = match lane.waiting {
         Some(w) if w.served && w.block() == grant.block => w,
-        _ => return Err(STRAY),
+        _ => return Err(UNEXPECTED),
     };
     let held = search(lane, c, grant.block);
     let i = if grant.kind == DownKind::BareGrant {
-        held.ok_or(STRAY)?
+        held.ok_or(UNEXPECTED)?
     } else {
         if held.is_some() {
-            return Err(STRAY);
+            return Err(UNEXPECTED);
         }
         let free = lane.lines[..usize::from(c)].iter().position(|l| !l.valid);
-        let i = free.ok_or(STRAY)?;
+        let i = free.ok_or(UNEXPECTED)?;
         let line = &mut lane.lines[i];
         (line.valid, line.block, line.words) = (true, grant.block, grant.words);
         use_line(lane, c, i);

@@ -1,6 +1,6 @@
 //! Counts of what tapes and cases met, for print.
 
-use crate::conditions::{self, REASONS, STRAY_REASONS};
+use crate::conditions::{self, REASONS, UNEXPECTED_REASONS};
 use crate::held::HeldAnswer;
 use crate::parts::*;
 use crate::situations;
@@ -209,7 +209,7 @@ pub struct Cases {
     /// By reason of 14: all, and as the only reason.
     pub reasons: BTreeMap<&'static str, (usize, usize)>,
     /// By reason of 16, where 16 was given: all, and as the only reason.
-    pub stray_reasons: BTreeMap<&'static str, (usize, usize)>,
+    pub unexpected_reasons: BTreeMap<&'static str, (usize, usize)>,
     /// By damage: all, and not corrupt after all.
     pub damages: BTreeMap<&'static str, (usize, usize)>,
     pub situations: BTreeMap<&'static str, usize>,
@@ -246,8 +246,8 @@ impl Cases {
 
     fn add_refusal(&mut self, case: &Case, number: u8) {
         if number == 16 {
-            let reasons = conditions::stray_reasons(&case.store, case.call);
-            add_reasons(&mut self.stray_reasons, &reasons);
+            let reasons = conditions::unexpected_reasons(&case.store, case.call);
+            add_reasons(&mut self.unexpected_reasons, &reasons);
         }
         for also in conditions::all(&case.store, case.call) {
             if also != number {
@@ -324,8 +324,8 @@ impl Cases {
             writeln!(f, "  {reason}: {all}, {alone}")?;
         }
         writeln!(f, "reasons of 16 where given (cases, cases with no other reason):")?;
-        for reason in STRAY_REASONS {
-            let (all, alone) = self.stray_reasons.get(reason).copied().unwrap_or_default();
+        for reason in UNEXPECTED_REASONS {
+            let (all, alone) = self.unexpected_reasons.get(reason).copied().unwrap_or_default();
             writeln!(f, "  {reason}: {all}, {alone}")?;
         }
         writeln!(f, "damage (stores, of these not corrupt):")?;

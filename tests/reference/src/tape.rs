@@ -1,6 +1,6 @@
 //! The tape reader and the lines that `benchtape` prints.
 
-use crate::machine::{self, CUT, OPEN_ALREADY, SHUT, STRANGER, TOO_LONG};
+use crate::machine::{self, TRUNCATED, ALREADY_OPEN, NOT_OPEN, UNKNOWN_KIND, TAPE_TOO_LONG};
 use crate::parts::*;
 use std::fmt::Write;
 
@@ -63,8 +63,8 @@ pub fn body_length(kind: u8) -> Option<usize> {
 /// The first record of what is left of a tape (at least one byte).
 fn parse(rest: &[u8]) -> Result<Record, u8> {
     let kind = rest[0];
-    let length = body_length(kind).ok_or(STRANGER)?;
-    let body = rest.get(1..1 + length).ok_or(CUT)?;
+    let length = body_length(kind).ok_or(UNKNOWN_KIND)?;
+    let body = rest.get(1..1 + length).ok_or(TRUNCATED)?;
     let begin = |op| Record::Call(Call::Begin { lane: body[0], op, word: body[1] });
     let v = || u32::from_le_bytes([body[2], body[3], body[4], body[5]]);
     Ok(match kind {
@@ -98,9 +98,9 @@ pub struct Event<'a> {
 /// One record on the store of the tape, none while the tape is shut.
 pub fn run_record(store: &Option<Store>, record: Record) -> Result<(Store, Outcome), u8> {
     match (record, store) {
-        (Record::Open { .. }, Some(_)) => Err(OPEN_ALREADY),
+        (Record::Open { .. }, Some(_)) => Err(ALREADY_OPEN),
         (Record::Open { n, c, m }, None) => Ok((machine::open(n, c, m)?, Outcome::Open)),
-        (Record::Call(_), None) => Err(SHUT),
+        (Record::Call(_), None) => Err(NOT_OPEN),
         (Record::Call(call), Some(store)) => {
             let (after, answer) = machine::call(store, call)?;
             Ok((after, Outcome::Answer(answer)))
@@ -111,7 +111,7 @@ pub fn run_record(store: &Option<Store>, record: Record) -> Result<(Store, Outco
 /// Reads a tape; `see` is shown each record. Err is refusal 13.
 pub fn replay(tape: &[u8], see: &mut dyn FnMut(&Event)) -> Result<(), u8> {
     if tape.len() > LONGEST {
-        return Err(TOO_LONG);
+        return Err(TAPE_TOO_LONG);
     }
     let (mut at, mut store) = (0, None);
     while at < tape.len() {

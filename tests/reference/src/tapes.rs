@@ -31,7 +31,7 @@ pub enum Role {
     /// One byte is changed.
     Damaged,
     /// Many records and refused opens before the open.
-    Shut,
+    NotOpen,
     /// Random small bytes.
     Soup,
     /// Eight lanes share a few blocks.
@@ -61,7 +61,7 @@ fn special_roles() -> Vec<Role> {
         }
     }
     roles.extend([Role::Damaged; 24]);
-    roles.extend([Role::Shut; 8]);
+    roles.extend([Role::NotOpen; 8]);
     roles.extend([Role::Soup; 8]);
     roles.extend([Role::Sharing; 8]);
     roles
@@ -85,7 +85,7 @@ pub fn make(seed: u64, index: usize) -> Vec<u8> {
         Role::Cut { kind, kept, opened } => cut(rng, kind, kept, opened),
         Role::Unknown { kind, followed, opened } => unknown(rng, kind, followed, opened),
         Role::Damaged => damaged(rng),
-        Role::Shut => shut(rng),
+        Role::NotOpen => not_open(rng),
         Role::Soup => (0..rng.between(2_000, 8_000)).map(|_| rng.byte_below(8)).collect(),
         Role::Sharing => sharing(rng),
         Role::General => general(rng, rank),
@@ -330,7 +330,7 @@ fn damaged(rng: Rng) -> Vec<u8> {
     tape.bytes
 }
 
-fn shut(mut rng: Rng) -> Vec<u8> {
+fn not_open(mut rng: Rng) -> Vec<u8> {
     let (shape, records) = (small_shape(&mut rng), rng.between(50, 150));
     let mut tape = Builder::new(rng);
     tape.prelude(records);

@@ -1,6 +1,6 @@
 //! What the generators promise.
 
-use reference::conditions::{self, REASONS, STRAY_REASONS};
+use reference::conditions::{self, REASONS, UNEXPECTED_REASONS};
 use reference::damage::{CORRUPTING, FAIR};
 use reference::held::{self, HeldAnswer, HeldCall};
 use reference::machine;
@@ -114,8 +114,8 @@ fn cases_cover_what_they_must() {
         }
         let alone = |reason| summary.reasons.get(reason).map_or(0, |counts| counts.1);
         assert!(REASONS.iter().all(|reason| alone(reason) >= 50));
-        let alone = |reason| summary.stray_reasons.get(reason).map_or(0, |counts| counts.1);
-        assert!(STRAY_REASONS.iter().all(|reason| alone(reason) >= 10));
+        let alone = |reason| summary.unexpected_reasons.get(reason).map_or(0, |counts| counts.1);
+        assert!(UNEXPECTED_REASONS.iter().all(|reason| alone(reason) >= 10));
         let met = |name| summary.situations.get(name).copied().unwrap_or(0);
         assert!(situations::NAMES.iter().all(|name| met(name) >= 10));
         check_pairs(&summary);

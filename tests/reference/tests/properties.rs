@@ -206,7 +206,7 @@ fn explore(run: &Store, depth: usize, seen: &mut usize) {
 }
 
 #[test]
-fn no_short_run_meets_a_full_queue_or_a_stray() {
+fn no_short_run_meets_a_full_queue_or_an_unexpected_message() {
     let mut seen = 0;
     for (c, m) in [(1, 1), (1, 2)] {
         explore(&machine::open(2, c, m).expect("in range"), 9, &mut seen);
