@@ -27,7 +27,7 @@ use Rattle.machine.specs.declared.Ready.the-variants.{Go, No}
 use Rattle.machine.specs.Corruption.{corruptOf}
 use Rattle.machine.specs.Serve.{readyWith, readyOf}
 use Rattle.memory.specs.Bounds.{laneBelow}
-use Rattle.checks.proofs.Sound.{Sound, ControlSound, sound}
+use Rattle.machine.proofs.Sound.{Sound, ControlSound, sound}
 
 no-go : {r : Refusal} {o : Operation} → No r ≡ Go o → ⊥
 no-go e = let z : _≡_ {A = ℕ} 0 1 = cc in omega arith

@@ -13,7 +13,7 @@ use denote.Struct.Declared.{shape}
 use Rattle.lanes.proofs.Lane.{the-type, the-field}
 use Rattle.store.specs.declared.Store.{Store}
 use Rattle.store.specs.Quiet.{noLane}
-use Rattle.checks.proofs.Keeps.{Whole}
+use Rattle.machine.proofs.Keeps.{Whole}
 
 -- what owning an array tells of its element at i
 each-at : (d : Type 0) (own : d → List Val → Fml) (xs : List d) (us : List Val) (i : ℕ) (z : d) → i < length xs → shadow (each d own xs us) →

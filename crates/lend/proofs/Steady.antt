@@ -17,8 +17,8 @@ use Rattle.store.specs.Opening.{badShape, freshOf}
 use Rattle.machine.specs.Change.{refuse}
 use Rattle.machine.specs.Corruption.{corruptOf}
 use Rattle.machine.specs.Tape.{field, bodyLength, isOpen, callRecord, openRecord, wholeRecord, recordOf}
-use Rattle.checks.proofs.Keeps.{Whole, open-keeps, open-whole}
-use Rattle.checks.proofs.KeepsRepeat.{call-keeps, call-whole}
+use Rattle.machine.proofs.Keeps.{Whole, open-keeps, open-whole}
+use Rattle.machine.proofs.KeepsRepeat.{call-keeps, call-whole}
 use Rattle.tape.specs.Codes.{Steady}
 
 -- a store that a tape can have, with its arrays whole

@@ -5,7 +5,7 @@ use mathlib.Core.Bool.{false}
 use borrow.Author.Tests.{ltb-false, le-ltb}
 use Rattle.words.proofs.Folds.{all-false}
 use Rattle.store.specs.Opening.{badShape}
-use Rattle.checks.proofs.Tests.{none-of}
+use Rattle.machine.proofs.Tests.{none-of}
 
 pub shape-bounds : (n c m : ℕ) → badShape n c m ≡ false → (2 ≤ n) × (n ≤ 8) × (1 ≤ c) × (c ≤ 8) × (1 ≤ m) × (m ≤ 64)
 unfolding badShape

@@ -23,14 +23,14 @@ use Rattle.store.specs.declared.Control.{Control}
 use Rattle.store.specs.declared.Control.the-variants.{Free, Busy}
 use Rattle.store.specs.Control.{busyOf}
 use Rattle.store.specs.Quiet.{laneAt, blockAt}
 use Rattle.machine.specs.declared.Ready.{Ready}
 use Rattle.machine.specs.Change.{withWaiting, nobody, goesTo}
 use Rattle.machine.specs.Serve.{sendsOf, ordered, countOf, closedBlock, close, readyWith, readyOf, serviceFor, serveMove, serveReady, serveOf}
-use Rattle.checks.proofs.Sets.{set-cases, set-here}
-use Rattle.checks.proofs.Counts.{count-less, count-past}
-use Rattle.checks.proofs.Sound.{BlockSound, ServiceSound, ControlSound, sound}
-use Rattle.checks.proofs.KeepsLane.{LaneFit, with-served, clash}
-use Rattle.checks.proofs.KeepsStore.{Fit, lane-fit, MoveFit, guarded-keeps, commit-move-keeps}
+use Rattle.machine.proofs.Sets.{set-cases, set-here}
+use Rattle.machine.proofs.Counts.{count-less, count-past}
+use Rattle.machine.proofs.Sound.{BlockSound, ServiceSound, ControlSound, sound}
+use Rattle.machine.proofs.KeepsLane.{LaneFit, with-served, clash}
+use Rattle.machine.proofs.KeepsStore.{Fit, lane-fit, MoveFit, guarded-keeps, commit-move-keeps}
 
 -- a control with a service within bounds
 pub busy-sound : (n m : ℕ) (v : Service) → ServiceSound n m v → ControlSound n m (Busy v)

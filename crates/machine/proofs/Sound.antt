@@ -26,9 +26,9 @@ use Rattle.store.specs.declared.Service.{Service}
 use Rattle.store.specs.declared.Control.{Control}
 use Rattle.store.specs.declared.Control.the-variants.{Free, Busy}
 use Rattle.store.specs.Quiet.{laneAt, blockAt}
 use Rattle.machine.specs.Corruption.{badLine, badLane, badWaiting, badUse, badOrder, badFlag, badFlags, badControl, corruptOf}
-use Rattle.checks.proofs.Tests.{and-right, and-never, or-never, none-of}
-use Rattle.checks.proofs.Shape.{shape-bounds, bounds-shape}
+use Rattle.machine.proofs.Tests.{and-right, and-never, or-never, none-of}
+use Rattle.machine.proofs.Shape.{shape-bounds, bounds-shape}
 
 -- a queue of len messages, of which that at place i is of block (block i)
 pub record Queued (m len : ℕ) (block : ℕ → ℕ) : Type 0 where

@@ -15,19 +15,19 @@ use Rattle.words.specs.declared.Op.{Op}
 use Rattle.store.specs.declared.Store.{Store}
 use Rattle.store.specs.Opening.{badShape, freshOf}
 use Rattle.store.specs.Quiet.{laneAt}
 use Rattle.machine.specs.Corruption.{corruptOf}
 use Rattle.machine.specs.Begin.{beginOf}
 use Rattle.machine.specs.Serve.{serveOf}
 use Rattle.machine.specs.Return.{returnOf}
 use Rattle.machine.specs.Deliver.{deliverOf}
-use Rattle.checks.proofs.Tests.{on}
-use Rattle.checks.proofs.Sound.{sound, not-corrupt}
-use Rattle.checks.proofs.KeepsStore.{Fit}
-use Rattle.checks.proofs.KeepsBegin.{begin-fit}
-use Rattle.checks.proofs.KeepsServe.{serve-fit}
-use Rattle.checks.proofs.KeepsReturn.{return-fit}
-use Rattle.checks.proofs.KeepsDeliver.{deliver-fit}
-use Rattle.checks.proofs.KeepsOpen.{open-fit}
+use Rattle.machine.proofs.Tests.{on}
+use Rattle.machine.proofs.Sound.{sound, not-corrupt}
+use Rattle.machine.proofs.KeepsStore.{Fit}
+use Rattle.machine.proofs.KeepsBegin.{begin-fit}
+use Rattle.machine.proofs.KeepsServe.{serve-fit}
+use Rattle.machine.proofs.KeepsReturn.{return-fit}
+use Rattle.machine.proofs.KeepsDeliver.{deliver-fit}
+use Rattle.machine.proofs.KeepsOpen.{open-fit}
 
 -- the use order of each lane has its 8 places
 abbrev pub Whole : Store → Type 0

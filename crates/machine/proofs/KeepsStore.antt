@@ -17,13 +17,13 @@ use Rattle.answers.specs.declared.Refusal.the-variants.{NoSuchLane, QueueFull, 
 use Rattle.store.specs.declared.Store.{Store}
 use Rattle.store.specs.declared.Outcome.{Outcome}
 use Rattle.store.specs.Quiet.{noLane, noBlock, laneAt}
 use Rattle.machine.specs.declared.LaneStep.{LaneStep}
 use Rattle.machine.specs.declared.Move.{Move}
 use Rattle.machine.specs.Corruption.{corruptOf}
 use Rattle.machine.specs.Change.{refuse, guarded, withLane, commitLane, goesTo, someFull, posted, postTo, postAll, commitMove}
-use Rattle.checks.proofs.Sets.{set-cases, pick}
-use Rattle.checks.proofs.Sound.{LaneSound, BlockSound, ControlSound, Sound, sound}
-use Rattle.checks.proofs.KeepsLane.{LaneFit, posted-keeps}
+use Rattle.machine.proofs.Sets.{set-cases, pick}
+use Rattle.machine.proofs.Sound.{LaneSound, BlockSound, ControlSound, Sound, sound}
+use Rattle.machine.proofs.KeepsLane.{LaneFit, posted-keeps}
 
 -- a store within bounds whose lanes' use orders have at least h places
 pub record Fit (h : ℕ) (s : Store) : Type 0 where

@@ -13,16 +13,16 @@ use Rattle.answers.specs.Refusals.{refusedOf}
 use Rattle.store.specs.declared.Store.{Store}
 use Rattle.store.specs.declared.Outcome.{Outcome}
 use Rattle.store.specs.Quiet.{laneAt}
 use Rattle.machine.specs.declared.LaneStep.{LaneStep}
 use Rattle.machine.specs.declared.Ready.{Ready}
 use Rattle.machine.specs.declared.Ready.the-variants.{Go, No}
 use Rattle.machine.specs.declared.Move.{Move}
 use Rattle.machine.specs.Change.{commitLane, commitMove, someFull}
 use Rattle.machine.specs.Begin.{beginOf}
 use Rattle.machine.specs.Serve.{readyOf, serveReady, serveOf}
 use Rattle.machine.specs.Return.{returnOf}
 use Rattle.machine.specs.Deliver.{deliverOf}
-use Rattle.checks.proofs.KeepsStore.{guarded-keeps}
+use Rattle.machine.proofs.KeepsStore.{guarded-keeps}
 
 pub record SameShape (s t : Store) : Type 0 where
   pub n : t .n ≡ s .n

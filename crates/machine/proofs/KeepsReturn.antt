@@ -25,13 +25,13 @@ use Rattle.store.specs.declared.Counted.the-variants.{Awaits, Closes}
 use Rattle.store.specs.declared.Outcome.{Outcome}
 use Rattle.store.specs.Control.{lowered, countedOf, answerOf}
 use Rattle.store.specs.Quiet.{laneAt, blockAt}
 use Rattle.machine.specs.Change.{refuse, withReturns}
 use Rattle.machine.specs.Return.{takenBy, isAnswer, quietly, answered, returnMove, returnHead, returnOf}
-use Rattle.checks.proofs.Sets.{pick}
-use Rattle.checks.proofs.Sound.{BlockSound, ControlSound}
-use Rattle.checks.proofs.KeepsLane.{LaneFit, returned-keeps, head-inside}
-use Rattle.checks.proofs.KeepsStore.{Fit, lane-fit, MoveFit, guarded-keeps, commit-move-keeps}
-use Rattle.checks.proofs.KeepsServe.{busy-sound, free-sound, reset-absent, close-keeps}
+use Rattle.machine.proofs.Sets.{pick}
+use Rattle.machine.proofs.Sound.{BlockSound, ControlSound}
+use Rattle.machine.proofs.KeepsLane.{LaneFit, returned-keeps, head-inside}
+use Rattle.machine.proofs.KeepsStore.{Fit, lane-fit, MoveFit, guarded-keeps, commit-move-keeps}
+use Rattle.machine.proofs.KeepsServe.{busy-sound, free-sound, reset-absent, close-keeps}
 
 -- what a message makes of its block
 taken-by-keeps : (n : ℕ) (x : ReturnKind) (ws : List ℕ) (k : LaneNo) (b : Block) → BlockSound n b → BlockSound n (takenBy x ws k b)

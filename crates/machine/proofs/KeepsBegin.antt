@@ -29,15 +29,15 @@ use Rattle.answers.specs.declared.Refusal.the-variants.{NoSuchWord, LaneBusy}
 use Rattle.store.specs.declared.Store.{Store}
 use Rattle.store.specs.declared.Outcome.{Outcome}
 use Rattle.store.specs.Quiet.{laneAt}
 use Rattle.machine.specs.declared.LaneStep.{LaneStep}
 use Rattle.machine.specs.Change.{refuse, refuseLane}
 use Rattle.machine.specs.Begin.{isLoad, complete, waits, hit, readOf, ejectOf, invalid, evict, missWith, miss, beginAt, beginLane, beginOf}
 use Rattle.machine.specs.Deliver.{withLine}
-use Rattle.checks.proofs.Tests.{on}
-use Rattle.checks.proofs.Sets.{same?, pick}
-use Rattle.checks.proofs.KeepsLane.{LaneFit, clash, join-keeps, with-line, with-returns, with-unserved, complete-keeps}
-use Rattle.checks.proofs.KeepsStore.{Fit, lane-fit, guarded-keeps, commit-lane-keeps}
-use Rattle.checks.proofs.KeepsDeliver.{found-below}
+use Rattle.machine.proofs.Tests.{on}
+use Rattle.machine.proofs.Sets.{same?, pick}
+use Rattle.machine.proofs.KeepsLane.{LaneFit, clash, join-keeps, with-line, with-returns, with-unserved, complete-keeps}
+use Rattle.machine.proofs.KeepsStore.{Fit, lane-fit, guarded-keeps, commit-lane-keeps}
+use Rattle.machine.proofs.KeepsDeliver.{found-below}
 
 -- no line passes the test, so line j does not
 pub first-nothing : (p : Line → Bool) (ls : List Line) (n k : ℕ) → firstFrom p ls n k ≡ Nothing → (j : ℕ) → k ≤ j → j < k + n → p (getD ls j noLine) ≡ false

@@ -7,10 +7,10 @@ use lib.Dec.{leb, ltb, eqb}
 use Rattle.words.proofs.Folds.{by-cond}
 use Rattle.store.specs.declared.Store.{Store}
 use Rattle.store.specs.declared.Outcome.{Outcome}
 use Rattle.machine.specs.Corruption.{corruptOf}
 use Rattle.machine.specs.Settle.{settleStep}
 use Rattle.machine.specs.Tape.{callRecord}
-use Rattle.checks.proofs.Keeps.{Whole, begin-keeps, serve-keeps, return-keeps, deliver-keeps, begin-whole, serve-whole, return-whole, deliver-whole}
+use Rattle.machine.proofs.Keeps.{Whole, begin-keeps, serve-keeps, return-keeps, deliver-keeps, begin-whole, serve-whole, return-whole, deliver-whole}
 
 pub settle-step-keeps : (s : Store) → corruptOf s ≡ false → Whole s → corruptOf (settleStep s .store) ≡ false
 unfolding settleStep

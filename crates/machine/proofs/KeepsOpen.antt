@@ -8,11 +8,11 @@ use Rattle.words.specs.Lines.{noLine}
 use Rattle.lanes.specs.UseOrder.{placeAt}
 use Rattle.store.specs.Opening.{badShape, blankLine, blankLane, blankBlock, freshOf}
 use Rattle.store.specs.Quiet.{noLane, noBlock, laneAt, blockAt}
-use Rattle.checks.proofs.Shape.{shape-bounds}
-use Rattle.checks.proofs.Sound.{Ordered, BlockSound}
-use Rattle.checks.proofs.KeepsLane.{clash, LaneFit}
-use Rattle.checks.proofs.KeepsServe.{free-sound}
-use Rattle.checks.proofs.KeepsStore.{Fit}
+use Rattle.machine.proofs.Shape.{shape-bounds}
+use Rattle.machine.proofs.Sound.{Ordered, BlockSound}
+use Rattle.machine.proofs.KeepsLane.{clash, LaneFit}
+use Rattle.machine.proofs.KeepsServe.{free-sound}
+use Rattle.machine.proofs.KeepsStore.{Fit}
 
 -- lines are ordered by number
 blank-place : (j : ℕ) → j < 8 → placeAt (blankLane .order) j .0 ≡ j

@@ -25,13 +25,13 @@ use Rattle.queues.specs.Queues.{noReturn, noDown, takeReturn, takeDown}
 use Rattle.lanes.specs.declared.Lane.{Lane}
 use Rattle.lanes.specs.declared.Operation.{Operation}
 use Rattle.lanes.specs.declared.Waiting.the-variants.{Unserved, Served}
 use Rattle.machine.specs.Change.{withWaiting, withReturns, withDowns, posted}
 use Rattle.machine.specs.Begin.{complete}
 use Rattle.machine.specs.Deliver.{withLine, reply}
-use Rattle.checks.proofs.Tests.{on}
-use Rattle.checks.proofs.Sets.{same?, set-cases, set-here}
-use Rattle.checks.proofs.Orders.{used-length, used-keeps}
-use Rattle.checks.proofs.Sound.{Queued, LaneSound}
+use Rattle.machine.proofs.Tests.{on}
+use Rattle.machine.proofs.Sets.{same?, set-cases, set-here}
+use Rattle.machine.proofs.Orders.{used-length, used-keeps}
+use Rattle.machine.proofs.Sound.{Queued, LaneSound}
 
 -- what cannot be
 pub clash : {A : Type 0} → _≡_ {A = ℕ} 0 1 → A

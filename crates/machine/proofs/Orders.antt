@@ -12,8 +12,8 @@ use lib.Seq.{getD-set-same, getD-set-other}
 use Rattle.words.specs.declared.LineNo.{LineNo}
 use Rattle.words.specs.Folds.{upTo}
 use Rattle.lanes.specs.UseOrder.{placeAt, carryOf, usedOf}
-use Rattle.checks.proofs.Sets.{same?, pick}
-use Rattle.checks.proofs.Sound.{Ordered}
+use Rattle.machine.proofs.Sets.{same?, pick}
+use Rattle.machine.proofs.Sound.{Ordered}
 
 -- places k and k + 1 change over
 abbrev swapped : ℕ → List LineNo → List LineNo

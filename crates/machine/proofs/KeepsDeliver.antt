@@ -26,15 +26,15 @@ use Rattle.answers.specs.Refusals.{refusedOf}
 use Rattle.answers.specs.declared.Refusal.the-variants.{NothingPending}
 use Rattle.store.specs.declared.Store.{Store}
 use Rattle.store.specs.Quiet.{laneAt}
 use Rattle.machine.specs.declared.LaneStep.{LaneStep}
 use Rattle.machine.specs.declared.Ready.{Ready}
 use Rattle.machine.specs.declared.Ready.the-variants.{Go, No}
 use Rattle.machine.specs.Change.{refuseLane, withDowns}
 use Rattle.machine.specs.Begin.{invalid, bareReturn, wordsReturn}
 use Rattle.machine.specs.Deliver.{withLine, shared, updateAt, purgedOf, purgeAt, claimed, fillAt, grantAt, bareAt, servedOn, grantTo, bareTo, deliverKind, deliverLane, deliverOf}
-use Rattle.checks.proofs.Sets.{pick}
-use Rattle.checks.proofs.KeepsLane.{LaneFit, clash, with-line, complete-keeps, reply-keeps, taken-keeps, head-inside}
-use Rattle.checks.proofs.KeepsStore.{Fit, lane-fit, guarded-keeps, commit-lane-keeps}
+use Rattle.machine.proofs.Sets.{pick}
+use Rattle.machine.proofs.KeepsLane.{LaneFit, clash, with-line, complete-keeps, reply-keeps, taken-keeps, head-inside}
+use Rattle.machine.proofs.KeepsStore.{Fit, lane-fit, guarded-keeps, commit-lane-keeps}
 
 -- the line that Search finds is one of the c lines
 pub found-below : (l : Lane) (c : ℕ) (a : BlockNo) (i : LineNo) → searchOf l c a ≡ At i → i .0 < c
