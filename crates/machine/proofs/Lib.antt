@@ -15,3 +15,5 @@ pub mod KeepsOpen
 pub mod Keeps
 pub mod KeepsRepeat
 pub mod KeepsShape
+pub mod Owes
+pub mod Sized
