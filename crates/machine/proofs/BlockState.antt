@@ -6,7 +6,8 @@ use mathlib.Core.Bool.{Bool, true, false, cond, _||_}
 use mathlib.Core.List.{List, [], _∷_, _++_}
 use lib.Dec.{eqb}
 use lib.ListN.{getD, set}
-use Rattle.words.specs.declared.LaneNo.{LaneNo}
+use Rattle.words.specs.declared.Line.{Line}
+use Rattle.words.specs.Lines.{noLine}
 use Rattle.words.specs.declared.BlockNo.{BlockNo}
 use Rattle.words.specs.declared.WordNo.{WordNo}
 use Rattle.words.specs.declared.Op.{Op}
@@ -20,7 +21,7 @@ use Rattle.lanes.specs.declared.Waiting.{Waiting}
 use Rattle.lanes.specs.declared.Waiting.the-variants.{Idle, Unserved, Served}
 use Rattle.lanes.specs.declared.Found.{Found}
 use Rattle.lanes.specs.declared.Found.the-variants.{At, Nothing}
-use Rattle.lanes.specs.Search.{lineAt, searchOf}
+use Rattle.lanes.specs.Search.{searchOf}
 use Rattle.store.specs.declared.Store.{Store}
 use Rattle.store.specs.declared.Block.{Block}
 use Rattle.store.specs.declared.Lookup.{Lookup}
@@ -71,14 +72,14 @@ returnAbout a x = eqb (x .block .0) (a .0)
 abbrev pub downAbout : BlockNo → DownMessage → Bool
 downAbout a x = eqb (x .block .0) (a .0)
 
--- the line that Search finds, and its words
-abbrev pub statusAt : Found → Lane → Status
-statusAt (At i) l = cond (lineAt l i .private) Modified Shared
-statusAt Nothing l = Invalid
+-- the line that Search finds among lines, and its words
+abbrev pub statusAt : Found → List Line → Status
+statusAt (At i) ls = cond (getD ls (i .0) noLine .private) Modified Shared
+statusAt Nothing ls = Invalid
 
-abbrev pub wordsAt : Found → Lane → List ℕ
-wordsAt (At i) l = lineAt l i .words
-wordsAt Nothing l = []
+abbrev pub wordsAt : Found → List Line → List ℕ
+wordsAt (At i) ls = getD ls (i .0) noLine .words
+wordsAt Nothing ls = []
 
 -- the operation, where it is on the block
 abbrev pub waitingOn : BlockNo → Waiting → Waiting
@@ -89,8 +90,8 @@ waitingOn a (Served o) = cond (eqb (blockOf (o .word) .0) (a .0)) (Served o) Idl
 -- a lane of c lines as block a sees it
 unfoldable pub seen : ℕ → BlockNo → Lane → Seen
 seen c a l = record {
-  line = statusAt (searchOf l c a) l;
-  words = wordsAt (searchOf l c a) l;
+  line = statusAt (searchOf l c a) (l .lines);
+  words = wordsAt (searchOf l c a) (l .lines);
   returns = keepIf (returnAbout a) (messages (l .returns .len) (l .returns .at));
   downs = keepIf (downAbout a) (messages (l .downs .len) (l .downs .at));
   waiting = waitingOn a (l .waiting);

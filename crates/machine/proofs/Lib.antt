@@ -21,3 +21,5 @@ pub mod BlockState
 pub mod Invariant
 pub mod Moves
 pub mod Flats
+pub mod Queued
+pub mod Project

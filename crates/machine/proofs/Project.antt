@@ -1,0 +1,269 @@
+-- A store after a lane, or a lane with a block, the control and a message to some lanes, was put back, as each block sees it.
+-- Assumes nothing.
+use Prim.Native.Nat.{ℕ, zero, suc, _+_, _<_, _≤_}
+use native.Mathlib.Omega.{arith}
+use native.Mathlib.Nat.{eq-or-lt-of-le}
+use mathlib.Core.Logic.{_⊎_, inl, inr, _≢_}
+use mathlib.Core.Path.{_≡_, refl, sym, ap, _∙_, fun-ext}
+use mathlib.Core.Bool.{Bool, true, false, cond, _&&_}
+use mathlib.Core.List.{List, [], _∷_, _++_}
+use borrow.Author.Tests.{eq-eqb, ne-eqb, leb-false, lt-leb}
+use lib.Dec.{eqb, leb}
+use lib.ListN.{length, getD, set, length-set, List·getD-eq-default}
+use lib.Seq.{getD-set-same, getD-set-other}
+use Rattle.words.specs.declared.LaneNo.{LaneNo}
+use Rattle.words.specs.declared.BlockNo.{BlockNo}
+use Rattle.words.specs.Folds.{upTo}
+use Rattle.words.proofs.Folds.{below?, any-false, by-cond}
+use Rattle.queues.specs.declared.DownMessage.{DownMessage}
+use Rattle.queues.specs.Queues.{fullAt, messages}
+use Rattle.lanes.specs.declared.Lane.{Lane}
+use Rattle.store.specs.declared.Store.{Store}
+use Rattle.store.specs.declared.Block.{Block}
+use Rattle.store.specs.declared.Lookup.{Lookup}
+use Rattle.store.specs.Control.{serviceOf}
+use Rattle.store.specs.Quiet.{noLane, noBlock, laneAt, blockAt}
+use Rattle.machine.specs.declared.Move.{Move}
+use Rattle.machine.specs.Change.{withLane, goesTo, someFull, posted, postTo, postAll}
+use Rattle.machine.proofs.Tests.{on, and-right}
+use Rattle.machine.proofs.Sets.{same?}
+use Rattle.machine.proofs.Owes.{upd}
+use Rattle.machine.proofs.Sized.{LaneSized, Sized}
+use Rattle.machine.proofs.BlockState.{Seen, BlockState, keepIf, downAbout, seen, blockNo, project}
+use Rattle.machine.proofs.Moves.{putLane, postSeen, sendAll}
+use Rattle.machine.proofs.Queued.{push-messages, keep-join}
+
+-- what is read after a set, by the test of the place
+pub getD-set : {A : Type 0} (l : List A) (i j : ℕ) (x d : A) → i < length l → getD (set l i x) j d ≡ cond (eqb j i) x (getD l j d)
+getD-set l i j x d h = go (same? j i)
+  where
+    go : (j ≡ i) ⊎ (j ≢ i) → getD (set l i x) j d ≡ cond (eqb j i) x (getD l j d)
+    go (inl e) = rw (e, eq-eqb i i refl, getD-set-same l i x d h)
+    go (inr n) = rw (ne-eqb j i n, getD-set-other l i j x d n)
+
+-- what is there already, put there
+pub upd-self : {A : Type 0} (f : ℕ → A) (k : ℕ) → upd f k (f k) ≡ f
+upd-self f k = fun-ext (λ j. go j (same? j k))
+  where
+    go : (j : ℕ) → (j ≡ k) ⊎ (j ≢ k) → upd f k (f k) j ≡ f j
+    go j (inl e) = rw (e, eq-eqb k k refl)
+    go j (inr n) = rw (ne-eqb j k n)
+
+-- a function of what a test picks
+pick-of : {A B : Type 0} (f : A → B) (b : Bool) (x y : A) → f (cond b x y) ≡ cond b (f x) (f y)
+pick-of f true x y = refl
+pick-of f false x y = refl
+
+-- lane k put back
+pub project-lane : (s : Store) (k : ℕ) (l : Lane) (a : ℕ) → k < length (s .lanes) →
+    project (withLane s k l) a ≡ putLane k (seen (s .c) (blockNo a) l) (project s a)
+project-lane s k l a h =
+    ap (λ (f : ℕ → Seen). record { lane = f; block = blockAt s a; service = serviceOf (s .control) (blockNo a) })
+    (fun-ext (λ j. ap (seen (s .c) (blockNo a)) (getD-set (s .lanes) k j l noLane h) ∙ pick-of (seen (s .c) (blockNo a)) (eqb j k) l (laneAt s j)))
+
+-- .. where the block sees nothing of it
+pub project-lane-same : (s : Store) (k : ℕ) (l : Lane) (a : ℕ) → k < length (s .lanes) → seen (s .c) (blockNo a) l ≡ seen (s .c) (blockNo a) (laneAt s k) →
+    project (withLane s k l) a ≡ project s a
+project-lane-same s k l a h e =
+    project-lane s k l a h ∙ ap (λ (x : Seen). putLane k x (project s a)) e ∙
+    ap (λ (f : ℕ → Seen). record { lane = f; block = blockAt s a; service = serviceOf (s .control) (blockNo a) }) (upd-self (project s a .lane) k)
+
+-- a message to some of the first t lanes: the lanes' number is kept
+posts-length : (to : List Bool) (x : DownMessage) (ls : List Lane) (t : ℕ) → length (upTo (postTo to x) t ls) ≡ length ls
+unfolding upTo postTo
+posts-length to x ls zero = refl
+posts-length to x ls (suc t) = step (goesTo to t) (posts-length to x ls t)
+  where
+    step : (b : Bool) → length (upTo (postTo to x) t ls) ≡ length ls →
+        length (cond b (set (upTo (postTo to x) t ls) t (posted x (getD (upTo (postTo to x) t ls) t noLane))) (upTo (postTo to x) t ls)) ≡ length ls
+    step true e = length-set (upTo (postTo to x) t ls) t _ ∙ e
+    step false e = e
+
+-- one more
+post-step : (to : List Bool) (x : DownMessage) (ls : List Lane) (t : ℕ) → upTo (postTo to x) (suc t) ls ≡ postTo to x t (upTo (postTo to x) t ls)
+unfolding upTo
+post-step to x ls t = refl
+
+-- a lane after a message to lane t
+post-other : (to : List Bool) (x : DownMessage) (ls : List Lane) (t j : ℕ) → j ≢ t → getD (postTo to x t ls) j noLane ≡ getD ls j noLane
+unfolding postTo
+post-other to x ls t j n = go (goesTo to t)
+  where
+    go : (b : Bool) → getD (cond b (set ls t (posted x (getD ls t noLane))) ls) j noLane ≡ getD ls j noLane
+    go true = getD-set-other ls t j (posted x (getD ls t noLane)) noLane n
+    go false = refl
+
+post-here : (to : List Bool) (x : DownMessage) (ls : List Lane) (t : ℕ) → t < length ls →
+    getD (postTo to x t ls) t noLane ≡ cond (goesTo to t) (posted x (getD ls t noLane)) (getD ls t noLane)
+unfolding postTo
+post-here to x ls t h = go (goesTo to t)
+  where
+    go : (b : Bool) → getD (cond b (set ls t (posted x (getD ls t noLane))) ls) t noLane ≡ cond b (posted x (getD ls t noLane)) (getD ls t noLane)
+    go true = getD-set-same ls t (posted x (getD ls t noLane)) noLane h
+    go false = refl
+
+-- lanes from t on are as they were
+posts-after : (to : List Bool) (x : DownMessage) (ls : List Lane) (t j : ℕ) → t ≤ j → getD (upTo (postTo to x) t ls) j noLane ≡ getD ls j noLane
+unfolding upTo
+posts-after to x ls zero j h = refl
+posts-after to x ls (suc t) j h = post-other to x (upTo (postTo to x) t ls) t j (λ e. omega arith) ∙ posts-after to x ls t j (omega arith)
+
+-- those before have the message, if it goes there
+posts-before : (to : List Bool) (x : DownMessage) (ls : List Lane) (t j : ℕ) → j < t → t ≤ length ls →
+    getD (upTo (postTo to x) t ls) j noLane ≡ cond (goesTo to j) (posted x (getD ls j noLane)) (getD ls j noLane)
+posts-before to x ls zero j h l = absurd (omega arith)
+posts-before to x ls (suc t) j h l =
+    let p : j ≤ t = omega arith in
+    ap (λ (r : List Lane). getD r j noLane) (post-step to x ls t) ∙ go (eq-or-lt-of-le p) (λ q. posts-before to x ls t j q (omega arith))
+  where
+    U : List Lane
+    U = upTo (postTo to x) t ls
+
+    go : (j ≡ t) ⊎ (j < t) → (j < t → getD U j noLane ≡ cond (goesTo to j) (posted x (getD ls j noLane)) (getD ls j noLane)) →
+        getD (postTo to x t U) j noLane ≡ cond (goesTo to j) (posted x (getD ls j noLane)) (getD ls j noLane)
+    go (inl e) r =
+        let z = posts-length to x ls t in
+        rw e (post-here to x U t (omega arith) ∙ ap (λ (y : Lane). cond (goesTo to t) (posted x y) y) (posts-after to x ls t t (omega arith)))
+    go (inr q) r = post-other to x U t j (λ e. omega arith) ∙ r q
+
+-- every lane, after a message to those that it goes to
+pub post-at : (to : List Bool) (x : DownMessage) (ls : List Lane) (j : ℕ) → length to ≡ 8 → length ls ≡ 8 →
+    getD (postAll to x ls) j noLane ≡ cond (goesTo to j) (posted x (getD ls j noLane)) (getD ls j noLane)
+unfolding postAll
+post-at to x ls j t l = go (below? j 8)
+  where
+    go : (j < 8) ⊎ (8 ≤ j) → getD (upTo (postTo to x) 8 ls) j noLane ≡ cond (goesTo to j) (posted x (getD ls j noLane)) (getD ls j noLane)
+    go (inl h) = posts-before to x ls 8 j h (omega arith)
+    go (inr h) =
+        let p : length to ≤ j = omega arith in
+        let e : getD to j false ≡ false = List·getD-eq-default to false p in
+        rw e (posts-after to x ls 8 j h)
+
+-- a message goes to lanes only
+pub goes-below : (to : List Bool) (j : ℕ) → length to ≡ 8 → goesTo to j ≡ true → j < 8
+goes-below to j t e = go (below? j 8)
+  where
+    go : (j < 8) ⊎ (8 ≤ j) → j < 8
+    go (inl h) = h
+    go (inr h) =
+        let p : length to ≤ j = omega arith in
+        let q : getD to j false ≡ false = List·getD-eq-default to false p in
+        let z : _≡_ {A = ℕ} 0 1 = cc in
+        absurd (omega arith)
+
+-- the lanes that a message goes to have room for it
+pub room : (to : List Bool) (ls : List Lane) (j : ℕ) → length to ≡ 8 → someFull to ls ≡ false → goesTo to j ≡ true → getD ls j noLane .downs .len < 2
+unfolding someFull
+room to ls j t e g =
+    leb-false 2 (getD ls j noLane .downs .len)
+    (and-right (goesTo to j) (fullAt (getD ls j noLane .downs .len)) (any-false (λ i. goesTo to i && fullAt (getD ls i noLane .downs .len)) 8 j e (goes-below to j t g)) g)
+
+-- a lane with one down message more, or as it was
+post-pick : (b : Bool) (x : DownMessage) (l : Seen) →
+    _≡_ {A = Seen} (record { line = l .line; words = l .words; returns = l .returns; downs = cond b (l .downs ++ (x ∷ [])) (l .downs); waiting = l .waiting })
+    (cond b (postSeen x l) l)
+post-pick true x l = refl
+post-pick false x l = refl
+
+-- a lane that a message joined, as a block sees it
+pub seen-posted : (c : ℕ) (a : BlockNo) (x : DownMessage) (l : Lane) → LaneSized l → l .downs .len < 2 →
+    seen c a (posted x l) ≡ cond (downAbout a x) (postSeen x (seen c a l)) (seen c a l)
+unfolding seen
+seen-posted c a x l z h =
+    rw (lt-leb 2 (l .downs .len) h, push-messages (l .downs .len) (l .downs .at) x (z .downs) h, keep-join (downAbout a) (messages (l .downs .len) (l .downs .at)) x)
+    (post-pick (downAbout a x) x (seen c a l))
+
+-- lane j of a store in which lane k was put back and a message sent to some lanes
+lane-sent : (s : Store) (k : ℕ) (l : Lane) (to : List Bool) (x : DownMessage) (j : ℕ) → length to ≡ 8 → length (s .lanes) ≡ 8 → k < 8 →
+    getD (postAll to x (set (s .lanes) k l)) j noLane ≡ cond (goesTo to j) (posted x (cond (eqb j k) l (laneAt s j))) (cond (eqb j k) l (laneAt s j))
+lane-sent s k l to x j t n h =
+    let z = length-set (s .lanes) k l in
+    post-at to x (set (s .lanes) k l) j t (z ∙ n) ∙
+    ap (λ (y : Lane). cond (goesTo to j) (posted x y) y) (getD-set (s .lanes) k j l noLane (omega arith))
+
+-- what memory's part of a call leaves, where it is not refused
+abbrev pub movedStore : Store → LaneNo → BlockNo → Move → Store
+movedStore s k a v = record {
+  n = s .n;
+  c = s .c;
+  m = s .m;
+  control = v .control;
+  lanes = postAll (v .to) (v .message) (set (s .lanes) (k .0) (v .lane));
+  blocks = set (s .blocks) (a .0) (v .block);
+}
+
+-- what memory's part of a call has to show: sizes, room in the queues, and that its message is about its block
+pub record Moves (s : Store) (k : LaneNo) (a : BlockNo) (v : Move) : Type 0 where
+  pub sized : Sized s
+  pub lane-below : k .0 < 8
+  pub block-below : a .0 < 64
+  pub to : length (v .to) ≡ 8
+  pub lane : LaneSized (v .lane)
+  pub space : someFull (v .to) (set (s .lanes) (k .0) (v .lane)) ≡ false
+  pub about : (j : ℕ) → goesTo (v .to) j ≡ true → v .message .block .0 ≡ a .0
+
+module _ (s : Store) (k : LaneNo) (x : BlockNo) (v : Move) (g : Moves s k x v) where
+  -- lane j before the message is sent
+  was : ℕ → Lane
+  was j = cond (eqb j (k .0)) (v .lane) (laneAt s j)
+
+  was-sized : (j : ℕ) → j < 8 → LaneSized (was j)
+  unfolding was
+  was-sized j h = by-cond LaneSized (eqb j (k .0)) (v .lane) (laneAt s j) (g .lane) (g .sized .lane j h)
+
+  was-room : (j : ℕ) → goesTo (v .to) j ≡ true → was j .downs .len < 2
+  unfolding was
+  was-room j e =
+      let z = g .sized .lanes in
+      let p = g .lane-below in
+      let q : k .0 < length (s .lanes) = omega arith in
+      rw (← getD-set (s .lanes) (k .0) j (v .lane) noLane q) (room (v .to) (set (s .lanes) (k .0) (v .lane)) j (g .to) (g .space) e)
+
+  -- each lane, as block a sees it
+  lane-seen : (a : BlockNo) (j : ℕ) →
+      seen (s .c) a (getD (postAll (v .to) (v .message) (set (s .lanes) (k .0) (v .lane))) j noLane) ≡
+      cond (goesTo (v .to) j && downAbout a (v .message)) (postSeen (v .message) (seen (s .c) a (was j))) (seen (s .c) a (was j))
+  unfolding was
+  lane-seen a j =
+      ap (seen (s .c) a) (lane-sent s (k .0) (v .lane) (v .to) (v .message) j (g .to) (g .sized .lanes) (g .lane-below)) ∙
+      on (goesTo (v .to) j)
+      (λ e. rw e (seen-posted (s .c) a (v .message) (was j) (was-sized j (goes-below (v .to) j (g .to) e)) (was-room j e)))
+      (λ e. rw e refl)
+
+  was-seen : (a : BlockNo) (j : ℕ) → seen (s .c) a (was j) ≡ upd (λ i. seen (s .c) a (laneAt s i)) (k .0) (seen (s .c) a (v .lane)) j
+  unfolding was
+  was-seen a j = pick-of (seen (s .c) a) (eqb j (k .0)) (v .lane) (laneAt s j)
+
+  -- the store after it, as its block sees it
+  pub project-here : project (movedStore s k x v) (x .0) ≡ record {
+    lane = sendAll (v .to) (v .message) (upd (project s (x .0) .lane) (k .0) (seen (s .c) x (v .lane)));
+    block = v .block;
+    service = serviceOf (v .control) x;
+  }
+  project-here = cong3 (fun-ext lane) (getD-set-same (s .blocks) (x .0) (v .block) noBlock below)
+    where
+      below : x .0 < length (s .blocks)
+      below = let z = g .sized .blocks in let p = g .block-below in omega arith
+
+      cong3 : {f h : ℕ → Seen} {b d : Block} → f ≡ h → b ≡ d →
+          _≡_ {A = BlockState} (record { lane = f; block = b; service = serviceOf (v .control) x }) (record { lane = h; block = d; service = serviceOf (v .control) x })
+      cong3 e q = rw (e, q)
+
+      lane : (j : ℕ) → project (movedStore s k x v) (x .0) .lane j ≡ sendAll (v .to) (v .message) (upd (project s (x .0) .lane) (k .0) (seen (s .c) x (v .lane))) j
+      lane j =
+          lane-seen x j ∙
+          on (goesTo (v .to) j)
+          (λ e. rw (e, eq-eqb (v .message .block .0) (x .0) (g .about j e), was-seen x j))
+          (λ e. rw (e, was-seen x j))
+
+  -- .. and as another block sees it, which sees nothing of the lane's and the control's change
+  pub project-there : (a : ℕ) → a ≢ x .0 → seen (s .c) (blockNo a) (v .lane) ≡ seen (s .c) (blockNo a) (laneAt s (k .0)) →
+      serviceOf (v .control) (blockNo a) ≡ serviceOf (s .control) (blockNo a) → project (movedStore s k x v) a ≡ project s a
+  project-there a n e q = rw (q, getD-set-other (s .blocks) (x .0) a (v .block) noBlock n) (ap (λ (f : ℕ → Seen). record { lane = f; block = blockAt s a; service = serviceOf (s .control) (blockNo a) }) (fun-ext lane))
+    where
+      lane : (j : ℕ) → project (movedStore s k x v) a .lane j ≡ project s a .lane j
+      lane j =
+          lane-seen (blockNo a) j ∙
+          on (goesTo (v .to) j)
+          (λ p. rw (p, ne-eqb (v .message .block .0) a (λ r. n (sym r ∙ g .about j p)), was-seen (blockNo a) j, e) (ap (λ (f : ℕ → Seen). f j) (upd-self (project s a .lane) (k .0))))
+          (λ p. rw (p, was-seen (blockNo a) j, e) (ap (λ (f : ℕ → Seen). f j) (upd-self (project s a .lane) (k .0))))
