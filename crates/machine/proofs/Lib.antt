@@ -17,3 +17,5 @@ pub mod KeepsRepeat
 pub mod KeepsShape
 pub mod Owes
 pub mod Sized
+pub mod OuterTie
+pub mod Outer
