@@ -160,3 +160,89 @@ module _ (h : List Entry) (q : ℕ → Pending) (g : List ℕ) where
       all : ((k : ℕ) → q k ≡ Rests) → (a : Begun) → Outstanding p last a ⊎ List·Memᴰ a (begunAt i k op w ∷ bs) → List·Memᴰ a (operationsOf xs)
       all quiet a (inl y) = r .all-completed quiet a (inl (all-wait p last i k op w e a y))
       all quiet a (inr n) = elim (List·Memᴰ·cases-cons n) [ inl d ↦ r .all-completed quiet a (inl (rw d (waits-now p last i k op w))) | inr y ↦ r .all-completed quiet a (inr y) ]
+
+  -- completions one after another keep the tie
+  completes-tied : (p : ℕ → Pending) (last : Waits) (i : ℕ) (f : List ℕ) (cs : List Completion) (p₁ : ℕ → Pending) (f₁ : List ℕ) →
+      Tied (In h) p last i → Completes p f cs p₁ f₁ → Tied (In h) p₁ last i
+  completes-tied p last i f [] p₁ f₁ t s = rw (s .0) t
+  completes-tied p last i f (x ∷ cs) p₁ f₁ t s =
+      completes-tied (upd p (x .lane .0) Rests) last i (flatAfter f (fed (s .0) (s .1))) cs p₁ f₁ (tied-done p last (x .lane .0) (In h) i t) (s .4)
+
+  -- .. and each is of its lane's last wait
+  abbrev byLane : Waits → Completion → Attributed
+  byLane last x = record { completion = x; origin = last (x .lane .0) }
+
+  tells-completes : (p : ℕ → Pending) (last : Waits) (i : ℕ) (f : List ℕ) (cs : List Completion) (p₁ : ℕ → Pending) (f₁ : List ℕ) (xs : List Attributed) (bs : List Begun) →
+      Tied (In h) p last i → Completes p f cs p₁ f₁ → Tells p₁ last i f₁ xs bs → Tells p last i f (map (byLane last) cs ++ xs) bs
+  tells-completes p last i f [] p₁ f₁ xs bs t s r = rw (s .0, s .1) at r
+  tells-completes p last i f (x ∷ cs) p₁ f₁ xs bs t s r =
+      let o = t .held (x .lane) (s .0) (s .1) (s .2) in
+      rw (o .1 .is-last)
+      (tells-done p last i f x (begunAt (o .0) (x .lane) (s .0) (s .1)) (map (byLane last) cs ++ xs) bs t (o .1) refl (s .3)
+      (tells-completes (upd p (x .lane .0) Rests) last i (flatAfter f (fed (s .0) (s .1))) cs p₁ f₁ xs bs (tied-done p last (x .lane .0) (In h) i t) (s .4) r))
+
+  -- one call with its answer, then xs and bs
+  abbrev Follows : (ℕ → Pending) → Waits → ℕ → List ℕ → Call → Reply → (ℕ → Pending) → List ℕ → List Attributed → List Begun → Type 0
+  Follows p last i f c r p₁ f₁ xs bs =
+      Tied (In h) p₁ (waitsAfter i last c (isWait r)) (suc i) ×
+      (Tells p₁ (waitsAfter i last c (isWait r)) (suc i) f₁ xs bs →
+      Tells p last i f (map (λ (x : Completion). record { completion = x; origin = originOf i last c x }) (completionsOf r) ++ xs) (begunBy i c (isRefused r) ++ bs))
+
+  module _ (p : ℕ → Pending) (last : Waits) (i : ℕ) (f : List ℕ) (t : Tied (In h) p last i) (p₁ : ℕ → Pending) (f₁ : List ℕ) (xs : List Attributed) (bs : List Begun) where
+    -- a begin call
+    follows-begin : (k : LaneNo) (op : Op) (w : WordNo) (a : Answer) → ((b : Begun) → List·Memᴰ b (begunBy i (Begin k op w) (isRefused (Answers a))) → In h b) →
+        BeginOwes p f k op w a p₁ f₁ → Follows p last i f (Begin k op w) (Answers a) p₁ f₁ xs bs
+    unfolding waitsAfter originOf begunBy
+    follows-begin k op w Opened new s = absurd s
+    follows-begin k op w (Done x) new s =
+        (rw (s .2) (tied-later (In h) p last i t),
+        λ r. tells-hit p last i f x (begunAt i k op w) xs bs t refl (new (begunAt i k op w) (List·Memᴰ·head refl)) (sym (s .0)) (s .1) (rw (s .2, s .3) at r))
+    follows-begin k op w Wait new s =
+        (rw (s .1) (tied-wait p last i k op w (In h) t (new (begunAt i k op w) (List·Memᴰ·head refl))),
+        λ r. tells-wait p last i f k op w xs bs (s .0) (rw (s .1, s .2) at r))
+    follows-begin k op w Step new s = absurd s
+    follows-begin k op w (Answer.Refused n) new s = (rw (s .0) (tied-later (In h) p last i t), λ r. tells-later p last i f xs bs (rw (s .0, s .1) at r))
+
+    -- a call whose completions are of their lanes' last waits
+    abbrev Lately : Reply → Type 0
+    Lately r = Tied (In h) p₁ last (suc i) × (Tells p₁ last (suc i) f₁ xs bs → Tells p last i f (map (byLane last) (completionsOf r) ++ xs) bs)
+
+    lately : (r : Reply) → Completes p f (completionsOf r) p₁ f₁ → Lately r
+    lately r s =
+        (tied-later (In h) p₁ last i (completes-tied p last i f (completionsOf r) p₁ f₁ t s),
+        λ z. tells-completes p last i f (completionsOf r) p₁ f₁ xs bs t s (tells-later p₁ last i f₁ xs bs z))
+
+    follows : (c : Call) (r : Reply) → ((b : Begun) → List·Memᴰ b (begunBy i c (isRefused r)) → In h b) → Owes p f c r p₁ f₁ → Follows p last i f c r p₁ f₁ xs bs
+    unfolding waitsAfter originOf begunBy
+    follows (Begin k op w) (Answers a) new s = follows-begin k op w a new s
+    follows (Begin k op w) (Settles a cs) new s = absurd s
+    follows (Serve k) r new s = lately r s
+    follows (Return k) r new s = lately r s
+    follows (Deliver k) r new s = lately r s
+    follows Settle r new s = lately r s
+
+  -- the whole list
+  tells : (es : List Entry) (p : ℕ → Pending) (last : Waits) (i : ℕ) (f : List ℕ) → Tied (In h) p last i → ((b : Begun) → List·Memᴰ b (begunFrom i es) → In h b) →
+      Paid p f es q g → Tells p last i f (attribute i last es) (begunFrom i es)
+  unfolding attribute begunFrom
+  tells [] p last i f t new s = tells-none last i p f (s .0) (s .1)
+  tells (e ∷ es) p last i f t new s =
+      let last₁ = waitsAfter i last (e .call) (isWait (e .reply)) in
+      let one = follows p last i f t (s .0) (s .1) (attribute (suc i) last₁ es) (begunFrom (suc i) es) (e .call) (e .reply) (λ b m. new b (Memᴰ·append-left (begunFrom (suc i) es) m)) (s .2) in
+      one .1 (tells es (s .0) last₁ (suc i) (s .1) (one .0) (λ b m. new b (Memᴰ·append-right (begunBy i (e .call) (isRefused (e .reply))) m)) (s .3))
+
+-- nothing waits, so nothing is outstanding
+tied-none : (P : Begun → Type 0) → Tied P nonePending noWaits 0
+tied-none P = record
+  { held = λ k op w e. clash (cc)
+  ; before = λ b x. absurd (none b x)
+  ; was-begun = λ b x. absurd (none b x)
+  ; apart = λ a b x y e. absurd (none a x) }
+  where
+    none : (b : Begun) → Outstanding nonePending noWaits b → ⊥
+    none b x = let e : Rests ≡ Pending.Waits (b .op) (b .word) = x .waits in clash (cc)
+
+pub outer : (m : ℕ) (h : List Entry) (q : ℕ → Pending) (g : List ℕ) → Paid nonePending (flatOf m) h q g → Told m h q g
+outer m h q g s =
+    let r = tells h q g h nonePending noWaits 0 (flatOf m) (tied-none (In h)) (λ b n. n) s in
+    record { owned = r .owned; once = r .once; values = r .values; end = r .end; all-completed = λ quiet b n. r .all-completed quiet b (inr n) }
