@@ -19,3 +19,4 @@ pub mod Owes
 pub mod Sized
 pub mod OuterTie
 pub mod Outer
+pub mod OuterRun

@@ -7,8 +7,8 @@ use borrow.Author.Tests.{eq-eqb, ne-eqb}
 use Rattle.words.specs.declared.LaneNo.{LaneNo}
 use Rattle.words.specs.declared.WordNo.{WordNo}
 use Rattle.words.specs.declared.Op.{Op}
-use Rattle.machine.specs.Attribution.{Begun, Origin, Of, begunAt, Waits}
-use Rattle.machine.proofs.Owes.{Pending, Rests, upd}
+use Rattle.machine.specs.Attribution.{Begun, Of, begunAt, Waits, noWaits}
+use Rattle.machine.proofs.Owes.{Pending, Rests, upd, nonePending}
 use Rattle.machine.proofs.Sets.{same?}
 use Rattle.machine.proofs.KeepsLane.{clash}
 
@@ -46,6 +46,18 @@ one-each p last a b x y e = let u : Of a ≡ Of b = sym (x .is-last) ∙ ap last
 pub tied-later : (P : Begun → Type 0) (p : ℕ → Pending) (last : Waits) (i : ℕ) → Tied P p last i → Tied P p last (suc i)
 tied-later P p last i t = record { held = t .held; before = λ b x. let h = t .before b x in omega arith; was-begun = t .was-begun; apart = t .apart }
 
+-- nothing waits, so nothing is outstanding
+pub tied-none : (P : Begun → Type 0) → Tied P nonePending noWaits 0
+tied-none P = record {
+  held = λ k op w e. clash (cc);
+  before = λ b x. absurd (none b x);
+  was-begun = λ b x. absurd (none b x);
+  apart = λ a b x y e. absurd (none a x);
+}
+  where
+    none : (b : Begun) → Outstanding nonePending noWaits b → ⊥
+    none b x = let e : Rests ≡ Pending.Waits (b .op) (b .word) = x .waits in clash (cc)
+
 -- lane k's operation completes
 module _ (p : ℕ → Pending) (last : Waits) (k : ℕ) where
   -- the others are outstanding still
@@ -64,71 +76,81 @@ module _ (p : ℕ → Pending) (last : Waits) (k : ℕ) where
   pub waited-too : (b : Begun) → Outstanding (upd p k Rests) last b → (b .lane .0 ≢ k) × Outstanding p last b
   waited-too b x = let r = rests-now (b .lane .0) (b .op) (b .word) (x .waits) in (r .0, record { waits = r .1; is-last = x .is-last })
 
+  -- so the tie is kept
   pub tied-done : (P : Begun → Type 0) (i : ℕ) → Tied P p last i → Tied P (upd p k Rests) last i
-  tied-done P i t = record
-    { held = held
-    ; before = λ b x. t .before b (waited-too b x .1)
-    ; was-begun = λ b x. t .was-begun b (waited-too b x .1)
-    ; apart = λ a b x y. t .apart a b (waited-too a x .1) (waited-too b y .1) }
+  tied-done P i t = record {
+    held = held;
+    before = λ b x. t .before b (waited-too b x .1);
+    was-begun = λ b x. t .was-begun b (waited-too b x .1);
+    apart = λ a b x y. t .apart a b (waited-too a x .1) (waited-too b y .1);
+  }
     where
-      held : (j : LaneNo) (op : Op) (w : WordNo) → upd p k Rests (j .0) ≡ Pending.Waits op w → (i : ℕ) × Outstanding (upd p k Rests) last (begunAt i j op w)
+      held : (j : LaneNo) (op : Op) (w : WordNo) → upd p k Rests (j .0) ≡ Pending.Waits op w → (z : ℕ) × Outstanding (upd p k Rests) last (begunAt z j op w)
       held j op w e =
           let r = rests-now (j .0) op w e in
           let h = t .held j op w (r .1) in
           (h .0, still-waits (begunAt (h .0) j op w) (r .0) (h .1))
 
--- the call at place i begins an operation that waits, on a lane that rests
+-- lane k waits for an operation
+abbrev pub waiting : (ℕ → Pending) → LaneNo → Op → WordNo → ℕ → Pending
+waiting p k op w = upd p (k .0) (Pending.Waits op w)
+
+-- .. which the call at place i began
+abbrev pub lastIs : Waits → ℕ → LaneNo → Op → WordNo → Waits
+lastIs last i k op w = upd last (k .0) (Of (begunAt i k op w))
+
+-- the call at place i is answered with a wait
 module _ (p : ℕ → Pending) (last : Waits) (i : ℕ) (k : LaneNo) (op : Op) (w : WordNo) where
-  abbrev pub pendingThen : ℕ → Pending
-  pendingThen = upd p (k .0) (Pending.Waits op w)
-
-  abbrev pub lastThen : Waits
-  lastThen = upd last (k .0) (Of (begunAt i k op w))
-
   -- it is outstanding
-  pub waits-now : Outstanding pendingThen lastThen (begunAt i k op w)
+  pub waits-now : Outstanding (waiting p k op w) (lastIs last i k op w) (begunAt i k op w)
   waits-now = record { waits = upd-same p (k .0) (Pending.Waits op w); is-last = upd-same last (k .0) (Of (begunAt i k op w)) }
 
   -- those on other lanes are so still
-  pub others-wait : (b : Begun) → b .lane .0 ≢ k .0 → Outstanding p last b → Outstanding pendingThen lastThen b
-  others-wait b n x = record
-    { waits = upd-other p (k .0) (Pending.Waits op w) (b .lane .0) n ∙ x .waits
-    ; is-last = upd-other last (k .0) (Of (begunAt i k op w)) (b .lane .0) n ∙ x .is-last }
+  pub others-wait : (b : Begun) → b .lane .0 ≢ k .0 → Outstanding p last b → Outstanding (waiting p k op w) (lastIs last i k op w) b
+  others-wait b n x = record {
+    waits = upd-other p (k .0) (Pending.Waits op w) (b .lane .0) n ∙ x .waits;
+    is-last = upd-other last (k .0) (Of (begunAt i k op w)) (b .lane .0) n ∙ x .is-last;
+  }
 
-  -- .. and these are all before it
-  pub all-wait : p (k .0) ≡ Rests → (b : Begun) → Outstanding p last b → Outstanding pendingThen lastThen b
+  -- .. and where the lane rested these are all
+  pub all-wait : p (k .0) ≡ Rests → (b : Begun) → Outstanding p last b → Outstanding (waiting p k op w) (lastIs last i k op w) b
   all-wait r b x = others-wait b (λ e. let u : Rests ≡ Pending.Waits (b .op) (b .word) = sym r ∙ ap p (sym e) ∙ x .waits in clash (cc)) x
 
   -- what is outstanding now is the new one, or was so before
-  pub new-or-old : (b : Begun) → Outstanding pendingThen lastThen b → (b ≡ begunAt i k op w) ⊎ Outstanding p last b
+  pub new-or-old : (b : Begun) → Outstanding (waiting p k op w) (lastIs last i k op w) b → (b ≡ begunAt i k op w) ⊎ Outstanding p last b
   new-or-old b x = go (same? (b .lane .0) (k .0))
     where
       go : (b .lane .0 ≡ k .0) ⊎ (b .lane .0 ≢ k .0) → (b ≡ begunAt i k op w) ⊎ Outstanding p last b
-      go (inl e) = inl (one-each pendingThen lastThen b (begunAt i k op w) x waits-now e)
-      go (inr n) = inr (record
-        { waits = sym (upd-other p (k .0) (Pending.Waits op w) (b .lane .0) n) ∙ x .waits
-        ; is-last = sym (upd-other last (k .0) (Of (begunAt i k op w)) (b .lane .0) n) ∙ x .is-last })
+      go (inl e) = inl (one-each (waiting p k op w) (lastIs last i k op w) b (begunAt i k op w) x waits-now e)
+      go (inr n) = inr (record {
+        waits = sym (upd-other p (k .0) (Pending.Waits op w) (b .lane .0) n) ∙ x .waits;
+        is-last = sym (upd-other last (k .0) (Of (begunAt i k op w)) (b .lane .0) n) ∙ x .is-last;
+      })
 
-  pub tied-wait : (P : Begun → Type 0) → Tied P p last i → P (begunAt i k op w) → Tied P pendingThen lastThen (suc i)
-  tied-wait P t new = record
-    { held = held
-    ; before = λ b x. before b (new-or-old b x)
-    ; was-begun = λ b x. was-begun b (new-or-old b x)
-    ; apart = λ a b x y. apart a b (new-or-old a x) (new-or-old b y) }
+  -- what a lane waits for is outstanding still
+  held-then : (P : Begun → Type 0) → Tied P p last i → (j : LaneNo) (o : Op) (v : WordNo) → waiting p k op w (j .0) ≡ Pending.Waits o v →
+      (z : ℕ) × Outstanding (waiting p k op w) (lastIs last i k op w) (begunAt z j o v)
+  held-then P t j o v e = go (same? (j .0) (k .0))
     where
-      held : (j : LaneNo) (o : Op) (v : WordNo) → pendingThen (j .0) ≡ Pending.Waits o v → (i : ℕ) × Outstanding pendingThen lastThen (begunAt i j o v)
-      held j o v e = go (same? (j .0) (k .0))
-        where
-          go : (j .0 ≡ k .0) ⊎ (j .0 ≢ k .0) → (i : ℕ) × Outstanding pendingThen lastThen (begunAt i j o v)
-          go (inl q) =
-              let u : Pending.Waits op w ≡ Pending.Waits o v = sym (upd-same p (k .0) (Pending.Waits op w)) ∙ ap pendingThen (sym q) ∙ e in
-              let s : j ≡ k = lane-same j k q in
-              let b : begunAt i k op w ≡ begunAt i j o v = cc in
-              (i, rw (← b) waits-now)
-          go (inr n) =
-              let h = t .held j o v (sym (upd-other p (k .0) (Pending.Waits op w) (j .0) n) ∙ e) in
-              (h .0, others-wait (begunAt (h .0) j o v) n (h .1))
+      go : (j .0 ≡ k .0) ⊎ (j .0 ≢ k .0) → (z : ℕ) × Outstanding (waiting p k op w) (lastIs last i k op w) (begunAt z j o v)
+      go (inl q) =
+          let u : Pending.Waits op w ≡ Pending.Waits o v = sym (upd-same p (k .0) (Pending.Waits op w)) ∙ ap (waiting p k op w) (sym q) ∙ e in
+          let s : j ≡ k = lane-same j k q in
+          let b : begunAt i k op w ≡ begunAt i j o v = cc in
+          (i, rw (← b) waits-now)
+      go (inr n) =
+          let h = t .held j o v (sym (upd-other p (k .0) (Pending.Waits op w) (j .0) n) ∙ e) in
+          (h .0, others-wait (begunAt (h .0) j o v) n (h .1))
 
+  -- so the tie is kept
+  pub tied-wait : (P : Begun → Type 0) → Tied P p last i → P (begunAt i k op w) → Tied P (waiting p k op w) (lastIs last i k op w) (suc i)
+  tied-wait P t new = record {
+    held = held-then P t;
+    before = λ b x. before b (new-or-old b x);
+    was-begun = λ b x. was-begun b (new-or-old b x);
+    apart = λ a b x y. apart a b (new-or-old a x) (new-or-old b y);
+  }
+    where
       before : (b : Begun) → (b ≡ begunAt i k op w) ⊎ Outstanding p last b → b .place < suc i
       before b (inl e) = let h : b .place ≡ i = ap (λ (r : Begun). r .place) e in omega arith
       before b (inr x) = let h = t .before b x in omega arith
