@@ -23,3 +23,6 @@ pub mod Moves
 pub mod Flats
 pub mod Queued
 pub mod Project
+pub mod OuterTie
+pub mod Outer
+pub mod OuterRun
