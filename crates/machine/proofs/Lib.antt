@@ -26,3 +26,4 @@ pub mod Project
 pub mod OuterTie
 pub mod Outer
 pub mod OuterRun
+pub mod SizedKeeps
