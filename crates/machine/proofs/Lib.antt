@@ -27,3 +27,9 @@ pub mod OuterTie
 pub mod Outer
 pub mod OuterRun
 pub mod SizedKeeps
+pub mod Searches
+pub mod MemoryMoves
+pub mod Consistent
+pub mod AdvanceMove
+pub mod AdvanceServe
+pub mod AdvanceReturn

@@ -174,7 +174,7 @@ seen-posted c a x l z h =
     (post-pick (downAbout a x) x (seen c a l))
 
 -- lane j of a store in which lane k was put back and a message sent to some lanes
-lane-sent : (s : Store) (k : ℕ) (l : Lane) (to : List Bool) (x : DownMessage) (j : ℕ) → length to ≡ 8 → length (s .lanes) ≡ 8 → k < 8 →
+pub lane-sent : (s : Store) (k : ℕ) (l : Lane) (to : List Bool) (x : DownMessage) (j : ℕ) → length to ≡ 8 → length (s .lanes) ≡ 8 → k < 8 →
     getD (postAll to x (set (s .lanes) k l)) j noLane ≡ cond (goesTo to j) (posted x (cond (eqb j k) l (laneAt s j))) (cond (eqb j k) l (laneAt s j))
 lane-sent s k l to x j t n h =
     let z = length-set (s .lanes) k l in

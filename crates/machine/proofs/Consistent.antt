@@ -1,0 +1,64 @@
+-- What a store has that an opening and any calls after it give, beside flat memory f: the bounds, the arrays' lengths, different
+-- blocks in the valid lines of a lane, and the protocol's invariant for every block. Assumes nothing.
+use Prim.Native.Nat.{ℕ, _<_}
+use mathlib.Core.Path.{_≡_, refl, ap, fun-ext}
+use mathlib.Core.Bool.{Bool, true, false, cond}
+use mathlib.Core.List.{List}
+use borrow.Author.Tests.{leb-false}
+use lib.Dec.{leb, ltb}
+use Rattle.words.specs.declared.LaneNo.{LaneNo}
+use Rattle.lanes.specs.declared.Waiting.{Waiting}
+use Rattle.lanes.specs.declared.Waiting.the-variants.{Idle, Unserved, Served}
+use Rattle.answers.specs.declared.Refusal.{Refusal}
+use Rattle.answers.specs.declared.Refusal.the-variants.{NoSuchLane, QueueFull, Corrupt}
+use Rattle.store.specs.declared.Store.{Store}
+use Rattle.store.specs.declared.Outcome.{Outcome}
+use Rattle.store.specs.Quiet.{laneAt}
+use Rattle.machine.specs.Corruption.{corruptOf}
+use Rattle.machine.specs.Change.{refuse, guarded}
+use Rattle.machine.specs.Settle.{doneIn}
+use Rattle.machine.specs.Flat.{flatBlock}
+use Rattle.machine.proofs.Sets.{pick}
+use Rattle.machine.proofs.Owes.{Pending, Rests, Completes}
+use Rattle.machine.proofs.Sized.{Sized}
+use Rattle.machine.proofs.BlockState.{Status, project}
+use Rattle.machine.proofs.Invariant.{Inv}
+use Rattle.machine.proofs.Searches.{Unique}
+
+pub record Consistent (s : Store) (f : List ℕ) : Type 0 where
+  pub sound : corruptOf s ≡ false
+  pub sized : Sized s
+  pub unique : (k : ℕ) → Unique (s .c) (laneAt s k)
+  pub block : (a : ℕ) → a < s .m → (v : (ℕ → Status)) × Inv v (project s a) (flatBlock f a)
+
+-- what a lane waits for
+abbrev pub pendingOf : Waiting → Pending
+pendingOf Idle = Rests
+pendingOf (Unserved o) = Pending.Waits (o .op) (o .word)
+pendingOf (Served o) = Pending.Waits (o .op) (o .word)
+
+-- .. and lane k of a store: there are n lanes
+unfoldable pub pendingIn : Store → ℕ → Pending
+pendingIn s k = cond (ltb k (s .n)) (pendingOf (laneAt s k .waiting)) Rests
+
+-- what a step other than begin has to show, beside bounds and lengths, which are known of every step; g is flat memory after it
+pub record Advances (s : Store) (f : List ℕ) (r : Outcome) : Type 0 where
+  pub flat : List ℕ
+  pub unique : (k : ℕ) → Unique (r .store .c) (laneAt (r .store) k)
+  pub block : (a : ℕ) → a < r .store .m → (v : (ℕ → Status)) × Inv v (project (r .store) a) (flatBlock flat a)
+  pub completes : Completes (pendingIn s) f (doneIn (r .answer)) (pendingIn (r .store)) flat
+
+-- a refusal changes nothing
+pub refused-advances : (s : Store) (f : List ℕ) (x : Refusal) → Consistent s f → Advances s f (refuse x s)
+refused-advances s f x i = record { flat = f; unique = i .unique; block = i .block; completes = (refl, refl) }
+
+-- 14 and 6, then the rest of a call
+pub guarded-rule : (P : Outcome → Type 0) (s : Store) (k : LaneNo) (r : Outcome) → ((x : Refusal) → P (refuse x s)) → (k .0 < s .n → P r) → P (guarded s k r)
+guarded-rule P s k r stays next =
+    pick P (corruptOf s) (refuse Corrupt s) (cond (leb (s .n) (k .0)) (refuse NoSuchLane s) r) (λ _. stays Corrupt)
+    (λ _. pick P (leb (s .n) (k .0)) (refuse NoSuchLane s) r (λ _. stays NoSuchLane) (λ q. next (leb-false _ _ q)))
+
+-- the operations that wait, lane by lane
+pub pending-same : (s t : Store) → t .n ≡ s .n → ((j : ℕ) → pendingOf (laneAt t j .waiting) ≡ pendingOf (laneAt s j .waiting)) → pendingIn t ≡ pendingIn s
+unfolding pendingIn
+pending-same s t n e = fun-ext (λ j. rw (n, e j))
