@@ -18,3 +18,5 @@ pub mod KeepsShape
 pub mod Owes
 pub mod Sized
 pub mod SizedKeeps
+pub mod Falls
+pub mod FallsSettle
