@@ -105,11 +105,11 @@ step-advances s g =
     (by-cond (Advancing s) (ltb _ (s .n)) _ _ (serve-advances s _ g) (refused-advances s Unexpected)))
 
 pub settle-falls : (s : Store) → corruptOf s ≡ false → Sized s → refusedOf (settleStep s .answer) ≡ false → boundOf (settleStep s .store) < boundOf s
-settle-falls s e g h = step-advances s g h .falls
+settle-falls s _ g h = step-advances s g h .falls
 
 pub settle-completes : (s : Store) → corruptOf s ≡ false → Sized s → refusedOf (settleStep s .answer) ≡ false →
     length (doneIn (settleStep s .answer)) + waitingIn (settleStep s .store) ≡ waitingIn s
-settle-completes s e g h =
+settle-completes s _ g h =
     let a = step-advances s g h .completes in
     let b = count-sum (λ k. not (idleOf (laneAt s k .waiting))) (s .n) in
     let c = count-sum (λ k. not (idleOf (laneAt (settleStep s .store) k .waiting))) (settleStep s .store .n) in
