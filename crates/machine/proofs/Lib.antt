@@ -33,3 +33,10 @@ pub mod Consistent
 pub mod AdvanceMove
 pub mod AdvanceServe
 pub mod AdvanceReturn
+pub mod Sums
+pub mod Posts
+pub mod FallsLane
+pub mod FallsStore
+pub mod FallsMove
+pub mod Falls
+pub mod FallsSettle
