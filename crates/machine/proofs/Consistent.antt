@@ -42,15 +42,15 @@ unfoldable pub pendingIn : Store → ℕ → Pending
 pendingIn s k = cond (ltb k (s .n)) (pendingOf (laneAt s k .waiting)) Rests
 
 -- what a step other than begin has to show, beside bounds and lengths, which are known of every step; g is flat memory after it
-pub record Advances (s : Store) (f : List ℕ) (r : Outcome) : Type 0 where
+pub record StaysConsistent (s : Store) (f : List ℕ) (r : Outcome) : Type 0 where
   pub flat : List ℕ
   pub unique : (k : ℕ) → Unique (r .store .c) (laneAt (r .store) k)
   pub block : (a : ℕ) → a < r .store .m → (v : (ℕ → Status)) × Inv v (project (r .store) a) (flatBlock flat a)
   pub completes : Completes (pendingIn s) f (doneIn (r .answer)) (pendingIn (r .store)) flat
 
 -- a refusal changes nothing
-pub refused-advances : (s : Store) (f : List ℕ) (x : Refusal) → Consistent s f → Advances s f (refuse x s)
-refused-advances s f x i = record { flat = f; unique = i .unique; block = i .block; completes = (refl, refl) }
+pub refused-consistent : (s : Store) (f : List ℕ) (x : Refusal) → Consistent s f → StaysConsistent s f (refuse x s)
+refused-consistent s f x i = record { flat = f; unique = i .unique; block = i .block; completes = (refl, refl) }
 
 -- 14 and 6, then the rest of a call
 pub guarded-rule : (P : Outcome → Type 0) (s : Store) (k : LaneNo) (r : Outcome) → ((x : Refusal) → P (refuse x s)) → (k .0 < s .n → P r) → P (guarded s k r)

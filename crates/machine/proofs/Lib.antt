@@ -30,9 +30,9 @@ pub mod SizedKeeps
 pub mod Searches
 pub mod MemoryMoves
 pub mod Consistent
-pub mod AdvanceMove
-pub mod AdvanceServe
-pub mod AdvanceReturn
+pub mod ConsistentMove
+pub mod ConsistentServe
+pub mod ConsistentReturn
 pub mod Sums
 pub mod Posts
 pub mod FallsLane

@@ -31,6 +31,7 @@ use Rattle.machine.proofs.Owes.{upd}
 use Rattle.machine.proofs.Sized.{LaneSized, Sized}
 use Rattle.machine.proofs.BlockState.{Seen, BlockState, keepIf, downAbout, seen, blockNo, project}
 use Rattle.machine.proofs.Moves.{putLane, postSeen, sendAll}
+use Rattle.machine.proofs.Posts.{post-all-at, post-all-length}
 use Rattle.machine.proofs.Queued.{push-messages, keep-join}
 
 -- what is read after a set, by the test of the place
@@ -68,76 +69,19 @@ project-lane-same s k l a h e =
     project-lane s k l a h ∙ ap (λ (x : Seen). putLane k x (project s a)) e ∙
     ap (λ (f : ℕ → Seen). record { lane = f; block = blockAt s a; service = serviceOf (s .control) (blockNo a) }) (upd-self (project s a .lane) k)
 
--- a message to some of the first t lanes: the lanes' number is kept
-posts-length : (to : List Bool) (x : DownMessage) (ls : List Lane) (t : ℕ) → length (upTo (postTo to x) t ls) ≡ length ls
-unfolding upTo postTo
-posts-length to x ls zero = refl
-posts-length to x ls (suc t) = step (goesTo to t) (posts-length to x ls t)
-  where
-    step : (b : Bool) → length (upTo (postTo to x) t ls) ≡ length ls →
-        length (cond b (set (upTo (postTo to x) t ls) t (posted x (getD (upTo (postTo to x) t ls) t noLane))) (upTo (postTo to x) t ls)) ≡ length ls
-    step true e = length-set (upTo (postTo to x) t ls) t _ ∙ e
-    step false e = e
-
--- one more
-post-step : (to : List Bool) (x : DownMessage) (ls : List Lane) (t : ℕ) → upTo (postTo to x) (suc t) ls ≡ postTo to x t (upTo (postTo to x) t ls)
-unfolding upTo
-post-step to x ls t = refl
-
--- a lane after a message to lane t
-post-other : (to : List Bool) (x : DownMessage) (ls : List Lane) (t j : ℕ) → j ≢ t → getD (postTo to x t ls) j noLane ≡ getD ls j noLane
-unfolding postTo
-post-other to x ls t j n = go (goesTo to t)
-  where
-    go : (b : Bool) → getD (cond b (set ls t (posted x (getD ls t noLane))) ls) j noLane ≡ getD ls j noLane
-    go true = getD-set-other ls t j (posted x (getD ls t noLane)) noLane n
-    go false = refl
-
-post-here : (to : List Bool) (x : DownMessage) (ls : List Lane) (t : ℕ) → t < length ls →
-    getD (postTo to x t ls) t noLane ≡ cond (goesTo to t) (posted x (getD ls t noLane)) (getD ls t noLane)
-unfolding postTo
-post-here to x ls t h = go (goesTo to t)
-  where
-    go : (b : Bool) → getD (cond b (set ls t (posted x (getD ls t noLane))) ls) t noLane ≡ cond b (posted x (getD ls t noLane)) (getD ls t noLane)
-    go true = getD-set-same ls t (posted x (getD ls t noLane)) noLane h
-    go false = refl
-
--- lanes from t on are as they were
-posts-after : (to : List Bool) (x : DownMessage) (ls : List Lane) (t j : ℕ) → t ≤ j → getD (upTo (postTo to x) t ls) j noLane ≡ getD ls j noLane
-unfolding upTo
-posts-after to x ls zero j h = refl
-posts-after to x ls (suc t) j h = post-other to x (upTo (postTo to x) t ls) t j (λ e. omega arith) ∙ posts-after to x ls t j (omega arith)
-
--- those before have the message, if it goes there
-posts-before : (to : List Bool) (x : DownMessage) (ls : List Lane) (t j : ℕ) → j < t → t ≤ length ls →
-    getD (upTo (postTo to x) t ls) j noLane ≡ cond (goesTo to j) (posted x (getD ls j noLane)) (getD ls j noLane)
-posts-before to x ls zero j h l = absurd (omega arith)
-posts-before to x ls (suc t) j h l =
-    let p : j ≤ t = omega arith in
-    ap (λ (r : List Lane). getD r j noLane) (post-step to x ls t) ∙ go (eq-or-lt-of-le p) (λ q. posts-before to x ls t j q (omega arith))
-  where
-    U : List Lane
-    U = upTo (postTo to x) t ls
-
-    go : (j ≡ t) ⊎ (j < t) → (j < t → getD U j noLane ≡ cond (goesTo to j) (posted x (getD ls j noLane)) (getD ls j noLane)) →
-        getD (postTo to x t U) j noLane ≡ cond (goesTo to j) (posted x (getD ls j noLane)) (getD ls j noLane)
-    go (inl e) r =
-        let z = posts-length to x ls t in
-        rw e (post-here to x U t (omega arith) ∙ ap (λ (y : Lane). cond (goesTo to t) (posted x y) y) (posts-after to x ls t t (omega arith)))
-    go (inr q) r = post-other to x U t j (λ e. omega arith) ∙ r q
-
 -- every lane, after a message to those that it goes to
 pub post-at : (to : List Bool) (x : DownMessage) (ls : List Lane) (j : ℕ) → length to ≡ 8 → length ls ≡ 8 →
     getD (postAll to x ls) j noLane ≡ cond (goesTo to j) (posted x (getD ls j noLane)) (getD ls j noLane)
-unfolding postAll
 post-at to x ls j t l = go (below? j 8)
   where
-    go : (j < 8) ⊎ (8 ≤ j) → getD (upTo (postTo to x) 8 ls) j noLane ≡ cond (goesTo to j) (posted x (getD ls j noLane)) (getD ls j noLane)
-    go (inl h) = posts-before to x ls 8 j h (omega arith)
+    go : (j < 8) ⊎ (8 ≤ j) → getD (postAll to x ls) j noLane ≡ cond (goesTo to j) (posted x (getD ls j noLane)) (getD ls j noLane)
+    go (inl h) = post-all-at to x j ls h (omega arith)
     go (inr h) =
+        let z = post-all-length to x ls in
         let p : length to ≤ j = omega arith in
-        let e : getD to j false ≡ false = List·getD-eq-default to false p in
-        rw e (posts-after to x ls 8 j h)
+        let q : length ls ≤ j = omega arith in
+        let r : length (postAll to x ls) ≤ j = omega arith in
+        rw (List·getD-eq-default to false p, List·getD-eq-default ls noLane q, List·getD-eq-default (postAll to x ls) noLane r)
 
 -- a message goes to lanes only
 pub goes-below : (to : List Bool) (j : ℕ) → length to ≡ 8 → goesTo to j ≡ true → j < 8

@@ -43,9 +43,9 @@ use Rattle.machine.proofs.Invariant.{Inv}
 use Rattle.machine.proofs.Moves.{takeSeen, sendAll, closeState, returnState}
 use Rattle.machine.proofs.MemoryMoves.{close-keeps, eject-returns, answer-returns}
 use Rattle.machine.proofs.Project.{Moves, movedStore, project-here}
-use Rattle.machine.proofs.Consistent.{Consistent, Advances, refused-advances, guarded-rule}
-use Rattle.machine.proofs.AdvanceMove.{Shows, commit-advances}
-use Rattle.machine.proofs.AdvanceServe.{send-none, grant-block, only-length}
+use Rattle.machine.proofs.Consistent.{Consistent, StaysConsistent, refused-consistent, guarded-rule}
+use Rattle.machine.proofs.ConsistentMove.{Shows, commit-consistent}
+use Rattle.machine.proofs.ConsistentServe.{send-none, grant-block, only-length}
 
 -- nothing is sent
 nobody-goes : (j : ℕ) → goesTo nobody j ≡ false
@@ -166,16 +166,16 @@ module _ (s : Store) (f : List ℕ) (i : Consistent s f) (k : LaneNo) (h : k .0 
       }
 
   -- a message that is no answer
-  pub eject-advances : isAnswer (x .kind) ≡ false → Advances s f (commitMove s k a (quietly t u (s .control)))
-  eject-advances e =
-      commit-advances s f i k lane-below a (quietly t u (s .control))
+  pub eject-consistent : isAnswer (x .kind) ≡ false → StaysConsistent s f (commitMove s k a (quietly t u (s .control)))
+  eject-consistent e =
+      commit-consistent s f i k lane-below a (quietly t u (s .control))
       (quiet-shows (s .control) (λ c n. refl) (eject-returns (before .0) (project s (a .0)) (flatBlock f (a .0)) k x rest (before .1) lane-below has-head e))
 
   -- an answer, by what the control says to it
-  pub answer-advances : isAnswer (x .kind) ≡ true → (v : Service) → serviceOf (s .control) a ≡ Of v →
-      Advances s f (commitMove s k a (answered (countedOf (Of v)) l b (s .control) t u))
+  pub answer-consistent : isAnswer (x .kind) ≡ true → (v : Service) → serviceOf (s .control) a ≡ Of v →
+      StaysConsistent s f (commitMove s k a (answered (countedOf (Of v)) l b (s .control) t u))
   unfolding commitMove
-  answer-advances e v q = go (eqb (v .awaited) 0) refl (eqb (v .awaited) 1) refl
+  answer-consistent e v q = go (eqb (v .awaited) 0) refl (eqb (v .awaited) 1) refl
     where
       c : (s .control ≡ Busy v) × (v .block .0 ≡ a .0)
       c = looked-up (s .control) a v q
@@ -184,27 +184,27 @@ module _ (s : Store) (f : List ℕ) (i : Consistent s f) (k : LaneNo) (h : k .0 
       after n = answer-returns (before .0) (project s (a .0)) (flatBlock f (a .0)) k x rest v (before .1) lane-below has-head e q n
 
       go : (p : Bool) → eqb (v .awaited) 0 ≡ p → (d : Bool) → eqb (v .awaited) 1 ≡ d →
-          Advances s f (commitMove s k a (answered (cond p NotAwaited (cond d (Closes v Free) (Awaits (Busy (lowered v))))) l b (s .control) t u))
-      go true z d y = refused-advances s f Unexpected i
+          StaysConsistent s f (commitMove s k a (answered (cond p NotAwaited (cond d (Closes v Free) (Awaits (Busy (lowered v))))) l b (s .control) t u))
+      go true z d y = refused-consistent s f Unexpected i
       go false z true y =
           let n = eqb-true _ _ y in
-          commit-advances s f i k lane-below a (close v t u Free) (close-shows v (c .0) (c .1) (after (eqb-false _ _ z)) n)
+          commit-consistent s f i k lane-below a (close v t u Free) (close-shows v (c .0) (c .1) (after (eqb-false _ _ z)) n)
       go false z false y =
-          commit-advances s f i k lane-below a (quietly t u (Busy (lowered v)))
+          commit-consistent s f i k lane-below a (quietly t u (Busy (lowered v)))
           (quiet-shows (Busy (lowered v)) (λ j n. rw (c .0, ne-eqb (v .block .0) j (λ r. n (sym r ∙ c .1)))) (rw (eq-eqb _ _ (c .1)) (after (eqb-false _ _ z))))
 
-  pub head-advances : Advances s f (commitMove s k a (returnMove k x l b (s .control)))
+  pub head-consistent : StaysConsistent s f (commitMove s k a (returnMove k x l b (s .control)))
   unfolding returnMove commitMove
-  head-advances =
-      pick (λ (v : Move). Advances s f (commitMove s k a v)) (isAnswer (x .kind)) _ _ (λ e. go e (serviceOf (s .control) a) refl) eject-advances
+  head-consistent =
+      pick (λ (v : Move). StaysConsistent s f (commitMove s k a v)) (isAnswer (x .kind)) _ _ (λ e. go e (serviceOf (s .control) a) refl) eject-consistent
     where
-      go : isAnswer (x .kind) ≡ true → (w : Lookup) → serviceOf (s .control) a ≡ w → Advances s f (commitMove s k a (answered (countedOf w) l b (s .control) t u))
-      go e Nothing q = refused-advances s f Unexpected i
-      go e (Of v) q = answer-advances e v q
+      go : isAnswer (x .kind) ≡ true → (w : Lookup) → serviceOf (s .control) a ≡ w → StaysConsistent s f (commitMove s k a (answered (countedOf w) l b (s .control) t u))
+      go e Nothing q = refused-consistent s f Unexpected i
+      go e (Of v) q = answer-consistent e v q
 
-pub return-advances : (s : Store) (f : List ℕ) (k : LaneNo) → Consistent s f → Advances s f (returnOf s k)
+pub return-consistent : (s : Store) (f : List ℕ) (k : LaneNo) → Consistent s f → StaysConsistent s f (returnOf s k)
 unfolding returnOf
-return-advances s f k i =
-    guarded-rule (Advances s f) s k _ (λ x. refused-advances s f x i)
-    (λ h. pick (Advances s f) (emptyAt (laneAt s (k .0) .returns .len)) _ _ (λ _. refused-advances s f NothingPending i)
-    (λ e. head-advances s f i k h (eqb-false _ _ e)))
+return-consistent s f k i =
+    guarded-rule (StaysConsistent s f) s k _ (λ x. refused-consistent s f x i)
+    (λ h. pick (StaysConsistent s f) (emptyAt (laneAt s (k .0) .returns .len)) _ _ (λ _. refused-consistent s f NothingPending i)
+    (λ e. head-consistent s f i k h (eqb-false _ _ e)))

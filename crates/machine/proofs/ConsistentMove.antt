@@ -30,7 +30,7 @@ use Rattle.machine.proofs.BlockState.{Status, seen, blockNo, project}
 use Rattle.machine.proofs.Invariant.{Inv}
 use Rattle.machine.proofs.Searches.{Unique}
 use Rattle.machine.proofs.Project.{Moves, movedStore, lane-sent, project-there}
-use Rattle.machine.proofs.Consistent.{Consistent, pendingOf, pendingIn, Advances, refused-advances, pending-same}
+use Rattle.machine.proofs.Consistent.{Consistent, pendingOf, pendingIn, StaysConsistent, refused-consistent, pending-same}
 
 -- what memory's part of a call changes: of its lane neither lines nor what it waits for; of its lane and the control nothing that
 -- another block sees; and its block keeps the invariant
@@ -60,7 +60,7 @@ module _ (s : Store) (f : List ℕ) (i : Consistent s f) (k : LaneNo) (h : k .0 
       sent true = p (v .message) _ ∙ put (same? j (k .0))
       sent false = put (same? j (k .0))
 
-  moved : Moves s k x v → Advances s f (record { answer = v .answer; store = movedStore s k x v })
+  moved : Moves s k x v → StaysConsistent s f (record { answer = v .answer; store = movedStore s k x v })
   moved g =
       record {
         flat = f;
@@ -74,9 +74,9 @@ module _ (s : Store) (f : List ℕ) (i : Consistent s f) (k : LaneNo) (h : k .0 
       go a l (inr n) = rw (project-there s k x v g a n (w .unseen a n) (w .control a n)) (i .block a l)
 
   -- the part that stays, put back, or refused where a queue is full
-  pub commit-advances : Advances s f (commitMove s k x v)
+  pub commit-consistent : StaysConsistent s f (commitMove s k x v)
   unfolding commitMove
-  commit-advances =
+  commit-consistent =
       rw (w .answer)
-      (pick (Advances s f) (someFull (v .to) (set (s .lanes) (k .0) (v .lane))) _ _ (λ _. refused-advances s f QueueFull i)
+      (pick (StaysConsistent s f) (someFull (v .to) (set (s .lanes) (k .0) (v .lane))) _ _ (λ _. refused-consistent s f QueueFull i)
       (λ e. rw (w .answer) at (moved (record { sized = i .sized; lane-below = h; block-below = w .below; to = w .to; lane = w .lane; space = e; about = w .about }))))

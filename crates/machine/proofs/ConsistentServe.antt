@@ -44,8 +44,8 @@ use Rattle.machine.proofs.Invariant.{Inv}
 use Rattle.machine.proofs.Moves.{waitSeen, sendAll, serveState, closeState}
 use Rattle.machine.proofs.MemoryMoves.{serve-opens, close-keeps}
 use Rattle.machine.proofs.Project.{Moves, movedStore, project-here}
-use Rattle.machine.proofs.Consistent.{Consistent, Advances, refused-advances, guarded-rule}
-use Rattle.machine.proofs.AdvanceMove.{Shows, commit-advances}
+use Rattle.machine.proofs.Consistent.{Consistent, StaysConsistent, refused-consistent, guarded-rule}
+use Rattle.machine.proofs.ConsistentMove.{Shows, commit-consistent}
 
 -- none below n passes a test that counts none
 count-none : (p : ℕ → Bool) (n : ℕ) → countTo p n ≡ 0 → (j : ℕ) → j < n → p j ≡ false
@@ -186,20 +186,20 @@ module _ (s : Store) (f : List ℕ) (i : Consistent s f) (k : LaneNo) (h : k .0 
         here = λ g. rw (project-here s k x _ g, seen-here, no-service) (closed none);
       }
 
-  pub ready-advances : Advances s f (serveReady (Ready.Go o) s k)
+  pub ready-consistent : StaysConsistent s f (serveReady (Ready.Go o) s k)
   unfolding serveMove
-  ready-advances =
-      commit-advances s f i k lane-below x (serveMove k o (laneAt s (k .0)) b (s .control))
+  ready-consistent =
+      commit-consistent s f i k lane-below x (serveMove k o (laneAt s (k .0)) b (s .control))
       (pick (Shows s f k x) (eqb (countOf to) 0) _ _ (λ q. close-shows (eqb-true _ _ q)) (λ q. open-shows))
 
-pub serve-advances : (s : Store) (f : List ℕ) (k : LaneNo) → Consistent s f → Advances s f (serveOf s k)
+pub serve-consistent : (s : Store) (f : List ℕ) (k : LaneNo) → Consistent s f → StaysConsistent s f (serveOf s k)
 unfolding serveOf readyOf
-serve-advances s f k i = guarded-rule (Advances s f) s k _ (λ x. refused-advances s f x i) (λ h. go h (laneAt s (k .0) .waiting) refl)
+serve-consistent s f k i = guarded-rule (StaysConsistent s f) s k _ (λ x. refused-consistent s f x i) (λ h. go h (laneAt s (k .0) .waiting) refl)
   where
-    go : k .0 < s .n → (w : Waiting) → laneAt s (k .0) .waiting ≡ w → Advances s f (serveReady (readyWith w (laneAt s (k .0)) (s .control)) s k)
-    go h Idle e = refused-advances s f NothingPending i
-    go h (Served o) e = refused-advances s f NothingPending i
+    go : k .0 < s .n → (w : Waiting) → laneAt s (k .0) .waiting ≡ w → StaysConsistent s f (serveReady (readyWith w (laneAt s (k .0)) (s .control)) s k)
+    go h Idle e = refused-consistent s f NothingPending i
+    go h (Served o) e = refused-consistent s f NothingPending i
     go h (Unserved o) e =
-        pick (λ (y : Ready). Advances s f (serveReady y s k)) (busyOf (s .control)) _ _ (λ _. refused-advances s f ControlBusy i)
-        (λ q. pick (λ (y : Ready). Advances s f (serveReady y s k)) (ltb 0 (laneAt s (k .0) .returns .len)) _ _ (λ _. refused-advances s f ReturnsPending i)
-        (λ d. let p = ltb-false 0 (laneAt s (k .0) .returns .len) d in ready-advances s f i k h o e (not-busy (s .control) q) (omega arith)))
+        pick (λ (y : Ready). StaysConsistent s f (serveReady y s k)) (busyOf (s .control)) _ _ (λ _. refused-consistent s f ControlBusy i)
+        (λ q. pick (λ (y : Ready). StaysConsistent s f (serveReady y s k)) (ltb 0 (laneAt s (k .0) .returns .len)) _ _ (λ _. refused-consistent s f ReturnsPending i)
+        (λ d. let p = ltb-false 0 (laneAt s (k .0) .returns .len) d in ready-consistent s f i k h o e (not-busy (s .control) q) (omega arith)))
