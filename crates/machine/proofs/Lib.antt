@@ -22,3 +22,4 @@ pub mod Invariant
 pub mod Moves
 pub mod Chains
 pub mod LaneMoves
+pub mod LaneMovesBegin
