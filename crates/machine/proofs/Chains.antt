@@ -4,7 +4,7 @@ use Prim.Native.Nat.{ℕ, _+_}
 use native.Mathlib.Omega.{arith}
 use mathlib.Core.Logic.{_⊎_, inl, inr}
 use mathlib.Core.Path.{_≡_, refl, sym, ap, _∙_, subst}
-use mathlib.Core.Bool.{Bool, true, false, cond, _||_}
+use mathlib.Core.Bool.{true, false, cond}
 use mathlib.Core.List.{List, [], _∷_, _++_}
 use Rattle.queues.specs.declared.ReturnMessage.{ReturnMessage}
 use Rattle.queues.specs.declared.ReturnKind.{ReturnKind}
@@ -18,8 +18,8 @@ use Rattle.machine.specs.Return.{isAnswer}
 use Rattle.machine.specs.Settle.{isOrder}
 use Rattle.machine.proofs.KeepsLane.{clash}
 use Rattle.machine.proofs.Tests.{on}
-use Rattle.machine.proofs.BlockState.{Status, Invalid, Shared, Modified, held, dirty, Seen}
-use Rattle.machine.proofs.Invariant.{Fits, Sent, loads, filled, Rest, DueHead, Due, Chain, answerCount, orderCount, grantCount, bearing, ReturnsBear, isGrant, DownsBear, Bears, isUpdated, someUpdated}
+use Rattle.machine.proofs.BlockState.{Status, Invalid, Modified, held, dirty, Seen}
+use Rattle.machine.proofs.Invariant.{Fits, Sent, loads, filled, Rest, DueHead, Due, Chain, answerCount, grantCount, bearing, ReturnsBear, isGrant, DownsBear, Bears, isUpdated, someUpdated}
 
 -- no message leads to Modified
 pub fits-clean : (x : Status) (m : ReturnKind) (y : Status) → Fits x m y → dirty y ≡ false

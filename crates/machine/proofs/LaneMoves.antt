@@ -4,10 +4,9 @@ use Prim.Native.Nat.{ℕ, _+_}
 use native.Mathlib.Omega.{arith}
 use mathlib.Core.Logic.{_⊎_, inl, inr, _≢_}
 use mathlib.Core.Path.{_≡_, refl, sym, ap, _∙_, subst, fun-ext}
-use mathlib.Core.Bool.{Bool, true, false, cond, _||_}
+use mathlib.Core.Bool.{true, false}
 use mathlib.Core.List.{List, [], _∷_}
 use borrow.Author.Tests.{eq-eqb, ne-eqb}
-use lib.Dec.{eqb}
 use lib.Seq.{set-getD}
 use Rattle.words.specs.declared.WordNo.{WordNo}
 use Rattle.words.specs.declared.Op.{Op}
@@ -15,7 +14,6 @@ use Rattle.words.specs.declared.Op.the-variants as Op
 use Rattle.words.specs.Folds.{sumTo}
 use Rattle.words.specs.Units.{placeOf}
 use Rattle.queues.specs.declared.DownMessage.{DownMessage}
-use Rattle.lanes.specs.declared.Waiting.{Waiting}
 use Rattle.store.specs.declared.Service.{Service}
 use Rattle.store.specs.declared.Lookup.{Lookup}
 use Rattle.store.specs.declared.Lookup.the-variants.{Of, Nothing}
@@ -24,8 +22,8 @@ use Rattle.machine.proofs.KeepsLane.{clash}
 use Rattle.machine.proofs.Tests.{on}
 use Rattle.machine.proofs.Sets.{same?}
 use Rattle.machine.proofs.Owes.{upd}
-use Rattle.machine.proofs.BlockState.{Status, Invalid, Shared, Modified, held, dirty, Seen, BlockState, wordsDone}
-use Rattle.machine.proofs.Invariant.{Chain, owed, grantCount, serving, servedCount, WaitFits, ReturnsBear, Bears, someUpdate, someUpdated, exclusive, ServiceFits, ServedWell, Inv}
+use Rattle.machine.proofs.BlockState.{Status, Modified, held, dirty, Seen, BlockState, wordsDone}
+use Rattle.machine.proofs.Invariant.{Chain, owed, grantCount, serving, servedCount, WaitFits, ReturnsBear, Bears, someUpdate, someUpdated, ServiceFits, ServedWell, Inv}
 use Rattle.machine.proofs.Moves.{putLane}
 use Rattle.machine.proofs.Chains.{idle, absent-bears}
 
@@ -90,6 +88,7 @@ module _ (v : ℕ → Status) (b : BlockState) (g : List ℕ) (k : ℕ) (l : See
       r = upd-cases (λ j m. j ≡ s .lane .0 → Rests (b .lane j) m) (b .lane) k l (λ q. o .rests (here q))
           (λ j n q. record { returns = refl; downs = refl; line = refl; waiting = refl }) (s .lane .0) refl
 
+  -- the move keeps the invariant
   pub lane-keeps : (f : List ℕ) → Inv v b f → Inv v (putLane k l b) g
   lane-keeps f i =
       record {
@@ -139,7 +138,7 @@ module _ (v : ℕ → Status) (b : BlockState) (f : List ℕ) (k : ℕ) (i : Inv
       on (isLoad op) (λ e. subst (λ (g : List ℕ). Elsewhere v b g k) (sym (load-done op w f e)) same-elsewhere)
       (λ e. sole-elsewhere (wordsDone op w f) (h e))
 
-  -- a lane with no grant under way whose operation is not served is not in service
+  -- a lane whose operation is not served has no grant under way and is not in service
   pub unserved-rests : servedCount (b .lane k .waiting) ≡ 0 → (grantCount (b .lane k .downs) ≡ 0) × (serving (b .service) k ≡ 0)
   unserved-rests e = let h = i .grant k in (omega arith, omega arith)
 

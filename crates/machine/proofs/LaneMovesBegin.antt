@@ -1,26 +1,25 @@
 -- The moves of begin keep the protocol's invariant: hit, wait, eviction. Assumes nothing.
-use Prim.Native.Nat.{ℕ, _+_}
+use Prim.Native.Nat.{ℕ}
 use native.Mathlib.Omega.{arith}
 use mathlib.Core.Path.{_≡_, refl, sym, ap, _∙_, subst}
 use mathlib.Core.Bool.{Bool, true, false, cond, _||_}
-use mathlib.Core.List.{List, [], _∷_, _++_}
+use mathlib.Core.List.{List}
 use Rattle.words.specs.declared.BlockNo.{BlockNo}
 use Rattle.words.specs.declared.WordNo.{WordNo}
 use Rattle.words.specs.declared.Op.{Op}
 use Rattle.queues.specs.declared.ReturnMessage.{ReturnMessage}
 use Rattle.queues.specs.declared.ReturnKind.the-variants.{Eject, WriteEject}
 use Rattle.lanes.specs.declared.Operation.{Operation}
-use Rattle.lanes.specs.declared.Waiting.{Waiting}
-use Rattle.lanes.specs.declared.Waiting.the-variants.{Idle, Unserved, Served}
+use Rattle.lanes.specs.declared.Waiting.the-variants.{Idle, Unserved}
 use Rattle.machine.specs.Begin.{isLoad, bareReturn, wordsReturn}
 use Rattle.machine.specs.Return.{isAnswer}
 use Rattle.machine.proofs.KeepsLane.{clash}
 use Rattle.machine.proofs.Tests.{on}
-use Rattle.machine.proofs.BlockState.{Status, Invalid, Shared, Modified, held, dirty, Seen, BlockState, wordsDone}
-use Rattle.machine.proofs.Invariant.{Fits, Rest, Due, Chain, owed, grantCount, serving, servedCount, OperationFits, WaitFits, bearing, DownsBear, Bears, isUpdated, Inv}
+use Rattle.machine.proofs.BlockState.{Status, Invalid, Shared, Modified, held, dirty, BlockState, wordsDone}
+use Rattle.machine.proofs.Invariant.{Fits, Rest, Chain, owed, servedCount, OperationFits, bearing, DownsBear, isUpdated, Inv}
 use Rattle.machine.proofs.Moves.{putLane, hitSeen, waitSeen, ejection, evictSeen}
 use Rattle.machine.proofs.Chains.{join, rest-meets, rest-other, rest-due, rest-bears, due-ungranted, due-modified, answers-join, bears-join, updated-join}
-use Rattle.machine.proofs.LaneMoves.{Rests, LaneOwes, lane-keeps, load-done, same-elsewhere, done-elsewhere, unserved-rests}
+use Rattle.machine.proofs.LaneMoves.{LaneOwes, lane-keeps, load-done, same-elsewhere, done-elsewhere, unserved-rests}
 
 -- a copy that is PRIVATE is Modified
 dirty-modified : (x : Status) → dirty x ≡ true → x ≡ Modified
@@ -38,6 +37,7 @@ ejection-fits Shared a ws h = ((refl, refl), refl, refl, λ q. clash cc)
 ejection-fits Modified a ws h = ((refl, refl), refl, refl, λ q. refl)
 
 module _ (v : ℕ → Status) (b : BlockState) (f : List ℕ) (k : ℕ) where
+  -- the operation is done on the line
   pub hit-keeps : (op : Op) (w : WordNo) → Inv v b f → held (b .lane k .line) ≡ true → (isLoad op || dirty (b .lane k .line)) ≡ true →
       Inv v (putLane k (hitSeen op w (b .lane k)) b) (wordsDone op w f)
   unfolding owed
@@ -78,6 +78,7 @@ module _ (v : ℕ → Status) (b : BlockState) (f : List ℕ) (k : ℕ) where
       due-ungranted (b .lane k .waiting) (b .lane k .line) (b .lane k .downs) (i .chain k .meet) (i .chain k .due)
       (unserved-rests v b f k i (ap servedCount e) .0)
 
+  -- the operation waits
   pub wait-keeps : (o : Operation) → Inv v b f → b .lane k .waiting ≡ Idle → OperationFits (b .lane k .line) o → Inv v (putLane k (waitSeen (Unserved o) (b .lane k)) b) f
   unfolding owed
   wait-keeps o i e h = lane-keeps v b f k (waitSeen (Unserved o) (b .lane k)) owes f i
@@ -101,6 +102,7 @@ module _ (v : ℕ → Status) (b : BlockState) (f : List ℕ) (k : ℕ) where
             no-updated = λ q r. r;
           }
 
+  -- the line is given up
   pub evict-keeps : (a : BlockNo) → Inv v b f → b .lane k .waiting ≡ Idle → held (b .lane k .line) ≡ true → Inv v (putLane k (evictSeen a (b .lane k)) b) f
   unfolding owed
   evict-keeps a i e h = lane-keeps v b f k (evictSeen a (b .lane k)) owes f i

@@ -23,3 +23,4 @@ pub mod Moves
 pub mod Chains
 pub mod LaneMoves
 pub mod LaneMovesBegin
+pub mod LaneMovesDeliver
