@@ -40,3 +40,7 @@ pub mod FallsStore
 pub mod FallsMove
 pub mod Falls
 pub mod FallsSettle
+pub mod Chains
+pub mod LaneMoves
+pub mod LaneMovesBegin
+pub mod LaneMovesDeliver
