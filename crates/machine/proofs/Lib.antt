@@ -20,3 +20,4 @@ pub mod Sized
 pub mod BlockState
 pub mod Invariant
 pub mod Moves
+pub mod Queued
