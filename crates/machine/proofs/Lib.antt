@@ -21,3 +21,4 @@ pub mod BlockState
 pub mod Invariant
 pub mod Moves
 pub mod Queued
+pub mod Searches
