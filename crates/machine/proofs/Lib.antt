@@ -43,3 +43,5 @@ pub mod Chains
 pub mod LaneMoves
 pub mod LaneMovesBegin
 pub mod LaneMovesDeliver
+pub mod Queued
+pub mod Searches
