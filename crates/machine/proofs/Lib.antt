@@ -27,7 +27,6 @@ pub mod OuterTie
 pub mod Outer
 pub mod OuterRun
 pub mod SizedKeeps
-pub mod MemoryMoves
 pub mod Consistent
 pub mod ConsistentMove
 pub mod ConsistentServe

@@ -1,0 +1,191 @@
+-- A consistent store that is quiet: no lane waits, it shows flat memory's words, and the four properties of the flags hold.
+-- Assumes nothing.
+use Prim.Native.Nat.{ℕ, zero, suc, _<_, _≤_}
+use native.Mathlib.Omega.{arith}
+use native.Mathlib.Nat.{eq-or-lt-of-le}
+use mathlib.Core.Logic.{_⊎_, inl, inr, _≢_}
+use mathlib.Core.Path.{_≡_, refl, sym, ap, _∙_}
+use mathlib.Core.Bool.{Bool, true, false, cond, not, _||_, _&&_}
+use mathlib.Core.List.{List, []}
+use borrow.Author.Tests.{ltb-false, ltb-true, eq-eqb}
+use lib.Dec.{ltb, eqb}
+use lib.ListN.{length, getD, List·getD-eq-default}
+use Rattle.words.specs.declared.Line.{Line}
+use Rattle.words.specs.declared.LineNo.{LineNo}
+use Rattle.words.specs.declared.BlockNo.{BlockNo}
+use Rattle.words.specs.Lines.{noLine, holdsOf}
+use Rattle.words.specs.Folds.{upTo, anyTo}
+use Rattle.words.proofs.Folds.{below?, any-false, any-true, any-never, or-left, or-right}
+use Rattle.lanes.specs.declared.Lane.{Lane}
+use Rattle.lanes.specs.declared.Waiting.{Waiting}
+use Rattle.lanes.specs.declared.Waiting.the-variants.{Idle, Unserved, Served}
+use Rattle.lanes.specs.declared.Found.{Found}
+use Rattle.lanes.specs.declared.Found.the-variants.{At, Nothing}
+use Rattle.lanes.specs.Search.{searchOf}
+use Rattle.lanes.specs.Waits.{idleOf}
+use Rattle.store.specs.declared.Store.{Store}
+use Rattle.store.specs.declared.Block.{Block}
+use Rattle.store.specs.Control.{busyOf}
+use Rattle.store.specs.Quiet.{laneAt, blockAt, stirsOf, quietOf}
+use Rattle.machine.specs.Flat.{flatBlock}
+use Rattle.machine.specs.Flags.{lineIn, presentIn, hasCopy, owns, shownOf, Flags}
+use Rattle.machine.proofs.Tests.{on}
+use Rattle.machine.proofs.Sets.{same?, pick}
+use Rattle.machine.proofs.Sound.{sound}
+use Rattle.machine.proofs.Owes.{Rests}
+use Rattle.machine.proofs.BlockState.{Status, Invalid, Shared, Modified, held, dirty, statusAt, wordsAt, seen, blockNo, project}
+use Rattle.machine.proofs.Invariant.{Inv, viewOf}
+use Rattle.machine.proofs.BlockQuiet.{quiet-view}
+use Rattle.machine.proofs.Searches.{Unique, found-holds, none-holds, search-at, holds-valid, valid-holds}
+use Rattle.machine.proofs.Consistent.{Consistent, pendingOf, pendingIn}
+
+clash : {A : Type 0} → _≡_ {A = ℕ} 0 1 → A
+clash z = absurd (omega arith)
+
+-- a loop keeps what each turn keeps
+loop-keeps : {A : Type 0} (P : A → Type 0) (g : ℕ → A → A) (n : ℕ) (a : A) → ((k : ℕ) → k < n → (x : A) → P x → P (g k x)) → P a → P (upTo g n a)
+unfolding upTo
+loop-keeps P g zero a e p = p
+loop-keeps P g (suc n) a e p = e n (omega arith) (upTo g n a) (loop-keeps P g n a (λ k h. e k (omega arith)) p)
+
+-- .. and has at its end what one turn gives
+loop-gives : {A : Type 0} (P : A → Type 0) (g : ℕ → A → A) (n : ℕ) (a : A) (t : ℕ) → t < n → ((x : A) → P (g t x)) → ((k : ℕ) → k < n → (x : A) → P x → P (g k x)) → P (upTo g n a)
+unfolding upTo
+loop-gives P g zero a t h o e = absurd (omega arith)
+loop-gives P g (suc n) a t h o e =
+    let l : t ≤ n = omega arith in go (eq-or-lt-of-le l) (λ q. loop-gives P g n a t q o (λ k b. e k (omega arith)))
+  where
+    go : (t ≡ n) ⊎ (t < n) → (t < n → P (upTo g n a)) → P (g n (upTo g n a))
+    go (inl q) r = rw (← q) (o (upTo g t a))
+    go (inr q) r = e n (omega arith) (upTo g n a) (r q)
+
+-- both hold
+and-both : (a b : Bool) → (a && b) ≡ true → (a ≡ true) × (b ≡ true)
+and-both true b e = (refl, e)
+and-both false b e = clash (cc)
+
+not-false : (b : Bool) → not b ≡ true → b ≡ false
+not-false true e = clash (cc)
+not-false false e = refl
+
+-- a lane that does not stir
+record Still (l : Lane) : Type 0 where
+  waits : l .waiting ≡ Idle
+  returns : l .returns .len ≡ 0
+  downs : l .downs .len ≡ 0
+
+idle-is : (w : Waiting) → idleOf w ≡ true → w ≡ Idle
+idle-is Idle e = refl
+idle-is (Unserved o) e = clash (cc)
+idle-is (Served o) e = clash (cc)
+
+still : (l : Lane) → stirsOf l ≡ false → Still l
+unfolding stirsOf
+still l e =
+    on (idleOf (l .waiting))
+    (λ w.
+    let d : (ltb 0 (l .returns .len) || ltb 0 (l .downs .len)) ≡ false = rw w at e in
+    let r = ltb-false _ _ (or-left _ (ltb 0 (l .downs .len)) d) in
+    let q = ltb-false _ _ (or-right (ltb 0 (l .returns .len)) _ d) in
+    record { waits = idle-is (l .waiting) w; returns = omega arith; downs = omega arith })
+    (λ w. let d : true ≡ false = rw w at e in clash (cc))
+
+module _ (s : Store) (f : List ℕ) (i : Consistent s f) (quiet : quietOf s ≡ true) where
+  lane-still : (k : ℕ) → k < s .n → Still (laneAt s k)
+  unfolding quietOf
+  lane-still k h =
+      on (busyOf (s .control)) (λ b. let d : false ≡ true = rw b at quiet in clash (cc))
+      (λ b. still (laneAt s k) (any-false (λ j. stirsOf (laneAt s j)) (s .n) k (not-false _ (rw b at quiet)) h))
+
+  -- no lane waits
+  pub quiet-rests : (k : ℕ) → pendingIn s k ≡ Rests
+  unfolding pendingIn
+  quiet-rests k = on (ltb k (s .n)) (λ e. rw (e, lane-still k (ltb-true _ _ e) .waits)) (λ e. rw e)
+
+  -- a view that is not Invalid has PRESENT set, which lanes alone have
+  flag-below : (a k : ℕ) → a < s .m → presentIn s a k ≡ true → k < s .n
+  flag-below a k h e = go (below? k (s .n)) (below? k 8)
+    where
+      go : (k < s .n) ⊎ (s .n ≤ k) → (k < 8) ⊎ (8 ≤ k) → k < s .n
+      go (inl l) r = l
+      go (inr l) (inl r) = let z = sound s (i .sound) .block a h .absent k l r in clash (cc)
+      go (inr l) (inr r) =
+          let b = sound s (i .sound) .m-high in
+          let q = i .sized .present a (omega arith) in
+          let p : length (blockAt s a .present) ≤ k = omega arith in
+          let z : presentIn s a k ≡ false = List·getD-eq-default (blockAt s a .present) false p in
+          clash (cc)
+
+  module _ (a : ℕ) (below : a < s .m) where
+    abbrev v : ℕ → Status
+    v = i .block a below .0
+
+    inv : Inv v (project s a) (flatBlock f a)
+    inv = i .block a below .1
+
+    -- what lane k has of the block
+    abbrev status : ℕ → Status
+    status k = statusAt (searchOf (laneAt s k) (s .c) (blockNo a)) (laneAt s k .lines)
+
+    line-is : (k : ℕ) → seen (s .c) (blockNo a) (laneAt s k) .line ≡ status k
+    unfolding seen
+    line-is k = refl
+
+    no-returns : (k : ℕ) → k < s .n → seen (s .c) (blockNo a) (laneAt s k) .returns ≡ []
+    unfolding seen
+    no-returns k h = rw (lane-still k h .returns)
+
+    no-downs : (k : ℕ) → k < s .n → seen (s .c) (blockNo a) (laneAt s k) .downs ≡ []
+    unfolding seen
+    no-downs k h = rw (lane-still k h .downs)
+
+    -- memory's view is the line, and what the flags say
+    view-line : (k : ℕ) → k < s .n → v k ≡ status k
+    view-line k h = quiet-view v (project s a) (flatBlock f a) inv k (no-returns k h) (no-downs k h) ∙ line-is k
+
+    view-flags : (k : ℕ) → v k ≡ viewOf (blockAt s a) k
+    view-flags k = inv .directory .view k
+
+    -- a copy that is held is found, and a copy that is found is held
+    held-copy : (k : ℕ) → held (status k) ≡ true → hasCopy s k a ≡ true
+    held-copy k e = go (searchOf (laneAt s k) (s .c) (blockNo a)) refl
+      where
+        go : (r : Found) → searchOf (laneAt s k) (s .c) (blockNo a) ≡ r → hasCopy s k a ≡ true
+        go (At j) q = let p = found-holds (s .c) (laneAt s k) (blockNo a) j q in any-true (λ t. holdsOf (lineIn s k t) (blockNo a)) (s .c) (j .0) (p .1) (p .0)
+        go Nothing q = let z : false ≡ true = rw q at e in clash (cc)
+
+    invalid-copy : (k : ℕ) → status k ≡ Invalid → hasCopy s k a ≡ false
+    invalid-copy k e = any-never (λ t. holdsOf (lineIn s k t) (blockNo a)) (s .c) (λ t h. on (holdsOf (lineIn s k t) (blockNo a)) (λ q. clash (cc (found t h q))) (λ q. q))
+      where
+        found : (t : ℕ) → t < s .c → holdsOf (lineIn s k t) (blockNo a) ≡ true → held Invalid ≡ true
+        found t h q = sym (ap held e) ∙ ap held (ap (λ (r : Found). statusAt r (laneAt s k .lines)) (search-at (s .c) (laneAt s k) (i .unique k) (blockNo a) t h q)) ∙ picked (lineIn s k t .private)
+          where
+            picked : (b : Bool) → held (cond b Modified Shared) ≡ true
+            picked true = refl
+            picked false = refl
+
+    -- a line that holds the block is the one found, with its status
+    line-status : (k t : ℕ) → t < s .c → holdsOf (lineIn s k t) (blockNo a) ≡ true → status k ≡ cond (lineIn s k t .private) Modified Shared
+    line-status k t h q = ap (λ (r : Found). statusAt r (laneAt s k .lines)) (search-at (s .c) (laneAt s k) (i .unique k) (blockNo a) t h q)
+
+    words-are : (k : ℕ) → seen (s .c) (blockNo a) (laneAt s k) .words ≡ wordsAt (searchOf (laneAt s k) (s .c) (blockNo a)) (laneAt s k .lines)
+    unfolding seen
+    words-are k = refl
+
+    -- .. and its words are flat memory's
+    line-words : (k t : ℕ) → t < s .c → holdsOf (lineIn s k t) (blockNo a) ≡ true → lineIn s k t .words ≡ flatBlock f a
+    line-words k t h q =
+        let e = search-at (s .c) (laneAt s k) (i .unique k) (blockNo a) t h q in
+        sym (words-are k ∙ ap (λ (r : Found). wordsAt r (laneAt s k .lines)) e) ∙ inv .bears k .line (ap held (line-is k ∙ line-status k t h q) ∙ picked (lineIn s k t .private))
+      where
+        picked : (b : Bool) → held (cond b Modified Shared) ≡ true
+        picked true = refl
+        picked false = refl
+
+    -- 1
+    present-copy : (k : ℕ) → k < s .n → presentIn s a k ≡ true → hasCopy s k a ≡ true
+    present-copy k h e = held-copy k (sym (ap held (view-line k h)) ∙ ap held (view-flags k) ∙ rw e (picked (blockAt s a .modified)))
+      where
+        picked : (b : Bool) → held (cond b Modified Shared) ≡ true
+        picked true = refl
+        picked false = refl
