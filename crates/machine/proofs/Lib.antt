@@ -20,3 +20,5 @@ pub mod Sized
 pub mod BlockState
 pub mod Invariant
 pub mod Moves
+pub mod Sums
+pub mod Directories
