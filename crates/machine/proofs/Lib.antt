@@ -22,3 +22,4 @@ pub mod Invariant
 pub mod Moves
 pub mod Sums
 pub mod Directories
+pub mod Chains
