@@ -23,3 +23,5 @@ pub mod Moves
 pub mod Sums
 pub mod Directories
 pub mod Chains
+pub mod MemoryMoves
+pub mod BlockQuiet
