@@ -25,3 +25,4 @@ pub mod Directories
 pub mod Chains
 pub mod MemoryMoves
 pub mod BlockQuiet
+pub mod MemoryReturn
