@@ -71,7 +71,7 @@ modified-view v b d m j = go (getD (b .present) j false) (d .view j)
     go true e = rw (e, m)
     go false e = rw e
 
-not-held : (x : Status) → held x ≡ false → x ≡ Invalid
+pub not-held : (x : Status) → held x ≡ false → x ≡ Invalid
 not-held Invalid e = refl
 not-held Shared e = clash (cc)
 not-held Modified e = clash (cc)

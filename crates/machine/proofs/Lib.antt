@@ -26,3 +26,4 @@ pub mod Chains
 pub mod MemoryMoves
 pub mod BlockQuiet
 pub mod MemoryReturn
+pub mod MemoryClose

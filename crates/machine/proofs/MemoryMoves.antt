@@ -5,17 +5,20 @@ use native.Mathlib.Omega.{arith}
 use mathlib.Core.Logic.{_⊎_, inl, inr, _≢_}
 use mathlib.Core.Path.{_≡_, refl, sym, ap, _∙_}
 use mathlib.Core.Bool.{Bool, true, false, cond}
-use mathlib.Core.List.{List, [], _∷_}
+use mathlib.Core.List.{List, [], _∷_, _++_}
 use borrow.Author.Tests.{eq-eqb, ne-eqb}
 use Rattle.words.specs.Folds.{sumTo}
 use Rattle.words.proofs.Folds.{below?}
+use Rattle.queues.specs.declared.DownMessage.{DownMessage}
 use Rattle.store.specs.declared.Block.{Block}
 use Rattle.store.specs.declared.Lookup.{Lookup}
+use Rattle.machine.specs.Settle.{isOrder}
 use Rattle.machine.proofs.Sets.{same?}
 use Rattle.machine.proofs.Sums.{sum-change, sum-zero}
 use Rattle.machine.proofs.Owes.{upd}
 use Rattle.machine.proofs.BlockState.{Status, Invalid, Shared, Modified, dirty, Seen, BlockState}
-use Rattle.machine.proofs.Invariant.{Chain, grantCount, serving, servedCount, WaitFits, Bears, answerCount, orderCount, owed, awaitedOf, ServedWell, Directory, Inv}
+use Rattle.machine.proofs.Invariant.{Chain, grantCount, serving, servedCount, WaitFits, isGrant, DownsBear, Bears, answerCount, orderCount, owed, awaitedOf, ServedWell, Directory, Inv}
+use Rattle.machine.proofs.Moves.{postSeen}
 use Rattle.machine.proofs.Directories.{upd-same, upd-other}
 
 -- the conjuncts of lane k alone
@@ -104,3 +107,24 @@ no-answers l e = omega arith
 pub no-orders : (l : Seen) → owed l ≡ 0 → orderCount (l .downs) ≡ 0
 unfolding owed
 no-orders l e = omega arith
+
+-- what a message that joins the down queue adds: to the orders, to the grants, to what is owed
+orders-join : (q : List DownMessage) (m : DownMessage) → orderCount (q ++ (m ∷ [])) ≡ orderCount q + cond (isOrder (m .kind)) 1 0
+orders-join [] m = omega arith
+orders-join (n ∷ q) m = let h = orders-join q m in omega arith
+
+pub grants-join : (q : List DownMessage) (m : DownMessage) → grantCount (q ++ (m ∷ [])) ≡ grantCount q + cond (isOrder (m .kind)) 0 1
+grants-join [] m = omega arith
+grants-join (n ∷ q) m = let h = grants-join q m in omega arith
+
+pub post-owed : (m : DownMessage) (l : Seen) → owed (postSeen m l) ≡ owed l + cond (isOrder (m .kind)) 1 0
+unfolding owed
+post-owed m l = let h = orders-join (l .downs) m in omega arith
+
+-- .. and the words borne
+pub post-bears : (f : List ℕ) (m : DownMessage) (l : Seen) → Bears f l → (isGrant (m .kind) ≡ true → m .words ≡ f) → Bears f (postSeen m l)
+post-bears f m l h w = record { line = h .line; returns = h .returns; downs = go (l .downs) (h .downs) }
+  where
+    go : (q : List DownMessage) → DownsBear f q → DownsBear f (q ++ (m ∷ []))
+    go [] b = (w, tt)
+    go (n ∷ q) b = (b .0, go q (b .1))
