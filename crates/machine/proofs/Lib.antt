@@ -27,3 +27,4 @@ pub mod MemoryMoves
 pub mod BlockQuiet
 pub mod MemoryReturn
 pub mod MemoryClose
+pub mod MemoryServe
