@@ -32,6 +32,7 @@ use Rattle.machine.specs.Flags.{lineIn, presentIn, hasCopy, owns, shownO
 use Rattle.machine.proofs.Tests.{on}
 use Rattle.machine.proofs.Sets.{same?, pick}
 use Rattle.machine.proofs.Sound.{sound}
+use Rattle.machine.proofs.KeepsLane.{clash}
 use Rattle.machine.proofs.Owes.{Rests}
 use Rattle.machine.proofs.BlockState.{Status, Invalid, Shared, Modified, held, dirty, statusAt, wordsAt, seen, blockNo, project}
 use Rattle.machine.proofs.Invariant.{Inv, viewOf}
@@ -39,8 +40,6 @@ use Rattle.machine.proofs.BlockQuiet.{quiet-view}
 use Rattle.machine.proofs.Searches.{Unique, found-holds, none-holds, search-at, holds-valid, valid-holds}
 use Rattle.machine.proofs.Consistent.{Consistent, pendingOf, pendingIn}
 
-clash : {A : Type 0} → _≡_ {A = ℕ} 0 1 → A
-clash z = absurd (omega arith)
 
 -- a loop keeps what each turn keeps
 loop-keeps : {A : Type 0} (P : A → Type 0) (g : ℕ → A → A) (n : ℕ) (a : A) → ((k : ℕ) → k < n → (x : A) → P x → P (g k x)) → P a → P (upTo g n a)

@@ -41,7 +41,8 @@ use Rattle.machine.proofs.BlockState.{Status, Seen, BlockState, keepIf,
 use Rattle.machine.proofs.Queued.{returnsIn, take-returns, keep-head, keep-tail}
 use Rattle.machine.proofs.Invariant.{Inv}
 use Rattle.machine.proofs.Moves.{takeSeen, sendAll, closeState, returnState}
-use Rattle.machine.proofs.MemoryMoves.{close-keeps, eject-returns, answer-returns}
+use Rattle.machine.proofs.MemoryClose.{close-keeps}
+use Rattle.machine.proofs.MemoryReturn.{eject-returns, answer-returns}
 use Rattle.machine.proofs.Project.{Moves, movedStore, project-here}
 use Rattle.machine.proofs.Consistent.{Consistent, StaysConsistent, refused-consistent, guarded-rule}
 use Rattle.machine.proofs.ConsistentMove.{Shows, commit-consistent}

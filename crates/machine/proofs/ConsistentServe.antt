@@ -42,7 +42,8 @@ use Rattle.machine.proofs.Sized.{LaneSized}
 use Rattle.machine.proofs.BlockState.{Status, Seen, BlockState, seen, blockNo, project}
 use Rattle.machine.proofs.Invariant.{Inv}
 use Rattle.machine.proofs.Moves.{waitSeen, sendAll, serveState, closeState}
-use Rattle.machine.proofs.MemoryMoves.{serve-opens, close-keeps}
+use Rattle.machine.proofs.MemoryClose.{close-keeps}
+use Rattle.machine.proofs.MemoryServe.{serve-opens}
 use Rattle.machine.proofs.Project.{Moves, movedStore, project-here}
 use Rattle.machine.proofs.Consistent.{Consistent, StaysConsistent, refused-consistent, guarded-rule}
 use Rattle.machine.proofs.ConsistentMove.{Shows, commit-consistent}

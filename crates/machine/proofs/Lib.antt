@@ -42,5 +42,11 @@ pub mod Chains
 pub mod LaneMoves
 pub mod LaneMovesBegin
 pub mod LaneMovesDeliver
-pub mod Queued
 pub mod Searches
+pub mod Directories
+pub mod MemoryMoves
+pub mod BlockQuiet
+pub mod MemoryReturn
+pub mod MemoryClose
+pub mod MemoryServe
+pub mod ConsistentQuiet

@@ -30,6 +30,22 @@ sum-change f g (suc n) k l e = go (same? k n) (λ m. sum-change f g n k m e)
     go (inl q) r = let d = sum-same f g n (λ j m. e j (λ y. omega arith)) in rw q (omega arith)
     go (inr q) r = let d = r (omega (arith, q)) in let z = e n (λ y. q (sym y)) in omega arith
 
+-- a sum of 0 has no other terms
+pub sum-zero : (g : ℕ → ℕ) (n : ℕ) → sumTo g n ≡ 0 → (k : ℕ) → k < n → g k ≡ 0
+unfolding sumTo
+sum-zero g zero z k l = absurd (omega arith)
+sum-zero g (suc n) z k l = go (same? k n) (λ m y. sum-zero g n y k m)
+  where
+    go : (k ≡ n) ⊎ (k ≢ n) → (k < n → sumTo g n ≡ 0 → g k ≡ 0) → g k ≡ 0
+    go (inl q) r = rw q (omega arith)
+    go (inr u) r = r (omega arith) (omega arith)
+
+-- terms of 0 sum to 0
+pub zero-sum : (g : ℕ → ℕ) (n : ℕ) → ((j : ℕ) → j < n → g j ≡ 0) → sumTo g n ≡ 0
+unfolding sumTo
+zero-sum g zero e = refl
+zero-sum g (suc n) e = let a = e n (omega arith) in let b = zero-sum g n (λ j l. e j (omega arith)) in omega arith
+
 -- the terms that pass a test grow by u each
 pub sum-grown : (f g : ℕ → ℕ) (p : ℕ → Bool) (u n : ℕ) → ((j : ℕ) → j < n → g j ≡ f j + cond (p j) u 0) → sumTo g n ≡ sumTo f n + u * countTo p n
 unfolding sumTo countTo
