@@ -1,19 +1,15 @@
 -- What the invariant of a block says where nothing is under way, and the invariant of a blank block. Assumes nothing.
-use Prim.Native.Nat.{ℕ, _+_}
+use Prim.Native.Nat.{ℕ}
 use mathlib.Core.Path.{_≡_, refl, sym, ap, _∙_}
-use mathlib.Core.Bool.{Bool, true, false}
+use mathlib.Core.Bool.{false}
 use mathlib.Core.List.{List, []}
 use lib.ListN.{length, getD}
-use Rattle.queues.specs.declared.ReturnMessage.{ReturnMessage}
-use Rattle.queues.specs.declared.DownMessage.{DownMessage}
-use Rattle.lanes.specs.declared.Waiting.{Waiting}
 use Rattle.lanes.specs.declared.Waiting.the-variants.{Idle}
-use Rattle.store.specs.declared.Lookup.{Lookup}
 use Rattle.store.specs.declared.Lookup.the-variants.{Nothing}
 use Rattle.machine.proofs.KeepsLane.{clash}
 use Rattle.machine.proofs.Sums.{zero-sum}
-use Rattle.machine.proofs.BlockState.{Status, Invalid, Shared, Modified, held, dirty, Seen, BlockState}
-use Rattle.machine.proofs.Invariant.{Sent, Due, Chain, ReturnsBear, DownsBear, Bears, grantCount, serving, servedCount, WaitFits, owed, awaitedOf, ServedWell, Inv}
+use Rattle.machine.proofs.BlockState.{Status, Invalid, held, Seen, BlockState}
+use Rattle.machine.proofs.Invariant.{Chain, Bears, owed, awaitedOf, Inv}
 use Rattle.machine.proofs.Directories.{blank-directory}
 
 -- two empty queues: the view is the line

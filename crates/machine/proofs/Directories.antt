@@ -1,14 +1,12 @@
 -- What memory's flags owe to the protocol, said of the view v that they stand for: serve's orders, return, close and the opening.
 -- No other file of the protocol looks at the flags. Assumes nothing.
 use Prim.Native.Nat.{ℕ, _<_, _≤_}
-use native.Mathlib.Omega.{arith}
 use mathlib.Core.Logic.{_⊎_, inl, inr, _≢_}
-use mathlib.Core.Path.{_≡_, refl, sym, ap, _∙_}
+use mathlib.Core.Path.{_≡_, refl, sym, _∙_}
 use mathlib.Core.Bool.{Bool, true, false, cond}
 use mathlib.Core.List.{List}
 use borrow.Author.Tests.{eq-eqb, ne-eqb}
-use lib.Dec.{eqb}
-use lib.ListN.{length, getD, set, replicate, length-set, getD-replicate, List·getD-eq-default}
+use lib.ListN.{length, getD, set, length-set, getD-replicate, List·getD-eq-default}
 use lib.Seq.{getD-set-same, getD-set-other}
 use Rattle.words.specs.declared.LaneNo.{LaneNo}
 use Rattle.words.proofs.Folds.{below?}
@@ -17,7 +15,7 @@ use Rattle.queues.specs.declared.ReturnKind.the-variants.{Eject, WriteEject, Up
 use Rattle.lanes.specs.declared.Command.{Command}
 use Rattle.lanes.specs.declared.Command.the-variants.{ReadShared, ReadExclusive, Exclude}
 use Rattle.store.specs.declared.Block.{Block}
-use Rattle.machine.specs.Change.{nobody, only, goesTo}
+use Rattle.machine.specs.Change.{nobody, goesTo}
 use Rattle.machine.specs.Serve.{sendsOf, ordered, bareOf, exclusively, closedBlock}
 use Rattle.machine.specs.Return.{absent, written, takenBy}
 use Rattle.machine.proofs.Tests.{on}
@@ -25,7 +23,7 @@ use Rattle.machine.proofs.Sets.{same?, set-here}
 use Rattle.machine.proofs.KeepsLane.{clash}
 use Rattle.machine.proofs.Owes.{upd}
 use Rattle.machine.proofs.BlockState.{Status, Invalid, Shared, Modified, held, dirty}
-use Rattle.machine.proofs.Invariant.{Fits, CommandFits, Covered, exclusive, viewOf, Directory}
+use Rattle.machine.proofs.Invariant.{Fits, CommandFits, bearing, Covered, exclusive, viewOf, Directory}
 
 -- v at k, and elsewhere, after upd
 pub upd-same : {A : Type 0} (g : ℕ → A) (k : ℕ) (x : A) → upd g k x k ≡ x
@@ -132,7 +130,7 @@ given-up : (v : ℕ → Status) (b : Block) (k : LaneNo) (ws : List ℕ) → Dir
 given-up v b k ws d alone =
     written-directory (upd v (k .0) Invalid) (absent k b) ws (length-set (b .present) (k .0) false ∙ d .flags)
     (upd-cases (λ j y. y ≡ cond (getD (set (b .present) (k .0) false) j false) Shared Invalid) v (k .0) Invalid (rw (reset-here (b .present) (k .0)))
-      (λ j n. rw (sent-other b k j n, present-held v b d j, alone j n)))
+    (λ j n. rw (sent-other b k j n, present-held v b d j, alone j n)))
 
 -- k keeps a copy that is not PRIVATE
 kept-shared : (v : ℕ → Status) (b : Block) (k : LaneNo) (ws : List ℕ) → Directory v b →
@@ -140,7 +138,7 @@ kept-shared : (v : ℕ → Status) (b : Block) (k : LaneNo) (ws : List ℕ) → 
 kept-shared v b k ws d sole h =
     written-directory (upd v (k .0) Shared) b ws (d .flags)
     (upd-cases (λ j y. y ≡ cond (getD (b .present) j false) Shared Invalid) v (k .0) Shared (rw (present-held v b d (k .0), h))
-      (λ j n. on (b .modified) (λ m. rw (present-held v b d j, alone m j n)) (λ m. d .view j ∙ rw m)))
+    (λ j n. on (b .modified) (λ m. rw (present-held v b d j, alone m j n)) (λ m. d .view j ∙ rw m)))
   where
     alone : b .modified ≡ true → (j : ℕ) → j ≢ k .0 → v j ≡ Invalid
     alone m j n = sole (k .0) j (d .view (k .0) ∙ rw (present-held v b d (k .0), h, m)) n
@@ -195,6 +193,20 @@ close-directory v b k ReadShared d h cover c = joined-directory v b k h d clean
         go (inr n) = cover j n
 close-directory v b k ReadExclusive d h cover c = alone-directory v b k h cover
 close-directory v b k Exclude d h cover c = alone-directory v b k h cover
+
+-- the words: return writes those that a message brings, close none
+pub taken-words : (kind : ReturnKind) (ws : List ℕ) (k : LaneNo) (b : Block) → takenBy kind ws k b .words ≡ cond (bearing kind) ws (b .words)
+taken-words Eject ws k b = refl
+taken-words WriteEject ws k b = refl
+taken-words Updated ws k b = refl
+taken-words Purged ws k b = refl
+taken-words PurgedWords ws k b = refl
+taken-words Gone ws k b = refl
+
+pub closed-words : (x : Command) (b : Block) (k : LaneNo) → closedBlock x b k .words ≡ b .words
+closed-words ReadShared b k = refl
+closed-words ReadExclusive b k = refl
+closed-words Exclude b k = refl
 
 -- the opening: no flag is set
 pub blank-directory : (b : Block) → length (b .present) ≡ 8 → ((k : ℕ) → getD (b .present) k false ≡ false) → b .modified ≡ false →

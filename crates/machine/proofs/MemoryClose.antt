@@ -1,37 +1,33 @@
 -- Memory closes a service that awaits no answer: the grant is sent, and the invariant of its block is kept. Assumes nothing.
-use Prim.Native.Nat.{ℕ, _+_, _<_}
+use Prim.Native.Nat.{ℕ, _<_}
 use native.Mathlib.Omega.{arith}
 use mathlib.Core.Logic.{_⊎_, inl, inr, _≢_}
 use mathlib.Core.Path.{_≡_, refl, sym, ap, _∙_, fun-ext}
 use mathlib.Core.Bool.{Bool, true, false, cond}
-use mathlib.Core.List.{List, [], _∷_, _++_}
+use mathlib.Core.List.{List, []}
 use borrow.Author.Tests.{eq-eqb, ne-eqb}
-use lib.Dec.{eqb}
 use lib.Seq.{getD-set-same, getD-set-other}
 use Rattle.words.specs.declared.LaneNo.{LaneNo}
 use Rattle.queues.specs.declared.DownMessage.{DownMessage}
-use Rattle.queues.specs.declared.DownKind.{DownKind}
-use Rattle.queues.specs.declared.DownKind.the-variants.{Update, Purge, Grant, BareGrant}
+use Rattle.queues.specs.declared.DownKind.the-variants.{Grant, BareGrant}
 use Rattle.lanes.specs.declared.Command.{Command}
 use Rattle.lanes.specs.declared.Command.the-variants.{ReadShared, ReadExclusive, Exclude}
 use Rattle.lanes.specs.declared.Operation.{Operation}
-use Rattle.lanes.specs.declared.Waiting.{Waiting}
-use Rattle.lanes.specs.declared.Waiting.the-variants.{Idle, Unserved, Served}
+use Rattle.lanes.specs.declared.Waiting.the-variants.{Served}
 use Rattle.store.specs.declared.Block.{Block}
 use Rattle.store.specs.declared.Service.{Service}
-use Rattle.store.specs.declared.Lookup.{Lookup}
 use Rattle.store.specs.declared.Lookup.the-variants.{Of, Nothing}
 use Rattle.machine.specs.Begin.{isLoad}
-use Rattle.machine.specs.Change.{nobody, only, goesTo}
+use Rattle.machine.specs.Change.{nobody, only}
 use Rattle.machine.specs.Serve.{closedBlock, grantOf}
 use Rattle.machine.specs.Settle.{isOrder}
 use Rattle.machine.proofs.Sets.{same?, pick}
 use Rattle.machine.proofs.KeepsLane.{clash}
 use Rattle.machine.proofs.Owes.{upd}
 use Rattle.machine.proofs.BlockState.{Status, Invalid, Shared, Modified, held, dirty, Seen, BlockState}
-use Rattle.machine.proofs.Invariant.{DueHead, owed, serving, awaitedOf, CommandFits, OperationFits, WaitFits, isGrant, Bears, Covered, exclusive, ServiceFits, Inv}
+use Rattle.machine.proofs.Invariant.{DueHead, owed, awaitedOf, CommandFits, OperationFits, isGrant, Bears, Covered, exclusive, ServiceFits, Inv}
 use Rattle.machine.proofs.Moves.{postSeen, sendAll, closeState}
-use Rattle.machine.proofs.Directories.{nobody-none, not-held, close-directory}
+use Rattle.machine.proofs.Directories.{nobody-none, not-held, close-directory, closed-words}
 use Rattle.machine.proofs.BlockQuiet.{quiet-view}
 use Rattle.machine.proofs.MemoryMoves.{LaneFits, PutFits, put-keeps, nothing-owed, post-owed, post-bears}
 
@@ -81,12 +77,6 @@ grant-words b s = pick (λ (m : DownMessage). isGrant (m .kind) ≡ true → m .
 grant-owed : (b : Block) (s : Service) (l : Seen) → owed (postSeen (grantOf b s) l) ≡ owed l
 grant-owed b s l = post-owed (grantOf b s) l ∙ rw (grant-no-order b s) (omega arith)
 
--- close writes no words
-closed-words : (x : Command) (b : Block) (k : LaneNo) → closedBlock x b k .words ≡ b .words
-closed-words ReadShared b k = refl
-closed-words ReadExclusive b k = refl
-closed-words Exclude b k = refl
-
 -- the conjuncts of the lane that the grant goes to
 granted-fits : (y : Status) (f : List ℕ) (k : ℕ) (l : Seen) (o : Operation) (m : DownMessage) → l .returns ≡ [] → l .downs ≡ [] → l .waiting ≡ Served o →
     OperationFits (l .line) o → DueHead (Served o) (l .line) (m .kind) [] y → isOrder (m .kind) ≡ false → (isGrant (m .kind) ≡ true → m .words ≡ f) →
@@ -127,20 +117,25 @@ closed-fits v b f s i e a g =
   where
     none : awaitedOf (b .service) ≡ 0
     none = rw e a
+
     cover : (j : ℕ) → j ≢ s .lane .0 → Covered (s .command) (v j)
     cover j n = g .cover j n (nothing-owed v b f i none j)
+
     fits : OperationFits (b .lane (s .lane .0) .line) (g .operation)
     fits = let w = i .wait (s .lane .0) in rw (g .waits) at w
+
     clean : (j : ℕ) → dirty (v j) ≡ false
     clean j = elim (same? j (s .lane .0)) [
-        inl q ↦ rw (q, quiet-view v b f i (s .lane .0) (g .returns) (g .downs)) (fits-unmodified _ (g .operation .command) _ fits)
-      | inr n ↦ covered-clean (s .command) (v j) (cover j n) ]
+      | inl q ↦ rw (q, quiet-view v b f i (s .lane .0) (g .returns) (g .downs)) (fits-unmodified _ (g .operation .command) _ fits)
+      | inr n ↦ covered-clean (s .command) (v j) (cover j n)
+    ]
 
 -- close
 pub close-keeps : (v : ℕ → Status) (b : BlockState) (f : List ℕ) (s : Service) → Inv v b f → b .service ≡ Of s → s .awaited ≡ 0 →
     (u : (ℕ → Status)) × Inv u (closeState s b) f
 close-keeps v b f s i e a =
     let h = i .service in
-    let g : ServiceFits v (b .lane) s = rw e at h in
-    (upd v (s .lane .0) (cond (exclusive (s .command)) Modified Shared),
-      rw (only-sends (s .lane) (grantOf (b .block) s) (b .lane) (g .below)) (put-keeps v b f (s .lane .0) _ _ _ Nothing i (g .below) (closed-fits v b f s i e a g)))
+    let g : ServiceFits v (b .lane) s = rw e at h in (
+      upd v (s .lane .0) (cond (exclusive (s .command)) Modified Shared),
+      rw (only-sends (s .lane) (grantOf (b .block) s) (b .lane) (g .below)) (put-keeps v b f (s .lane .0) _ _ _ Nothing i (g .below) (closed-fits v b f s i e a g)),
+    )

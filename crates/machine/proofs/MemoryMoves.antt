@@ -4,7 +4,7 @@ use Prim.Native.Nat.{ℕ, _+_, _<_, _≤_}
 use native.Mathlib.Omega.{arith}
 use mathlib.Core.Logic.{_⊎_, inl, inr, _≢_}
 use mathlib.Core.Path.{_≡_, refl, sym, ap, _∙_}
-use mathlib.Core.Bool.{Bool, true, false, cond}
+use mathlib.Core.Bool.{true, false, cond}
 use mathlib.Core.List.{List, [], _∷_, _++_}
 use borrow.Author.Tests.{eq-eqb, ne-eqb}
 use Rattle.words.specs.Folds.{sumTo}
@@ -16,7 +16,7 @@ use Rattle.machine.specs.Settle.{isOrder}
 use Rattle.machine.proofs.Sets.{same?}
 use Rattle.machine.proofs.Sums.{sum-change, sum-zero}
 use Rattle.machine.proofs.Owes.{upd}
-use Rattle.machine.proofs.BlockState.{Status, Invalid, Shared, Modified, dirty, Seen, BlockState}
+use Rattle.machine.proofs.BlockState.{Status, Invalid, Modified, dirty, Seen, BlockState}
 use Rattle.machine.proofs.Invariant.{Chain, grantCount, serving, servedCount, WaitFits, isGrant, DownsBear, Bears, answerCount, orderCount, owed, awaitedOf, ServedWell, Directory, Inv}
 use Rattle.machine.proofs.Moves.{postSeen}
 use Rattle.machine.proofs.Directories.{upd-same, upd-other}

@@ -3,8 +3,8 @@ use Prim.Native.Nat.{ℕ, _+_, _-_, _<_}
 use native.Mathlib.Omega.{arith}
 use mathlib.Core.Logic.{_⊎_, inl, inr, _≢_}
 use mathlib.Core.Path.{_≡_, refl, sym, ap, _∙_}
-use mathlib.Core.Bool.{Bool, true, false, cond}
-use mathlib.Core.List.{List, [], _∷_}
+use mathlib.Core.Bool.{true, false, cond}
+use mathlib.Core.List.{List, _∷_}
 use borrow.Author.Tests.{eq-eqb, ne-eqb}
 use lib.Dec.{eqb}
 use Rattle.words.specs.declared.LaneNo.{LaneNo}
@@ -23,11 +23,11 @@ use Rattle.machine.specs.Return.{isAnswer, takenBy}
 use Rattle.machine.proofs.Sets.{same?}
 use Rattle.machine.proofs.KeepsLane.{clash}
 use Rattle.machine.proofs.Owes.{upd}
-use Rattle.machine.proofs.BlockState.{Status, Invalid, Shared, Modified, dirty, Seen, BlockState}
+use Rattle.machine.proofs.BlockState.{Status, Invalid, dirty, Seen, BlockState}
 use Rattle.machine.proofs.Invariant.{Fits, Sent, Chain, answerCount, owed, serving, awaitedOf, bearing, ReturnsBear, Bears, isUpdated, someUpdate, someUpdated, Covered, exclusive, ServiceFits, ServedWell, Inv}
 use Rattle.machine.proofs.Moves.{takeSeen, returnState}
 use Rattle.machine.proofs.Chains.{fits-clean, fits-invalid}
-use Rattle.machine.proofs.Directories.{upd-other, upd-cases, return-directory}
+use Rattle.machine.proofs.Directories.{upd-other, upd-cases, return-directory, taken-words}
 use Rattle.machine.proofs.MemoryMoves.{LaneFits, lane-fits, PutFits, put-keeps}
 
 -- the head fits the view, and the chain goes on from there
@@ -78,11 +78,12 @@ fits-covered v Gone y x t e = rw (t .1) (invalid-covered x)
 -- main memory after it: the message's words, or those that were there
 take-main : (v : ℕ → Status) (b : Block) (f ws : List ℕ) (k : LaneNo) (kind : ReturnKind) (y : Status) → Fits (v (k .0)) kind y → (bearing kind ≡ true → ws ≡ f) →
     (((j : ℕ) → dirty (v j) ≡ false) → b .words ≡ f) → ((j : ℕ) → dirty (upd v (k .0) y j) ≡ false) → takenBy kind ws k b .words ≡ f
-take-main v b f ws k kind y t w main h = go kind t w
+take-main v b f ws k kind y t w main h = taken-words kind ws k b ∙ go kind t w
   where
     clean : dirty (v (k .0)) ≡ false → (j : ℕ) → dirty (v j) ≡ false
     clean e j = elim (same? j (k .0)) [ inl q ↦ rw q e | inr n ↦ sym (ap dirty (upd-other v (k .0) y j n)) ∙ h j ]
-    go : (a : ReturnKind) → Fits (v (k .0)) a y → (bearing a ≡ true → ws ≡ f) → takenBy a ws k b .words ≡ f
+
+    go : (a : ReturnKind) → Fits (v (k .0)) a y → (bearing a ≡ true → ws ≡ f) → cond (bearing a) ws (b .words) ≡ f
     go Eject t w = main (clean (rw (t .0)))
     go WriteEject t w = w refl
     go Updated t w = w refl
@@ -111,8 +112,10 @@ take-service v lane k m rest y s n g r t =
   where
     here : eqb (s .lane .0) k ≡ false
     here = ne-eqb (s .lane .0) k (λ e. clash (cc (ap (λ (j : ℕ). lane j .returns) e, g .returns)))
+
     head-updated : exclusive (s .command) ≡ true → someUpdated (m ∷ rest) ≡ false
     head-updated e = sym (ap someUpdated r) ∙ g .no-updated e k
+
     cover : (j : ℕ) → j ≢ s .lane .0 → owed (upd lane k (takeSeen rest (lane k)) j) ≡ 0 → Covered (s .command) (upd v k y j)
     cover j p z = go (same? j k)
       where

@@ -1,5 +1,5 @@
 -- Memory serves an operation: the orders are sent, the service is open, and the invariant of its block is kept. Assumes nothing.
-use Prim.Native.Nat.{ℕ, _+_, _<_, _≤_}
+use Prim.Native.Nat.{ℕ, _+_, _<_}
 use native.Mathlib.Omega.{arith}
 use mathlib.Core.Logic.{_⊎_, inl, inr, _≢_}
 use mathlib.Core.Path.{_≡_, refl, sym, ap, _∙_}
@@ -20,7 +20,7 @@ use Rattle.lanes.specs.declared.Command.{Command}
 use Rattle.lanes.specs.declared.Command.the-variants.{ReadShared, ReadExclusive, Exclude}
 use Rattle.lanes.specs.declared.Operation.{Operation}
 use Rattle.lanes.specs.declared.Waiting.{Waiting}
-use Rattle.lanes.specs.declared.Waiting.the-variants.{Idle, Unserved, Served}
+use Rattle.lanes.specs.declared.Waiting.the-variants.{Unserved, Served}
 use Rattle.store.specs.declared.Service.{Service}
 use Rattle.store.specs.declared.Lookup.{Lookup}
 use Rattle.store.specs.declared.Lookup.the-variants.{Of, Nothing}
@@ -33,8 +33,8 @@ use Rattle.machine.proofs.Tests.{on}
 use Rattle.machine.proofs.Sets.{same?, pick}
 use Rattle.machine.proofs.Sums.{sum-same, count-sum}
 use Rattle.machine.proofs.KeepsLane.{clash}
-use Rattle.machine.proofs.BlockState.{Status, Invalid, Shared, Modified, held, dirty, Seen, BlockState}
-use Rattle.machine.proofs.Invariant.{Rest, DueHead, Due, filled, Chain, answerCount, orderCount, grantCount, owed, serving, awaitedOf, OperationFits, isGrant, Bears, isUpdate, someUpdate, isUpdated, someUpdated, Covered, exclusive, ServiceFits, Inv}
+use Rattle.machine.proofs.BlockState.{Status, Modified, held, Seen, BlockState}
+use Rattle.machine.proofs.Invariant.{Rest, DueHead, Due, filled, answerCount, orderCount, grantCount, owed, serving, OperationFits, isGrant, isUpdate, someUpdate, isUpdated, someUpdated, exclusive, ServiceFits, Inv}
 use Rattle.machine.proofs.Moves.{waitSeen, postSeen, serveState}
 use Rattle.machine.proofs.Chains.{rest-due}
 use Rattle.machine.proofs.Directories.{order-covers, order-self, order-far, bare-held}
@@ -193,10 +193,13 @@ opened-fits v b f k o i h w r d z =
   where
     view : v (k .0) ≡ b .lane (k .0) .line
     view = quiet-view v b f i (k .0) r d
+
     fits : OperationFits (b .lane (k .0) .line) o
     fits = let t = i .wait (k .0) in rw w at t
+
     calm : (j : ℕ) → someUpdate (b .lane j .downs) ≡ false
     calm j = no-update (b .lane j .downs) (no-orders (b .lane j) (z j))
+
     still : (j : ℕ) → someUpdated (b .lane j .returns) ≡ false
     still j = no-updated (b .lane j .returns) (no-answers (b .lane j) (z j))
 
@@ -232,7 +235,9 @@ serve-opens v b f k o i h w r e =
   where
     z : (j : ℕ) → owed (b .lane j) ≡ 0
     z = nothing-owed v b f i (rw e)
+
     downs : b .lane (k .0) .downs ≡ []
     downs = let g = i .grant (k .0) in let g′ = rw (e, w) at g in no-downs (b .lane (k .0) .downs) (no-orders (b .lane (k .0)) (z (k .0))) (omega arith)
+
     lanes : (j : ℕ) → LaneFits (v j) (Of (opened k o b)) f j (serveState k o b .lane j)
     lanes = opened-lanes v b f k o i w downs e z
