@@ -58,6 +58,11 @@ loop-gives P g (suc n) a t h o e =
     go (inl q) r = rw (← q) (o (upTo g t a))
     go (inr q) r = e n (omega arith) (upTo g n a) (r q)
 
+-- a line found is held, PRIVATE or not
+either-held : (b : Bool) → held (cond b Modified Shared) ≡ true
+either-held true = refl
+either-held false = refl
+
 -- both hold
 and-both : (a b : Bool) → (a && b) ≡ true → (a ≡ true) × (b ≡ true)
 and-both true b e = (refl, e)
@@ -84,8 +89,8 @@ still l e =
     on (idleOf (l .waiting))
     (λ w.
     let d : (ltb 0 (l .returns .len) || ltb 0 (l .downs .len)) ≡ false = rw w at e in
-    let r = ltb-false _ _ (or-left _ (ltb 0 (l .downs .len)) d) in
-    let q = ltb-false _ _ (or-right (ltb 0 (l .returns .len)) _ d) in
+    let r = ltb-false 0 (l .returns .len) (or-left (ltb 0 (l .returns .len)) (ltb 0 (l .downs .len)) d) in
+    let q = ltb-false 0 (l .downs .len) (or-right (ltb 0 (l .returns .len)) (ltb 0 (l .downs .len)) d) in
     record { waits = idle-is (l .waiting) w; returns = omega arith; downs = omega arith })
     (λ w. let d : true ≡ false = rw w at e in clash (cc))
 
@@ -157,11 +162,7 @@ module _ (s : Store) (f : List ℕ) (i : Consistent s f) (quiet : quietOf s ≡ 
     invalid-copy k e = any-never (λ t. holdsOf (lineIn s k t) (blockNo a)) (s .c) (λ t h. on (holdsOf (lineIn s k t) (blockNo a)) (λ q. clash (cc (found t h q))) (λ q. q))
       where
         found : (t : ℕ) → t < s .c → holdsOf (lineIn s k t) (blockNo a) ≡ true → held Invalid ≡ true
-        found t h q = sym (ap held e) ∙ ap held (ap (λ (r : Found). statusAt r (laneAt s k .lines)) (search-at (s .c) (laneAt s k) (i .unique k) (blockNo a) t h q)) ∙ picked (lineIn s k t .private)
-          where
-            picked : (b : Bool) → held (cond b Modified Shared) ≡ true
-            picked true = refl
-            picked false = refl
+        found t h q = sym (ap held e) ∙ ap held (ap (λ (r : Found). statusAt r (laneAt s k .lines)) (search-at (s .c) (laneAt s k) (i .unique k) (blockNo a) t h q)) ∙ either-held (lineIn s k t .private)
 
     -- a line that holds the block is the one found, with its status
     line-status : (k t : ℕ) → t < s .c → holdsOf (lineIn s k t) (blockNo a) ≡ true → status k ≡ cond (lineIn s k t .private) Modified Shared
@@ -175,16 +176,141 @@ module _ (s : Store) (f : List ℕ) (i : Consistent s f) (quiet : quietOf s ≡ 
     line-words : (k t : ℕ) → t < s .c → holdsOf (lineIn s k t) (blockNo a) ≡ true → lineIn s k t .words ≡ flatBlock f a
     line-words k t h q =
         let e = search-at (s .c) (laneAt s k) (i .unique k) (blockNo a) t h q in
-        sym (words-are k ∙ ap (λ (r : Found). wordsAt r (laneAt s k .lines)) e) ∙ inv .bears k .line (ap held (line-is k ∙ line-status k t h q) ∙ picked (lineIn s k t .private))
-      where
-        picked : (b : Bool) → held (cond b Modified Shared) ≡ true
-        picked true = refl
-        picked false = refl
+        sym (words-are k ∙ ap (λ (r : Found). wordsAt r (laneAt s k .lines)) e) ∙ inv .bears k .line (ap held (line-is k ∙ line-status k t h q) ∙ either-held (lineIn s k t .private))
 
     -- 1
     present-copy : (k : ℕ) → k < s .n → presentIn s a k ≡ true → hasCopy s k a ≡ true
-    present-copy k h e = held-copy k (sym (ap held (view-line k h)) ∙ ap held (view-flags k) ∙ rw e (picked (blockAt s a .modified)))
+    present-copy k h e = held-copy k (sym (ap held (view-line k h)) ∙ ap held (view-flags k) ∙ rw e (either-held (blockAt s a .modified)))
+
+    -- a dirty view has PRESENT and MODIFIED set
+    dirty-flags : (k : ℕ) → v k ≡ Modified → (presentIn s a k ≡ true) × (blockAt s a .modified ≡ true)
+    dirty-flags k e = go (presentIn s a k) refl (blockAt s a .modified) refl
       where
-        picked : (b : Bool) → held (cond b Modified Shared) ≡ true
-        picked true = refl
-        picked false = refl
+        d : viewOf (blockAt s a) k ≡ Modified
+        d = sym (view-flags k) ∙ e
+
+        go : (p : Bool) → presentIn s a k ≡ p → (m : Bool) → blockAt s a .modified ≡ m → (presentIn s a k ≡ true) × (blockAt s a .modified ≡ true)
+        go true p true m = (p, m)
+        go true p false m = clash (cc (ap dirty (rw (p, m) at d)))
+        go false p m q = clash (cc (ap dirty (rw p at d)))
+
+    -- a dirty line is an owner
+    dirty-owns : (k : ℕ) → status k ≡ Modified → (t : ℕ) × (t < s .c) × (owns s k t a ≡ true)
+    dirty-owns k e = go (searchOf (laneAt s k) (s .c) (blockNo a)) refl
+      where
+        go : (r : Found) → searchOf (laneAt s k) (s .c) (blockNo a) ≡ r → (t : ℕ) × (t < s .c) × (owns s k t a ≡ true)
+        go Nothing q = clash (cc (ap dirty (rw q at e)))
+        go (At j) q =
+            let p = found-holds (s .c) (laneAt s k) (blockNo a) j q in
+            (j .0, p .0, rw (p .1) (private (lineIn s k (j .0) .private) refl))
+          where
+            private : (b : Bool) → lineIn s k (j .0) .private ≡ b → lineIn s k (j .0) .private ≡ true
+            private true x = x
+            private false x = clash (cc (ap dirty (rw (q, x) at e)))
+
+    -- an owner is dirty, and memory knows it
+    owner-view : (k t : ℕ) → k < s .n → t < s .c → owns s k t a ≡ true → v k ≡ Modified
+    owner-view k t h l e =
+        let p = and-both (holdsOf (lineIn s k t) (blockNo a)) (lineIn s k t .private) e in
+        view-line k h ∙ line-status k t l (p .0) ∙ rw (p .1)
+
+    -- some lane has the block PRIVATE
+    some-owner : blockAt s a .modified ≡ true → (k : ℕ) × (k < s .n) × ((t : ℕ) × (t < s .c) × (owns s k t a ≡ true))
+    some-owner e =
+        let p = inv .directory .some e in
+        let h = flag-below a (p .0) below (dirty-flags (p .0) (p .1) .0) in
+        (p .0, h, dirty-owns (p .0) (sym (view-line (p .0) h) ∙ p .1))
+
+    -- 2
+    modified-owner : blockAt s a .modified ≡ true → anyTo (λ k. anyTo (λ t. owns s k t a) (s .c)) (s .n) ≡ true
+    modified-owner e =
+        let p = some-owner e in
+        any-true (λ k. anyTo (λ t. owns s k t a) (s .c)) (s .n) (p .0) (any-true (λ t. owns s (p .0) t a) (s .c) (p .2 .0) (p .2 .2) (p .2 .1)) (p .1)
+
+    -- 3
+    owner-alone : (k t : ℕ) → k < s .n → t < s .c → owns s k t a ≡ true →
+        (presentIn s a k ≡ true) × ((j : ℕ) → j < s .n → j ≢ k → (hasCopy s j a ≡ false) × (presentIn s a j ≡ false))
+    owner-alone k t h l e = (dirty-flags k mine .0, λ j g n. (invalid-copy j (sym (view-line j g) ∙ inv .sole k j mine n), absent j (inv .sole k j mine n) (presentIn s a j) refl))
+      where
+        mine : v k ≡ Modified
+        mine = owner-view k t h l e
+
+        absent : (j : ℕ) → v j ≡ Invalid → (p : Bool) → presentIn s a j ≡ p → presentIn s a j ≡ false
+        absent j x true p =
+            let d : viewOf (blockAt s a) j ≡ Invalid = sym (view-flags j) ∙ x in
+            let e : held (viewOf (blockAt s a) j) ≡ true = rw p (either-held (blockAt s a .modified)) in
+            let q : held (viewOf (blockAt s a) j) ≡ false = ap held d in
+            clash (cc (e, q))
+        absent j x false p = p
+
+    -- nobody is dirty where some lane has a clean copy, or where MODIFIED is reset
+    clean-main : ((k : ℕ) → v k ≡ Modified → ⊥) → blockAt s a .words ≡ flatBlock f a
+    clean-main none = inv .main (λ k. clean (v k) (none k))
+      where
+        clean : (x : Status) → (x ≡ Modified → ⊥) → dirty x ≡ false
+        clean Invalid n = refl
+        clean Shared n = refl
+        clean Modified n = absurd (n refl)
+
+    -- 4
+    shared-words : (k t : ℕ) → k < s .n → t < s .c → holdsOf (lineIn s k t) (blockNo a) ≡ true → lineIn s k t .private ≡ false → lineIn s k t .words ≡ blockAt s a .words
+    shared-words k t h l e p = line-words k t l e ∙ sym (clean-main other)
+      where
+        mine : v k ≡ Shared
+        mine = view-line k h ∙ line-status k t l e ∙ rw p
+
+        other : (j : ℕ) → v j ≡ Modified → ⊥
+        other j x = go (same? j k)
+          where
+            go : (j ≡ k) ⊎ (j ≢ k) → ⊥
+            go (inl q) = clash (cc (ap dirty (sym mine ∙ ap v (sym q) ∙ x)))
+            go (inr n) = clash (cc (ap held (sym mine ∙ inv .sole j k x (λ q. n (sym q)))))
+
+    -- an owner's words are flat memory's
+    owner-words : (k t : ℕ) → t < s .c → owns s k t a ≡ true → lineIn s k t .words ≡ flatBlock f a
+    owner-words k t l e = line-words k t l (and-both (holdsOf (lineIn s k t) (blockNo a)) (lineIn s k t .private) e .0)
+
+    -- what the store shows
+    abbrev shown : ℕ → List ℕ → List ℕ
+    shown k ws = upTo (λ t xs. cond (owns s k t a) (lineIn s k t .words) xs) (s .c) ws
+
+    turn-keeps : (k t : ℕ) → t < s .c → (xs : List ℕ) → xs ≡ flatBlock f a → cond (owns s k t a) (lineIn s k t .words) xs ≡ flatBlock f a
+    turn-keeps k t h xs e = pick (λ (ws : List ℕ). ws ≡ flatBlock f a) (owns s k t a) _ _ (owner-words k t h) (λ _. e)
+
+    shown-keeps : (k : ℕ) → k < s .n → (ws : List ℕ) → ws ≡ flatBlock f a → shown k ws ≡ flatBlock f a
+    shown-keeps k h ws e = loop-keeps (λ (xs : List ℕ). xs ≡ flatBlock f a) (λ t xs. cond (owns s k t a) (lineIn s k t .words) xs) (s .c) ws (turn-keeps k) e
+
+    shows-words : shownOf s a ≡ flatBlock f a
+    unfolding shownOf
+    shows-words =
+        on (blockAt s a .modified)
+        (λ e.
+        let p = some-owner e in
+        loop-gives (λ (xs : List ℕ). xs ≡ flatBlock f a) shown (s .n) (blockAt s a .words) (p .0) (p .1)
+        (λ ws. loop-gives (λ (xs : List ℕ). xs ≡ flatBlock f a) (λ t xs. cond (owns s (p .0) t a) (lineIn s (p .0) t .words) xs) (s .c) ws (p .2 .0) (p .2 .1)
+        (λ xs. rw (p .2 .2) (owner-words (p .0) (p .2 .0) (p .2 .1) (p .2 .2))) (turn-keeps (p .0)))
+        shown-keeps)
+        (λ e. loop-keeps (λ (xs : List ℕ). xs ≡ flatBlock f a) shown (s .n) (blockAt s a .words) shown-keeps (clean-main (λ k x. clash (cc (dirty-flags k x .1)))))
+
+  -- a valid line's block is one of the store's
+  valid-below : (k t : ℕ) → k < s .n → t < s .c → lineIn s k t .valid ≡ true → lineIn s k t .block .0 < s .m
+  valid-below k t h l e = sound s (i .sound) .lane k h .lines t l e
+
+  -- the store shows flat memory's words
+  pub quiet-shows : (a : ℕ) → a < s .m → shownOf s a ≡ flatBlock f a
+  quiet-shows a h = shows-words a h
+
+  -- the four properties
+  pub quiet-flags : Flags s
+  quiet-flags =
+      record {
+        present = λ a k h l e. present-copy a h k l e;
+        modified = λ a h e. modified-owner a h e;
+        private = λ a k t h l e.
+            let p = holds-valid (lineIn s k t) (blockNo a) (and-both (holdsOf (lineIn s k t) (blockNo a)) (lineIn s k t .private) e .0) in
+            let q = valid-below k t h l (p .0) in
+            let r = p .1 in
+            owner-alone a (omega arith) k t h l e;
+        shared = λ k t h l e p.
+            shared-words (lineIn s k t .block .0) (valid-below k t h l e) k t h l (valid-holds (lineIn s k t) (lineIn s k t .block) e refl) p;
+      }
