@@ -50,3 +50,6 @@ pub mod MemoryReturn
 pub mod MemoryClose
 pub mod MemoryServe
 pub mod ConsistentQuiet
+pub mod ConsistentOpen
+pub mod ConsistentDeliver
+pub mod ConsistentSettle

@@ -1,0 +1,80 @@
+-- Settle keeps a store consistent: it is a list of deliver, return and serve. Assumes nothing.
+use Prim.Native.Nat.{ℕ, zero, suc}
+use mathlib.Core.Path.{_≡_, refl}
+use mathlib.Core.Bool.{Bool, true, false, cond}
+use mathlib.Core.List.{List, [], _∷_, _++_}
+use lib.Dec.{ltb}
+use Rattle.words.specs.declared.LaneNo.{LaneNo}
+use Rattle.words.specs.Folds.{lowestTo}
+use Rattle.words.proofs.Folds.{by-cond}
+use Rattle.answers.specs.declared.Completion.{Completion}
+use Rattle.answers.specs.declared.Refusal.the-variants.{Unexpected}
+use Rattle.store.specs.declared.Store.{Store}
+use Rattle.store.specs.declared.Outcome.{Outcome}
+use Rattle.machine.specs.Change.{refuse}
+use Rattle.machine.specs.Serve.{serveOf}
+use Rattle.machine.specs.Return.{returnOf}
+use Rattle.machine.specs.Deliver.{deliverOf}
+use Rattle.machine.specs.Settle.{settleStep, boundOf, Progress, doneIn, advance, ended, repeatStep, Settlement, settleOf}
+use Rattle.machine.specs.Calls.{Settles, completionsOf}
+use Rattle.machine.proofs.Sound.{sound}
+use Rattle.machine.proofs.Keeps.{serve-keeps, return-keeps, deliver-keeps}
+use Rattle.machine.proofs.Owes.{Pending, upd, Completes}
+use Rattle.machine.proofs.SizedKeeps.{serve-sized, return-sized, deliver-sized, sized-whole}
+use Rattle.machine.proofs.FallsSettle.{startAt, lastOf, settle-rule}
+use Rattle.machine.proofs.Consistent.{Consistent, pendingIn, StaysConsistent}
+use Rattle.machine.proofs.ConsistentServe.{serve-consistent}
+use Rattle.machine.proofs.ConsistentReturn.{return-consistent}
+use Rattle.machine.proofs.ConsistentDeliver.{deliver-consistent}
+
+-- completions xs lead from the store s with flat memory f to a consistent store t
+abbrev pub Leads : Store → List ℕ → List Completion → Store → Type 0
+Leads s f xs t = (g : List ℕ) × Consistent t g × Completes (pendingIn s) f xs (pendingIn t) g
+
+pub serve-leads : (s : Store) (f : List ℕ) (k : LaneNo) → Consistent s f → Leads s f (doneIn (serveOf s k .answer)) (serveOf s k .store)
+serve-leads s f k i =
+    let r = serve-consistent s f k i in
+    (r .flat, record { sound = serve-keeps s k (i .sound); sized = serve-sized s k (i .sized); unique = r .unique; block = r .block }, r .completes)
+
+pub return-leads : (s : Store) (f : List ℕ) (k : LaneNo) → Consistent s f → Leads s f (doneIn (returnOf s k .answer)) (returnOf s k .store)
+return-leads s f k i =
+    let r = return-consistent s f k i in
+    (r .flat, record { sound = return-keeps s k (i .sound); sized = return-sized s k (i .sized); unique = r .unique; block = r .block }, r .completes)
+
+pub deliver-leads : (s : Store) (f : List ℕ) (k : LaneNo) → Consistent s f → Leads s f (doneIn (deliverOf s k .answer)) (deliverOf s k .store)
+deliver-leads s f k i =
+    let r = deliver-consistent s f k i in
+    let w = sized-whole s (sound s (i .sound) .n-high) (i .sized) in
+    (r .flat, record { sound = deliver-keeps s k (i .sound) w; sized = deliver-sized s k (i .sized); unique = r .unique; block = r .block }, r .completes)
+
+step-leads : (s : Store) (f : List ℕ) → Consistent s f → Leads s f (doneIn (settleStep s .answer)) (settleStep s .store)
+unfolding settleStep
+step-leads s f i =
+    by-cond P (ltb _ (s .n)) _ _ (deliver-leads s f _ i)
+    (by-cond P (ltb _ (s .n)) _ _ (return-leads s f _ i) (by-cond P (ltb _ (s .n)) _ _ (serve-leads s f _ i) (f, i, (refl, refl))))
+  where
+    P : Outcome → Type 0
+    P r = Leads s f (doneIn (r .answer)) (r .store)
+
+-- completions after completions
+completes-more : (p : ℕ → Pending) (f : List ℕ) (xs ys : List Completion) (q r : ℕ → Pending) (g h : List ℕ) → Completes p f xs q g → Completes q g ys r h → Completes p f (xs ++ ys) r h
+completes-more p f [] ys q r g h a b = rw (← a .0, ← a .1) b
+completes-more p f (x ∷ xs) ys q r g h a b = (a .0, a .1, a .2, a .3, completes-more _ _ xs ys q r g h (a .4) b)
+
+advance-leads : (s : Store) (f : List ℕ) (p : Progress) → Leads s f (p .completions) (p .store) → Leads s f (advance p .completions) (advance p .store)
+unfolding advance
+advance-leads s f p l =
+    let r = step-leads (p .store) (l .0) (l .1) in
+    (r .0, r .1, completes-more (pendingIn s) f (p .completions) (doneIn (settleStep (p .store) .answer)) (pendingIn (p .store)) (pendingIn (settleStep (p .store) .store)) (l .0) (r .0) (l .2) (r .2))
+
+repeat-leads : (n : ℕ) (s : Store) (f : List ℕ) (p : Progress) → Leads s f (p .completions) (p .store) → Leads s f (repeatStep n p .completions) (repeatStep n p .store)
+unfolding repeatStep
+repeat-leads zero s f p l = l
+repeat-leads (suc n) s f p l =
+    by-cond (λ (r : Progress). Leads s f (r .completions) (r .store)) (ended p) p (repeatStep n (advance p)) l (repeat-leads n s f (advance p) (advance-leads s f p l))
+
+pub settle-leads : (s : Store) (f : List ℕ) → Consistent s f →
+    Leads s f (completionsOf (Settles (settleOf s .answer) (settleOf s .completions))) (settleOf s .store)
+settle-leads s f i =
+    settle-rule (λ (r : Settlement). Leads s f (completionsOf (Settles (r .answer) (r .completions))) (r .store)) s (λ r. (f, i, (refl, refl)))
+    (λ _ _ _. repeat-leads (suc (boundOf s)) s f (startAt s) (f, i, (refl, refl)))
