@@ -22,3 +22,4 @@ pub mod Invariant
 pub mod Moves
 pub mod Queued
 pub mod Searches
+pub mod SeenBegin
