@@ -53,3 +53,4 @@ pub mod ConsistentQuiet
 pub mod ConsistentOpen
 pub mod ConsistentDeliver
 pub mod ConsistentSettle
+pub mod SeenBegin
