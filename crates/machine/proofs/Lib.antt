@@ -54,3 +54,5 @@ pub mod ConsistentOpen
 pub mod ConsistentDeliver
 pub mod ConsistentSettle
 pub mod SeenBegin
+pub mod ConsistentLane
+pub mod ConsistentBegin
