@@ -56,3 +56,4 @@ pub mod ConsistentSettle
 pub mod SeenBegin
 pub mod ConsistentLane
 pub mod ConsistentBegin
+pub mod OrderOfMemory

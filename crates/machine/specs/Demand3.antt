@@ -63,7 +63,7 @@ pub record Coherent (n c m : ℕ) (h : List Entry) (s : Store) : Type 0 where
   pub when-quiet : quietOf s ≡ true → WhenQuiet m h s
 
 -- demand 3
-pub Demand3 : Type 0
+abbrev pub Demand3 : Type 0
 Demand3 =
     (n c m : ℕ) (calls : List Call) → openOf n c m .answer ≡ Opened →
     Coherent n c m (run (openOf n c m .store) calls .history) (run (openOf n c m .store) calls .store)
