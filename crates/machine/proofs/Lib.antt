@@ -23,3 +23,4 @@ pub mod Moves
 pub mod Queued
 pub mod Searches
 pub mod SeenBegin
+pub mod SeenDeliver

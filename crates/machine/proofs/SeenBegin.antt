@@ -184,7 +184,7 @@ module _ (c : ℕ) (l : Lane) (z : LaneSized l) (b : c ≤ 8) (u : Unique c l) (
       let r = returns-here (l .returns) (ejectOf (lineAt l i)) (z .returns) room a (ap (λ (x : BlockNo). x .0) (eject-block (lineAt l i))) in
       let s = ap (λ (m : ReturnMessage). keepIf (returnAbout a) (returnsIn (l .returns)) ++ (m ∷ [])) (sym (eject-seen (lineAt l i) l)) in
       let t : notHeld (lineAt l i .block) (evicted i l) ≡ evictSeen (lineAt l i .block) (heldAs (lineAt l i .block) (lineAt l i) l) =
-          λ j. record { line = Invalid; words = []; returns = (r ∙ s) j; downs = keepIf (downAbout a) (downsIn (l .downs)); waiting = waitingOn a (l .waiting) } in
+      λ j. record { line = Invalid; words = []; returns = (r ∙ s) j; downs = keepIf (downAbout a) (downsIn (l .downs)); waiting = waitingOn a (l .waiting) } in
       seen-none c a (evicted i l) (changed-gone c i (invalid (lineAt l i)) l (evicted i l) evict-changed a u h e refl) ∙ t ∙ ap (evictSeen a) (sym evict-seen)
 
   pub evict-others : (a : BlockNo) → a .0 ≢ lineAt l i .block .0 → seen c a (evicted i l) ≡ seen c a l
