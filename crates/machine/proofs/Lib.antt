@@ -57,3 +57,4 @@ pub mod SeenBegin
 pub mod ConsistentLane
 pub mod ConsistentBegin
 pub mod OrderOfMemory
+pub mod SeenDeliver

@@ -184,7 +184,7 @@ module _ (c : ℕ) (l : Lane) (z : LaneSized l) (b : c ≤ 8) (u : Unique c l) (
       let r = returns-here (l .returns) (ejectOf (lineAt l i)) (z .returns) room a (ap (λ (x : BlockNo). x .0) (eject-block (lineAt l i))) in
       let s = ap (λ (m : ReturnMessage). keepIf (returnAbout a) (returnsIn (l .returns)) ++ (m ∷ [])) (sym (eject-seen (lineAt l i) l)) in
       let t : notHeld (lineAt l i .block) (evicted i l) ≡ evictSeen (lineAt l i .block) (heldAs (lineAt l i .block) (lineAt l i) l) =
-          λ j. record { line = Invalid; words = []; returns = (r ∙ s) j; downs = keepIf (downAbout a) (downsIn (l .downs)); waiting = waitingOn a (l .waiting) } in
+      λ j. record { line = Invalid; words = []; returns = (r ∙ s) j; downs = keepIf (downAbout a) (downsIn (l .downs)); waiting = waitingOn a (l .waiting) } in
       seen-none c a (evicted i l) (changed-gone c i (invalid (lineAt l i)) l (evicted i l) evict-changed a u h e refl) ∙ t ∙ ap (evictSeen a) (sym evict-seen)
 
   pub evict-others : (a : BlockNo) → a .0 ≢ lineAt l i .block .0 → seen c a (evicted i l) ≡ seen c a l
@@ -371,3 +371,11 @@ begin-case c k op w l z b u h t = rw t (go (searchOf l c (blockOf w)) refl)
     go : (f : Found) → searchOf l c (blockOf w) ≡ f → BeginCase c k op w l (beginAt f c k op w l)
     go (At i) e = at-case c k op w l z b u idle i e
     go Nothing e = miss-case c k op w l z b u idle e h (vacantOf l c) refl
+
+-- the valid lines still have different blocks, whatever the case
+pub begin-unique : (c : ℕ) (k : LaneNo) (op : Op) (w : WordNo) (l : Lane) (r : LaneStep) → Unique c l → BeginCase c k op w l r → Unique c (r .lane)
+begin-unique c k op w l r u (Hits h) = h .unique
+begin-unique c k op w l r u (Excludes h) = h .wait .unique
+begin-unique c k op w l r u (Reads h) = h .wait .unique
+begin-unique c k op w l r u (Evicts h) = h .wait .unique
+begin-unique c k op w l r u (Refuses h) = rw (h .same) u
