@@ -43,3 +43,7 @@ call-consistent s f (Serve k) i = serve-leads s f k i
 call-consistent s f (Return k) i = return-leads s f k i
 call-consistent s f (Deliver k) i = deliver-leads s f k i
 call-consistent s f Settle i = settle-leads s f i
+
+-- every call keeps n, c and m
+repeat-shape : (n : ℕ) (p : Progress) → SameShape (p .store) (repeatStep n p .store)
+repeat-shape n p = ?
