@@ -29,39 +29,39 @@ pub record SameShape (s t : Store) : Type 0 where
   pub c : t .c ≡ s .c
   pub m : t .m ≡ s .m
 
-as-it-was : (s : Store) → SameShape s s
-as-it-was s = record { n = refl; c = refl; m = refl }
+pub same-shape : (s : Store) → SameShape s s
+same-shape s = record { n = refl; c = refl; m = refl }
 
 lane-shape : (s : Store) (k : LaneNo) (r : LaneStep) → SameShape s (commitLane s k r .store)
 unfolding commitLane
-lane-shape s k r = by-cond (SameShape s) (refusedOf (r .answer)) _ _ (as-it-was s) (record { n = refl; c = refl; m = refl })
+lane-shape s k r = by-cond (SameShape s) (refusedOf (r .answer)) _ _ (same-shape s) (record { n = refl; c = refl; m = refl })
 
 move-shape : (s : Store) (k : LaneNo) (a : BlockNo) (v : Move) → SameShape s (commitMove s k a v .store)
 unfolding commitMove
 move-shape s k a v =
-    by-cond (λ (r : Outcome). SameShape s (r .store)) (refusedOf (v .answer)) _ _ (as-it-was s)
-    (by-cond (λ (r : Outcome). SameShape s (r .store)) (someFull (v .to) _) _ _ (as-it-was s) (record { n = refl; c = refl; m = refl }))
+    by-cond (λ (r : Outcome). SameShape s (r .store)) (refusedOf (v .answer)) _ _ (same-shape s)
+    (by-cond (λ (r : Outcome). SameShape s (r .store)) (someFull (v .to) _) _ _ (same-shape s) (record { n = refl; c = refl; m = refl }))
 
 pub begin-shape : (s : Store) (k : LaneNo) (op : Op) (w : WordNo) → SameShape s (beginOf s k op w .store)
 unfolding beginOf
 begin-shape s k op w =
-    guarded-keeps (SameShape s) s k _ (as-it-was s)
-    (λ _ _. by-cond (λ (r : Outcome). SameShape s (r .store)) (leb (4 * s .m) (w .0)) _ _ (as-it-was s) (lane-shape s k _))
+    guarded-keeps (SameShape s) s k _ (same-shape s)
+    (λ _ _. by-cond (λ (r : Outcome). SameShape s (r .store)) (leb (4 * s .m) (w .0)) _ _ (same-shape s) (lane-shape s k _))
 
 pub serve-shape : (s : Store) (k : LaneNo) → SameShape s (serveOf s k .store)
 unfolding serveOf
-serve-shape s k = guarded-keeps (SameShape s) s k _ (as-it-was s) (λ _ _. go (readyOf (laneAt s (k .0)) (s .control)))
+serve-shape s k = guarded-keeps (SameShape s) s k _ (same-shape s) (λ _ _. go (readyOf (laneAt s (k .0)) (s .control)))
   where
     go : (r : Ready) → SameShape s (serveReady r s k .store)
-    go (No n) = as-it-was s
+    go (No n) = same-shape s
     go (Go o) = move-shape s k (blockOf (o .word)) _
 
 pub return-shape : (s : Store) (k : LaneNo) → SameShape s (returnOf s k .store)
 unfolding returnOf
 return-shape s k =
-    guarded-keeps (SameShape s) s k _ (as-it-was s)
-    (λ _ _. by-cond (λ (r : Outcome). SameShape s (r .store)) (emptyAt (laneAt s (k .0) .returns .len)) _ _ (as-it-was s) (move-shape s k _ _))
+    guarded-keeps (SameShape s) s k _ (same-shape s)
+    (λ _ _. by-cond (λ (r : Outcome). SameShape s (r .store)) (emptyAt (laneAt s (k .0) .returns .len)) _ _ (same-shape s) (move-shape s k _ _))
 
 pub deliver-shape : (s : Store) (k : LaneNo) → SameShape s (deliverOf s k .store)
 unfolding deliverOf
-deliver-shape s k = guarded-keeps (SameShape s) s k _ (as-it-was s) (λ _ _. lane-shape s k _)
+deliver-shape s k = guarded-keeps (SameShape s) s k _ (same-shape s) (λ _ _. lane-shape s k _)

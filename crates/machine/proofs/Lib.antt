@@ -58,3 +58,4 @@ pub mod ConsistentLane
 pub mod ConsistentBegin
 pub mod OrderOfMemory
 pub mod SeenDeliver
+pub mod ShapeKeeps

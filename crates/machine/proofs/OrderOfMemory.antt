@@ -20,10 +20,11 @@ use Rattle.machine.specs.Flat.{flatOf}
 use Rattle.machine.specs.Demand3.{Coherent, WhenQuiet, Demand3}
 use Rattle.machine.proofs.Sound.{sound}
 use Rattle.machine.proofs.Keeps.{begin-keeps}
-use Rattle.machine.proofs.KeepsShape.{SameShape, begin-shape, serve-shape, return-shape, deliver-shape}
+use Rattle.machine.proofs.KeepsShape.{SameShape}
+use Rattle.machine.proofs.ShapeKeeps.{call-shape}
 use Rattle.machine.proofs.SizedKeeps.{begin-sized, sized-whole}
 use Rattle.machine.proofs.FallsSettle.{startAt, settle-rule}
-use Rattle.machine.proofs.Owes.{Owes}
+use Rattle.machine.proofs.Owes.{Paid}
 use Rattle.machine.proofs.Outer.{Told, outer}
 use Rattle.machine.proofs.OuterRun.{Keeps, run-pays}
 use Rattle.machine.proofs.Consistent.{Consistent, pendingIn}
@@ -44,6 +45,47 @@ call-consistent s f (Return k) i = return-leads s f k i
 call-consistent s f (Deliver k) i = deliver-leads s f k i
 call-consistent s f Settle i = settle-leads s f i
 
--- every call keeps n, c and m
-repeat-shape : (n : ℕ) (p : Progress) → SameShape (p .store) (repeatStep n p .store)
-repeat-shape n p = ?
+-- a consistent store of a shape
+pub record Reached (n c m : ℕ) (s : Store) (f : List ℕ) : Type 0 where
+  pub lanes : s .n ≡ n
+  pub lines : s .c ≡ c
+  pub blocks : s .m ≡ m
+  pub consistent : Consistent s f
+
+reached-keeps : (n c m : ℕ) (s : Store) (f : List ℕ) (x : Call) → Reached n c m s f → Keeps (Reached n c m) pendingIn s f x
+reached-keeps n c m s f x i =
+    let r = call-consistent s f x (i .consistent) in
+    let z = call-shape s x in
+    (r .0, record { lanes = z .n ∙ i .lanes; lines = z .c ∙ i .lines; blocks = z .m ∙ i .blocks; consistent = r .1 }, r .2)
+
+pub reached-open : (n c m : ℕ) → openOf n c m .answer ≡ Opened → Reached n c m (openOf n c m .store) (flatOf m)
+reached-open n c m e =
+    let z = open-shape n c m e in
+    record { lanes = z .0; lines = z .1; blocks = z .2; consistent = open-consistent n c m e }
+
+-- what a list of calls from an opening reaches, and that it paid what it owes
+pub reaches : (n c m : ℕ) (calls : List Call) → openOf n c m .answer ≡ Opened →
+    (g : List ℕ) × Reached n c m (run (openOf n c m .store) calls .store) g ×
+    Paid (pendingIn (openOf n c m .store)) (flatOf m) (run (openOf n c m .store) calls .history) (pendingIn (run (openOf n c m .store) calls .store)) g
+reaches n c m calls e = run-pays (Reached n c m) pendingIn (reached-keeps n c m) (openOf n c m .store) (flatOf m) calls (reached-open n c m e)
+
+-- the order of completion is the order of memory
+pub order-of-memory : Demand3
+order-of-memory n c m calls e =
+    let r = reaches n c m calls e in
+    let s = run (openOf n c m .store) calls .store in
+    let t : Told m (run (openOf n c m .store) calls .history) (pendingIn s) (r .0) = outer m _ (pendingIn s) (r .0) (rw (open-rests n c m e) at (r .2)) in
+    let i = r .1 .consistent in
+    record {
+      lanes = r .1 .lanes;
+      lines = r .1 .lines;
+      blocks = r .1 .blocks;
+      owned = t .owned;
+      once = t .once;
+      values = t .values;
+      when-quiet = λ q. record {
+        all-completed = t .all-completed (quiet-rests s (r .0) i q);
+        shows = λ a l. rw (← t .end) (quiet-shows s (r .0) i q a (rw (r .1 .blocks) l));
+        flags = quiet-flags s (r .0) i q;
+      };
+    }
