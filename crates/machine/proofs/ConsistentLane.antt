@@ -15,11 +15,12 @@ use Rattle.machine.specs.Change.{withLane}
 use Rattle.machine.proofs.Sets.{same?, set-cases}
 use Rattle.machine.proofs.Sound.{sound}
 use Rattle.machine.proofs.Owes.{Pending, Rests, upd}
+use Rattle.machine.proofs.Updates.{upd-self}
 use Rattle.machine.proofs.Sized.{LaneSized}
 use Rattle.machine.proofs.BlockState.{Seen, seen, blockNo, project}
 use Rattle.machine.proofs.Moves.{putLane}
 use Rattle.machine.proofs.Searches.{Unique}
-use Rattle.machine.proofs.Project.{getD-set, upd-self, project-lane, project-lane-same}
+use Rattle.machine.proofs.Project.{getD-set, project-lane, project-lane-same}
 use Rattle.machine.proofs.Consistent.{Consistent, pendingOf, pendingIn}
 
 module _ (s : Store) (f : List ℕ) (i : Consistent s f) (k : ℕ) (h : k < s .n) where

@@ -38,6 +38,7 @@ use Rattle.machine.proofs.BlockState.{Status, Invalid, Shared, Modified
 use Rattle.machine.proofs.Invariant.{Inv, viewOf}
 use Rattle.machine.proofs.BlockQuiet.{quiet-view}
 use Rattle.machine.proofs.Searches.{Unique, found-holds, none-holds, search-at, holds-valid, valid-holds}
+use Rattle.machine.proofs.SeenBegin.{held-line, idle-waiting}
 use Rattle.machine.proofs.Consistent.{Consistent, pendingOf, pendingIn}
 
 
@@ -58,11 +59,6 @@ loop-gives P g (suc n) a t h o e =
     go (inl q) r = rw (← q) (o (upTo g t a))
     go (inr q) r = e n (omega arith) (upTo g n a) (r q)
 
--- a line found is held, PRIVATE or not
-either-held : (b : Bool) → held (cond b Modified Shared) ≡ true
-either-held true = refl
-either-held false = refl
-
 -- both hold
 and-both : (a b : Bool) → (a && b) ≡ true → (a ≡ true) × (b ≡ true)
 and-both true b e = (refl, e)
@@ -78,11 +74,6 @@ record Still (l : Lane) : Type 0 where
   returns : l .returns .len ≡ 0
   downs : l .downs .len ≡ 0
 
-idle-is : (w : Waiting) → idleOf w ≡ true → w ≡ Idle
-idle-is Idle e = refl
-idle-is (Unserved o) e = clash (cc)
-idle-is (Served o) e = clash (cc)
-
 still : (l : Lane) → stirsOf l ≡ false → Still l
 unfolding stirsOf
 still l e =
@@ -91,7 +82,7 @@ still l e =
     let d : (ltb 0 (l .returns .len) || ltb 0 (l .downs .len)) ≡ false = rw w at e in
     let r = ltb-false 0 (l .returns .len) (or-left (ltb 0 (l .returns .len)) (ltb 0 (l .downs .len)) d) in
     let q = ltb-false 0 (l .downs .len) (or-right (ltb 0 (l .returns .len)) (ltb 0 (l .downs .len)) d) in
-    record { waits = idle-is (l .waiting) w; returns = omega arith; downs = omega arith })
+    record { waits = idle-waiting (l .waiting) w; returns = omega arith; downs = omega arith })
     (λ w. let d : true ≡ false = rw w at e in clash (cc))
 
 module _ (s : Store) (f : List ℕ) (i : Consistent s f) (quiet : quietOf s ≡ true) where
@@ -162,7 +153,7 @@ module _ (s : Store) (f : List ℕ) (i : Consistent s f) (quiet : quietOf s ≡ 
     invalid-copy k e = any-never (λ t. holdsOf (lineIn s k t) (blockNo a)) (s .c) (λ t h. on (holdsOf (lineIn s k t) (blockNo a)) (λ q. clash (cc (found t h q))) (λ q. q))
       where
         found : (t : ℕ) → t < s .c → holdsOf (lineIn s k t) (blockNo a) ≡ true → held Invalid ≡ true
-        found t h q = sym (ap held e) ∙ ap held (ap (λ (r : Found). statusAt r (laneAt s k .lines)) (search-at (s .c) (laneAt s k) (i .unique k) (blockNo a) t h q)) ∙ either-held (lineIn s k t .private)
+        found t h q = sym (ap held e) ∙ ap held (ap (λ (r : Found). statusAt r (laneAt s k .lines)) (search-at (s .c) (laneAt s k) (i .unique k) (blockNo a) t h q)) ∙ held-line (lineIn s k t .private)
 
     -- a line that holds the block is the one found, with its status
     line-status : (k t : ℕ) → t < s .c → holdsOf (lineIn s k t) (blockNo a) ≡ true → status k ≡ cond (lineIn s k t .private) Modified Shared
@@ -176,11 +167,11 @@ module _ (s : Store) (f : List ℕ) (i : Consistent s f) (quiet : quietOf s ≡ 
     line-words : (k t : ℕ) → t < s .c → holdsOf (lineIn s k t) (blockNo a) ≡ true → lineIn s k t .words ≡ flatBlock f a
     line-words k t h q =
         let e = search-at (s .c) (laneAt s k) (i .unique k) (blockNo a) t h q in
-        sym (words-are k ∙ ap (λ (r : Found). wordsAt r (laneAt s k .lines)) e) ∙ inv .bears k .line (ap held (line-is k ∙ line-status k t h q) ∙ either-held (lineIn s k t .private))
+        sym (words-are k ∙ ap (λ (r : Found). wordsAt r (laneAt s k .lines)) e) ∙ inv .bears k .line (ap held (line-is k ∙ line-status k t h q) ∙ held-line (lineIn s k t .private))
 
     -- 1
     present-copy : (k : ℕ) → k < s .n → presentIn s a k ≡ true → hasCopy s k a ≡ true
-    present-copy k h e = held-copy k (sym (ap held (view-line k h)) ∙ ap held (view-flags k) ∙ rw e (either-held (blockAt s a .modified)))
+    present-copy k h e = held-copy k (sym (ap held (view-line k h)) ∙ ap held (view-flags k) ∙ rw e (held-line (blockAt s a .modified)))
 
     -- a dirty view has PRESENT and MODIFIED set
     dirty-flags : (k : ℕ) → v k ≡ Modified → (presentIn s a k ≡ true) × (blockAt s a .modified ≡ true)
@@ -238,7 +229,7 @@ module _ (s : Store) (f : List ℕ) (i : Consistent s f) (quiet : quietOf s ≡ 
         absent : (j : ℕ) → v j ≡ Invalid → (p : Bool) → presentIn s a j ≡ p → presentIn s a j ≡ false
         absent j x true p =
             let d : viewOf (blockAt s a) j ≡ Invalid = sym (view-flags j) ∙ x in
-            let e : held (viewOf (blockAt s a) j) ≡ true = rw p (either-held (blockAt s a .modified)) in
+            let e : held (viewOf (blockAt s a) j) ≡ true = rw p (held-line (blockAt s a .modified)) in
             let q : held (viewOf (blockAt s a) j) ≡ false = ap held d in
             clash (cc (e, q))
         absent j x false p = p

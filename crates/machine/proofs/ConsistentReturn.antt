@@ -35,12 +35,14 @@ use Rattle.machine.specs.Return.{takenBy, isAnswer, quietly, answered, r
 use Rattle.machine.specs.Flat.{flatBlock}
 use Rattle.machine.proofs.Sets.{pick}
 use Rattle.machine.proofs.Sound.{sound}
+use Rattle.machine.proofs.KeepsLane.{clash}
 use Rattle.machine.proofs.Owes.{upd}
 use Rattle.machine.proofs.Sized.{LaneSized}
 use Rattle.machine.proofs.BlockState.{Status, Seen, BlockState, keepIf, returnAbout, seen, blockNo, project}
 use Rattle.machine.proofs.Queued.{returnsIn, take-returns, keep-head, keep-tail}
 use Rattle.machine.proofs.Invariant.{Inv}
 use Rattle.machine.proofs.Moves.{takeSeen, sendAll, closeState, returnState}
+use Rattle.machine.proofs.Directories.{nobody-none}
 use Rattle.machine.proofs.MemoryClose.{close-keeps}
 use Rattle.machine.proofs.MemoryReturn.{eject-returns, answer-returns}
 use Rattle.machine.proofs.Project.{Moves, movedStore, project-here}
@@ -48,22 +50,14 @@ use Rattle.machine.proofs.Consistent.{Consistent, StaysConsistent, refu
 use Rattle.machine.proofs.ConsistentMove.{Shows, commit-consistent}
 use Rattle.machine.proofs.ConsistentServe.{send-none, grant-block, only-length}
 
--- nothing is sent
-nobody-goes : (j : ℕ) → goesTo nobody j ≡ false
-nobody-goes j = go (below? j 8)
-  where
-    go : (j < 8) ⊎ (8 ≤ j) → goesTo nobody j ≡ false
-    go (inl h) = getD-replicate 8 j false false h
-    go (inr h) = List·getD-eq-default nobody false h
-
 -- a service looked up is the control's
 looked-up : (y : Control) (a : BlockNo) (v : Service) → serviceOf y a ≡ Of v → (y ≡ Busy v) × (v .block .0 ≡ a .0)
-looked-up Free a v e = let z : _≡_ {A = ℕ} 0 1 = cc in absurd (omega arith)
+looked-up Free a v e = clash (cc)
 looked-up (Busy u) a v e = go (eqb (u .block .0) (a .0)) refl e
   where
     go : (b : Bool) → eqb (u .block .0) (a .0) ≡ b → cond b (Of u) Nothing ≡ Of v → (Busy u ≡ Busy v) × (v .block .0 ≡ a .0)
     go true q d = let z : u ≡ v = cc in (rw z, rw (← z) (eqb-true _ _ q))
-    go false q d = let z : _≡_ {A = ℕ} 0 1 = cc in absurd (omega arith)
+    go false q d = clash (cc)
 
 module _ (s : Store) (f : List ℕ) (i : Consistent s f) (k : LaneNo) (h : k .0 < s .n) (filled : laneAt s (k .0) .returns .len ≢ 0) where
   abbrev l : Lane
@@ -140,12 +134,12 @@ module _ (s : Store) (f : List ℕ) (i : Consistent s f) (k : LaneNo) (h : k .0 
         below = entry-below;
         to = refl;
         lane = t-sized;
-        about = λ j q. let r = nobody-goes j in let z : _≡_ {A = ℕ} 0 1 = cc in absurd (omega arith);
+        about = λ j q. let r = nobody-none j in clash (cc);
         lines = refl;
         pending = refl;
         unseen = seen-there;
         control = c;
-        here = λ g. rw (project-here s k a _ g, seen-here, send-none nobody noMessage (upd (project s (a .0) .lane) (k .0) (takeSeen rest (project s (a .0) .lane (k .0)))) nobody-goes) p;
+        here = λ g. rw (project-here s k a _ g, seen-here, send-none nobody noMessage (upd (project s (a .0) .lane) (k .0) (takeSeen rest (project s (a .0) .lane (k .0)))) nobody-none) p;
       }
 
   -- the last answer

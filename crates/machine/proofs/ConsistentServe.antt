@@ -37,6 +37,8 @@ use Rattle.machine.specs.Serve.{bareDown, orderOf, sendsOf, ordered, cou
 use Rattle.machine.specs.Flat.{flatBlock}
 use Rattle.machine.proofs.Sets.{pick}
 use Rattle.machine.proofs.Sound.{sound}
+use Rattle.machine.proofs.KeepsLane.{clash}
+use Rattle.machine.proofs.Sums.{sum-zero, count-sum}
 use Rattle.machine.proofs.Owes.{upd}
 use Rattle.machine.proofs.Sized.{LaneSized}
 use Rattle.machine.proofs.BlockState.{Status, Seen, BlockState, seen, blockNo, project}
@@ -50,14 +52,11 @@ use Rattle.machine.proofs.ConsistentMove.{Shows, commit-consistent}
 
 -- none below n passes a test that counts none
 count-none : (p : ℕ → Bool) (n : ℕ) → countTo p n ≡ 0 → (j : ℕ) → j < n → p j ≡ false
-unfolding countTo
-count-none p zero e j h = absurd (omega arith)
-count-none p (suc n) e j h = let l : j ≤ n = omega arith in go (p n) refl (eq-or-lt-of-le l) (λ d q. count-none p n d j q)
+count-none p n e j h = go (p j) (sum-zero (λ i. cond (p i) 1 0) n (sym (count-sum p n) ∙ e) j h)
   where
-    go : (b : Bool) → p n ≡ b → (j ≡ n) ⊎ (j < n) → (countTo p n ≡ 0 → j < n → p j ≡ false) → p j ≡ false
-    go true q r d = let z : countTo p n + 1 ≡ 0 = rw q at e in absurd (omega arith)
-    go false q (inl r) d = rw r q
-    go false q (inr r) d = let z : countTo p n + 0 ≡ 0 = rw q at e in d (omega arith) r
+    go : (b : Bool) → _≡_ {A = ℕ} (cond b 1 0) 0 → b ≡ false
+    go true q = clash (cc)
+    go false q = refl
 
 -- a message to nobody
 pub send-none : (to : List Bool) (x : DownMessage) (g : ℕ → Seen) → ((j : ℕ) → goesTo to j ≡ false) → sendAll to x g ≡ g
@@ -85,7 +84,7 @@ only-length k = length-set nobody (k .0) true
 -- no service
 not-busy : (x : Control) → busyOf x ≡ false → x ≡ Free
 not-busy Free e = refl
-not-busy (Busy v) e = let z : _≡_ {A = ℕ} 0 1 = cc in absurd (omega arith)
+not-busy (Busy v) e = clash (cc)
 
 module _ (s : Store) (f : List ℕ) (i : Consistent s f) (k : LaneNo) (h : k .0 < s .n) (o : Operation) (e : laneAt s (k .0) .waiting ≡ Unserved o)
     (free : s .control ≡ Free) (clear : laneAt s (k .0) .returns .len ≡ 0) where

@@ -22,23 +22,9 @@ use Rattle.machine.proofs.Tests.{on}
 use Rattle.machine.proofs.Sets.{same?, set-here}
 use Rattle.machine.proofs.KeepsLane.{clash}
 use Rattle.machine.proofs.Owes.{upd}
+use Rattle.machine.proofs.Updates.{upd-same, upd-other, upd-cases}
 use Rattle.machine.proofs.BlockState.{Status, Invalid, Shared, Modified, held, dirty}
 use Rattle.machine.proofs.Invariant.{Fits, CommandFits, bearing, Covered, exclusive, viewOf, Directory}
-
--- v at k, and elsewhere, after upd
-pub upd-same : {A : Type 0} (g : ℕ → A) (k : ℕ) (x : A) → upd g k x k ≡ x
-upd-same g k x = rw (eq-eqb k k refl)
-
-pub upd-other : {A : Type 0} (g : ℕ → A) (k : ℕ) (x : A) (j : ℕ) → j ≢ k → upd g k x j ≡ g j
-upd-other g k x j n = rw (ne-eqb j k n)
-
--- what holds of the new value, and elsewhere of the old ones, holds after upd
-pub upd-cases : {A : Type 0} (P : ℕ → A → Type 0) (g : ℕ → A) (k : ℕ) (x : A) → P k x → ((j : ℕ) → j ≢ k → P j (g j)) → (j : ℕ) → P j (upd g k x j)
-upd-cases P g k x new old j = go (same? j k)
-  where
-    go : (j ≡ k) ⊎ (j ≢ k) → P j (upd g k x j)
-    go (inl e) = rw (e, eq-eqb k k refl) new
-    go (inr n) = rw (ne-eqb j k n) (old j n)
 
 -- nobody is no lane at all
 pub nobody-none : (j : ℕ) → goesTo nobody j ≡ false

@@ -22,18 +22,11 @@ use Rattle.machine.proofs.KeepsLane.{clash}
 use Rattle.machine.proofs.Tests.{on}
 use Rattle.machine.proofs.Sets.{same?}
 use Rattle.machine.proofs.Owes.{upd}
+use Rattle.machine.proofs.Updates.{upd-cases}
 use Rattle.machine.proofs.BlockState.{Status, Modified, held, dirty, Seen, BlockState, wordsDone}
 use Rattle.machine.proofs.Invariant.{Chain, owed, grantCount, serving, servedCount, WaitFits, ReturnsBear, Bears, someUpdate, someUpdated, ServiceFits, ServedWell, Inv}
 use Rattle.machine.proofs.Moves.{putLane}
 use Rattle.machine.proofs.Chains.{idle, absent-bears}
-
--- what holds of the new value at k, and of the old ones elsewhere, holds everywhere
-pub upd-cases : {A : Type 0} (P : ℕ → A → Type 0) (f : ℕ → A) (k : ℕ) (x : A) → P k x → ((j : ℕ) → j ≢ k → P j (f j)) → (j : ℕ) → P j (upd f k x j)
-upd-cases P f k x new old j = go (same? j k)
-  where
-    go : (j ≡ k) ⊎ (j ≢ k) → P j (upd f k x j)
-    go (inl e) = rw (e, eq-eqb k k refl) new
-    go (inr n) = rw (ne-eqb j k n) (old j n)
 
 -- the lane in service rests: what the service reads of it is as it was
 pub record Rests (l m : Seen) : Type 0 where

@@ -59,3 +59,5 @@ pub mod ConsistentBegin
 pub mod OrderOfMemory
 pub mod SeenDeliver
 pub mod ShapeKeeps
+pub mod Updates
+pub mod Live

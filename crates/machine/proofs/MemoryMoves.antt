@@ -19,7 +19,7 @@ use Rattle.machine.proofs.Owes.{upd}
 use Rattle.machine.proofs.BlockState.{Status, Invalid, Modified, dirty, Seen, BlockState}
 use Rattle.machine.proofs.Invariant.{Chain, grantCount, serving, servedCount, WaitFits, isGrant, DownsBear, Bears, answerCount, orderCount, owed, awaitedOf, ServedWell, Directory, Inv}
 use Rattle.machine.proofs.Moves.{postSeen}
-use Rattle.machine.proofs.Directories.{upd-same, upd-other}
+use Rattle.machine.proofs.Updates.{upd-same, upd-other}
 
 -- the conjuncts of lane k alone
 pub record LaneFits (v : Status) (x : Lookup) (f : List ℕ) (k : ℕ) (l : Seen) : Type 0 where

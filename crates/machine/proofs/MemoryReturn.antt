@@ -27,7 +27,8 @@ use Rattle.machine.proofs.BlockState.{Status, Invalid, dirty, Seen, Blo
 use Rattle.machine.proofs.Invariant.{Fits, Sent, Chain, answerCount, owed, serving, awaitedOf, bearing, ReturnsBear, Bears, isUpdated, someUpdate, someUpdated, Covered, exclusive, ServiceFits, ServedWell, Inv}
 use Rattle.machine.proofs.Moves.{takeSeen, returnState}
 use Rattle.machine.proofs.Chains.{fits-clean, fits-invalid}
-use Rattle.machine.proofs.Directories.{upd-other, upd-cases, return-directory, taken-words}
+use Rattle.machine.proofs.Updates.{upd-other, upd-cases}
+use Rattle.machine.proofs.Directories.{return-directory, taken-words}
 use Rattle.machine.proofs.MemoryMoves.{LaneFits, lane-fits, PutFits, put-keeps}
 
 -- the head fits the view, and the chain goes on from there

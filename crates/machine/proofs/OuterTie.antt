@@ -10,15 +10,8 @@ use Rattle.words.specs.declared.Op.{Op}
 use Rattle.machine.specs.Attribution.{Begun, Of, begunAt, Waits, noWaits}
 use Rattle.machine.proofs.Owes.{Pending, Rests, upd, nonePending}
 use Rattle.machine.proofs.Sets.{same?}
+use Rattle.machine.proofs.Updates.{upd-same, upd-other}
 use Rattle.machine.proofs.KeepsLane.{clash}
-
--- what is read where f was set
-pub upd-same : {A : Type 0} (f : ℕ → A) (k : ℕ) (x : A) → upd f k x k ≡ x
-upd-same f k x = rw (eq-eqb k k refl)
-
--- .. and elsewhere
-pub upd-other : {A : Type 0} (f : ℕ → A) (k : ℕ) (x : A) (j : ℕ) → j ≢ k → upd f k x j ≡ f j
-upd-other f k x j n = rw (ne-eqb j k n)
 
 -- lanes of one number are one lane
 lane-same : (j k : LaneNo) → j .0 ≡ k .0 → j ≡ k

@@ -27,7 +27,9 @@ use Rattle.machine.specs.declared.Move.{Move}
 use Rattle.machine.specs.Change.{withLane, goesTo, someFull, posted, postTo, postAll}
 use Rattle.machine.proofs.Tests.{on, and-right}
 use Rattle.machine.proofs.Sets.{same?}
+use Rattle.machine.proofs.KeepsLane.{clash}
 use Rattle.machine.proofs.Owes.{upd}
+use Rattle.machine.proofs.Updates.{upd-self}
 use Rattle.machine.proofs.Sized.{LaneSized, Sized}
 use Rattle.machine.proofs.BlockState.{Seen, BlockState, keepIf, downAbout, seen, blockNo, project}
 use Rattle.machine.proofs.Moves.{putLane, postSeen, sendAll}
@@ -41,14 +43,6 @@ getD-set l i j x d h = go (same? j i)
     go : (j ≡ i) ⊎ (j ≢ i) → getD (set l i x) j d ≡ cond (eqb j i) x (getD l j d)
     go (inl e) = rw (e, eq-eqb i i refl, getD-set-same l i x d h)
     go (inr n) = rw (ne-eqb j i n, getD-set-other l i j x d n)
-
--- what is there already, put there
-pub upd-self : {A : Type 0} (f : ℕ → A) (k : ℕ) → upd f k (f k) ≡ f
-upd-self f k = fun-ext (λ j. go j (same? j k))
-  where
-    go : (j : ℕ) → (j ≡ k) ⊎ (j ≢ k) → upd f k (f k) j ≡ f j
-    go j (inl e) = rw (e, eq-eqb k k refl)
-    go j (inr n) = rw (ne-eqb j k n)
 
 -- a function of what a test picks
 pick-of : {A B : Type 0} (f : A → B) (b : Bool) (x y : A) → f (cond b x y) ≡ cond b (f x) (f y)
@@ -92,8 +86,7 @@ goes-below to j t e = go (below? j 8)
     go (inr h) =
         let p : length to ≤ j = omega arith in
         let q : getD to j false ≡ false = List·getD-eq-default to false p in
-        let z : _≡_ {A = ℕ} 0 1 = cc in
-        absurd (omega arith)
+        clash (cc)
 
 -- the lanes that a message goes to have room for it
 pub room : (to : List Bool) (ls : List Lane) (j : ℕ) → length to ≡ 8 → someFull to ls ≡ false → goesTo to j ≡ true → getD ls j noLane .downs .len < 2

@@ -14,4 +14,5 @@ pub mod Attribution
 pub mod Flat
 pub mod Flags
 pub mod Demand3
+pub mod Completion
 pub mod Table

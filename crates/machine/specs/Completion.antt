@@ -1,0 +1,23 @@
+-- Beside demand 3: from an opening, after any list of calls, settle is not refused (never 12, never 16), and the store is quiet
+-- after it; so, by demand 3, every operation begun completes. This file only states it. Assumes nothing.
+use Prim.Native.Nat.{ℕ}
+use mathlib.Core.Path.{_≡_}
+use mathlib.Core.Bool.{true}
+use mathlib.Core.List.{List}
+use Rattle.answers.specs.declared.Answer.the-variants.{Opened}
+use Rattle.store.specs.declared.Store.{Store}
+use Rattle.store.specs.Opening.{openOf}
+use Rattle.store.specs.Quiet.{quietOf}
+use Rattle.machine.specs.declared.Settled.the-variants.{Steps}
+use Rattle.machine.specs.Settle.{settleOf}
+use Rattle.machine.specs.Calls.{Call, run}
+
+-- settle answers with its count, and leaves a quiet store
+pub record Settles (s : Store) : Type 0 where
+  pub count : ℕ
+  pub answer : settleOf s .answer ≡ Steps count
+  pub quiet : quietOf (settleOf s .store) ≡ true
+
+-- .. after any list of calls from any opening that isn't refused
+abbrev pub AlwaysSettles : Type 0
+AlwaysSettles = (n c m : ℕ) (calls : List Call) → openOf n c m .answer ≡ Opened → Settles (run (openOf n c m .store) calls .store)
