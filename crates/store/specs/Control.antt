@@ -8,8 +8,6 @@ use Rattle.store.specs.declared.Control.{Control}
 use Rattle.store.specs.declared.Control.the-variants.{Free}
 use Rattle.store.specs.declared.Lookup.{Lookup}
 use Rattle.store.specs.declared.Lookup.the-variants.{Of, Nothing}
-use Rattle.store.specs.declared.Started.{Started}
-use Rattle.store.specs.declared.Started.the-variants.{As}
 use Rattle.store.specs.declared.Counted.{Counted}
 use Rattle.store.specs.declared.Counted.the-variants.{Awaits, Closes, NotAwaited}
 
@@ -22,11 +20,6 @@ busyOf (Control.Busy v) = true
 abbrev pub serviceOf : Control → BlockNo → Lookup
 serviceOf Free a = Nothing
 serviceOf (Control.Busy v) a = cond (eqb (v .block .0) (a .0)) (Of v) Nothing
-
--- a service begins
-abbrev pub startOf : Control → Service → Started
-startOf Free v = As (Control.Busy v)
-startOf (Control.Busy u) v = Started.Busy
 
 -- the service with one answer fewer awaited
 abbrev pub lowered : Service → Service

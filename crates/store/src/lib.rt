@@ -1,7 +1,7 @@
 // The store: main memory's blocks, the control with its service, the lanes; opening and quiet.
 // Functions that are not listed in docs/ARCHITECTURE.md, "Calls open to others", are for the crates above.
 ghost use mathlib.Core.Path.{_≡_};
-ghost use Rattle.store.specs.Control.{busyOf, serviceOf, startOf, answerOf};
+ghost use Rattle.store.specs.Control.{busyOf, serviceOf, answerOf};
 ghost use Rattle.store.specs.Opening.{badShape, blankLine, blankLane, blankBlock, freshOf, openOf};
 ghost use Rattle.store.specs.Quiet.{stirsOf, quietOf};
 use answers::Answer;
@@ -48,12 +48,6 @@ pub enum Lookup {
     Nothing,
 }
 
-// The control after a service began.
-pub enum Started {
-    As(Control),
-    Busy,
-}
-
 // The control after an answer came in: with one answer fewer awaited, or without the service that it closes; or nobody awaits it.
 pub enum Counted {
     Awaits(Control),
@@ -84,16 +78,6 @@ impl Control {
                 }
                 Lookup::Nothing
             }
-        }
-    }
-
-    // The service begins.
-    pub fn start(self, v: Service) -> Started
-        ensures { λ r. ⌜ r ≡ startOf self v ⌝ }
-    {
-        match self {
-            Control::Free => Started::As(Control::Busy(v)),
-            Control::Busy(_) => Started::Busy,
         }
     }
 
