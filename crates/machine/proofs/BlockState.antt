@@ -1,9 +1,8 @@
 -- The store as one block sees it: what each lane has of the block, the messages about it in each lane's queues, the operation that
 -- waits on it, its entry in main memory and its service. Nothing here says how many services there are. Assumes nothing.
-use Prim.Native.Nat.{ℕ, _+_}
-use mathlib.Core.Path.{_≡_}
-use mathlib.Core.Bool.{Bool, true, false, cond, _||_}
-use mathlib.Core.List.{List, [], _∷_, _++_}
+use Prim.Native.Nat.{ℕ}
+use mathlib.Core.Bool.{Bool, true, false, cond}
+use mathlib.Core.List.{List, [], _∷_}
 use lib.Dec.{eqb}
 use lib.ListN.{getD, set}
 use Rattle.words.specs.declared.Line.{Line}

@@ -1,8 +1,8 @@
 -- What a store has that an opening and any calls after it give, beside flat memory f: the bounds, the arrays' lengths, different
 -- blocks in the valid lines of a lane, and the protocol's invariant for every block. Assumes nothing.
 use Prim.Native.Nat.{ℕ, _<_}
-use mathlib.Core.Path.{_≡_, refl, ap, fun-ext}
-use mathlib.Core.Bool.{Bool, true, false, cond}
+use mathlib.Core.Path.{_≡_, refl, fun-ext}
+use mathlib.Core.Bool.{false, cond}
 use mathlib.Core.List.{List}
 use borrow.Author.Tests.{leb-false}
 use lib.Dec.{leb, ltb}
@@ -10,7 +10,7 @@ use Rattle.words.specs.declared.LaneNo.{LaneNo}
 use Rattle.lanes.specs.declared.Waiting.{Waiting}
 use Rattle.lanes.specs.declared.Waiting.the-variants.{Idle, Unserved, Served}
 use Rattle.answers.specs.declared.Refusal.{Refusal}
-use Rattle.answers.specs.declared.Refusal.the-variants.{NoSuchLane, QueueFull, Corrupt}
+use Rattle.answers.specs.declared.Refusal.the-variants.{NoSuchLane, Corrupt}
 use Rattle.store.specs.declared.Store.{Store}
 use Rattle.store.specs.declared.Outcome.{Outcome}
 use Rattle.store.specs.Quiet.{laneAt}

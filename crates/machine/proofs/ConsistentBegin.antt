@@ -1,5 +1,5 @@
 -- Begin keeps a store consistent, and pays what it owes. Assumes nothing.
-use Prim.Native.Nat.{ℕ, _*_, _/_, _<_}
+use Prim.Native.Nat.{ℕ, _*_, _<_}
 use native.Mathlib.Omega.{arith}
 use mathlib.Core.Logic.{_⊎_, inl, inr, _≢_}
 use mathlib.Core.Path.{_≡_, refl, sym, ap, _∙_}
@@ -14,32 +14,30 @@ use Rattle.words.specs.Units.{blockOf}
 use Rattle.lanes.specs.declared.Lane.{Lane}
 use Rattle.lanes.specs.declared.Command.{Command}
 use Rattle.lanes.specs.declared.Command.the-variants.{ReadShared, ReadExclusive, Exclude}
-use Rattle.lanes.specs.declared.Operation.{Operation}
 use Rattle.lanes.specs.declared.Waiting.the-variants.{Idle, Unserved}
 use Rattle.lanes.specs.Waits.{idleOf}
 use Rattle.answers.specs.declared.Refusal.{Refusal}
 use Rattle.answers.specs.declared.Refusal.the-variants.{NoSuchWord, LaneBusy}
-use Rattle.answers.specs.Refusals.{refusedOf}
 use Rattle.store.specs.declared.Store.{Store}
 use Rattle.store.specs.declared.Outcome.{Outcome}
 use Rattle.store.specs.Quiet.{laneAt}
 use Rattle.machine.specs.declared.LaneStep.{LaneStep}
-use Rattle.machine.specs.Change.{refuse, refuseLane, withLane, commitLane}
+use Rattle.machine.specs.Change.{refuse, withLane, commitLane}
 use Rattle.machine.specs.Begin.{isLoad, readOf, beginLane, beginOf}
 use Rattle.machine.specs.Flat.{flatAfter, flatBlock}
 use Rattle.machine.proofs.Tests.{on}
 use Rattle.machine.proofs.Sets.{same?, pick}
 use Rattle.machine.proofs.Sound.{sound}
 use Rattle.machine.proofs.Owes.{Pending, Rests, upd, fed, BeginOwes}
-use Rattle.machine.proofs.BlockState.{Status, Invalid, Shared, seen, blockNo, project, valueDone, wordsDone}
+use Rattle.machine.proofs.BlockState.{Status, Invalid, Shared, seen, blockNo, project, valueDone}
 use Rattle.machine.proofs.Invariant.{Inv, CommandFits}
 use Rattle.machine.proofs.Moves.{waitSeen, hitSeen, evictSeen}
 use Rattle.machine.proofs.Flats.{flat-value, flat-done, flat-other}
 use Rattle.machine.proofs.Searches.{Unique, same-block}
 use Rattle.machine.proofs.LaneMovesBegin.{hit-keeps, wait-keeps, evict-keeps}
-use Rattle.machine.proofs.SeenBegin.{HitCase, WaitCase, ExcludeCase, ReadCase, EvictCase, RefusedCase, BeginCase, Hits, Excludes, Reads, Evicts, Refuses, asked, seen-idle, idle-waiting, begin-case}
+use Rattle.machine.proofs.SeenBegin.{HitCase, WaitCase, EvictCase, BeginCase, Hits, Excludes, Reads, Evicts, Refuses, asked, seen-idle, idle-waiting, begin-case}
 use Rattle.machine.proofs.Consistent.{Consistent, pendingOf, pendingIn, guarded-rule}
-use Rattle.machine.proofs.ConsistentLane.{lane-below, lane-sized, lane-project, lane-unseen, lane-unique, lane-pending, lane-pending-same, pending-here}
+use Rattle.machine.proofs.ConsistentLane.{lane-sized, lane-project, lane-unseen, lane-unique, lane-pending, lane-pending-same, pending-here}
 
 -- what begin has to show, beside bounds and lengths; flat is flat memory after it
 pub record Begins (s : Store) (f : List ℕ) (k : LaneNo) (op : Op) (w : WordNo) (r : Outcome) : Type 0 where

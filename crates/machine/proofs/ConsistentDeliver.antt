@@ -1,9 +1,9 @@
 -- Deliver keeps a store consistent; what completes has flat memory's value. Assumes nothing.
-use Prim.Native.Nat.{ℕ, _<_, _≤_}
+use Prim.Native.Nat.{ℕ, _<_}
 use native.Mathlib.Omega.{arith}
 use mathlib.Core.Logic.{_⊎_, inl, inr, _≢_}
-use mathlib.Core.Path.{_≡_, refl, sym, ap, _∙_}
-use mathlib.Core.List.{List, [], _∷_}
+use mathlib.Core.Path.{_≡_, refl, ap, _∙_}
+use mathlib.Core.List.{List, _∷_}
 use Rattle.words.specs.declared.LaneNo.{LaneNo}
 use Rattle.words.specs.declared.BlockNo.{BlockNo}
 use Rattle.words.specs.declared.WordNo.{WordNo}
@@ -14,8 +14,6 @@ use Rattle.queues.specs.declared.DownKind.{DownKind}
 use Rattle.queues.specs.declared.DownKind.the-variants.{Update, Purge, Grant, BareGrant}
 use Rattle.queues.specs.Queues.{headDown}
 use Rattle.lanes.specs.declared.Lane.{Lane}
-use Rattle.lanes.specs.declared.Operation.{Operation}
-use Rattle.answers.specs.declared.Answer.the-variants.{Step}
 use Rattle.store.specs.declared.Store.{Store}
 use Rattle.store.specs.Quiet.{laneAt}
 use Rattle.machine.specs.declared.LaneStep.{LaneStep}
@@ -25,7 +23,7 @@ use Rattle.machine.specs.Flat.{flatValue, flatAfter, flatBlock}
 use Rattle.machine.proofs.KeepsLane.{clash}
 use Rattle.machine.proofs.Sets.{same?}
 use Rattle.machine.proofs.Sound.{sound}
-use Rattle.machine.proofs.Owes.{Pending, Rests, upd, fed}
+use Rattle.machine.proofs.Owes.{Pending, upd, fed}
 use Rattle.machine.proofs.BlockState.{Status, Seen, BlockState, seen, blockNo, project, wordsDone, valueDone}
 use Rattle.machine.proofs.Invariant.{Inv}
 use Rattle.machine.proofs.Moves.{putLane, updateSeen, purgeSeen, grantSeen}

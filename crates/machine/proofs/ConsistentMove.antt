@@ -1,36 +1,30 @@
 -- Memory's part of a call put back: what is left to show is what its block sees. Assumes nothing.
-use Prim.Native.Nat.{ℕ, _<_, _≤_}
-use native.Mathlib.Omega.{arith}
+use Prim.Native.Nat.{ℕ, _<_}
 use mathlib.Core.Logic.{_⊎_, inl, inr, _≢_}
-use mathlib.Core.Path.{_≡_, refl, sym, ap, _∙_, fun-ext}
+use mathlib.Core.Path.{_≡_, refl, ap, _∙_}
 use mathlib.Core.Bool.{Bool, true, false, cond}
-use mathlib.Core.List.{List, []}
+use mathlib.Core.List.{List}
 use borrow.Author.Tests.{eq-eqb, ne-eqb}
 use lib.Dec.{eqb}
-use lib.ListN.{length, getD, set}
+use lib.ListN.{length, set}
 use Rattle.words.specs.declared.LaneNo.{LaneNo}
 use Rattle.words.specs.declared.BlockNo.{BlockNo}
-use Rattle.words.specs.declared.Line.{Line}
 use Rattle.queues.specs.declared.DownMessage.{DownMessage}
 use Rattle.lanes.specs.declared.Lane.{Lane}
-use Rattle.answers.specs.declared.Answer.{Answer}
 use Rattle.answers.specs.declared.Answer.the-variants.{Step}
 use Rattle.answers.specs.declared.Refusal.the-variants.{QueueFull}
 use Rattle.store.specs.declared.Store.{Store}
-use Rattle.store.specs.declared.Outcome.{Outcome}
 use Rattle.store.specs.Control.{serviceOf}
-use Rattle.store.specs.Quiet.{noLane, laneAt}
+use Rattle.store.specs.Quiet.{laneAt}
 use Rattle.machine.specs.declared.Move.{Move}
-use Rattle.machine.specs.Change.{goesTo, someFull, posted, postAll, commitMove}
+use Rattle.machine.specs.Change.{goesTo, someFull, posted, commitMove}
 use Rattle.machine.specs.Flat.{flatBlock}
 use Rattle.machine.proofs.Sets.{same?, pick}
-use Rattle.machine.proofs.Owes.{Pending, Rests}
-use Rattle.machine.proofs.Sized.{LaneSized, Sized}
+use Rattle.machine.proofs.Sized.{LaneSized}
 use Rattle.machine.proofs.BlockState.{Status, seen, blockNo, project}
 use Rattle.machine.proofs.Invariant.{Inv}
-use Rattle.machine.proofs.Searches.{Unique}
 use Rattle.machine.proofs.Project.{Moves, movedStore, lane-sent, project-there}
-use Rattle.machine.proofs.Consistent.{Consistent, pendingOf, pendingIn, StaysConsistent, refused-consistent, pending-same}
+use Rattle.machine.proofs.Consistent.{Consistent, pendingOf, StaysConsistent, refused-consistent, pending-same}
 
 -- what memory's part of a call changes: of its lane neither lines nor what it waits for; of its lane and the control nothing that
 -- another block sees; and its block keeps the invariant

@@ -4,16 +4,15 @@ use native.Mathlib.Omega.{arith}
 use mathlib.Core.Logic.{_⊎_, inl, inr}
 use mathlib.Core.Path.{_≡_, refl, sym, ap, _∙_, fun-ext}
 use mathlib.Core.Bool.{Bool, true, false, cond}
-use mathlib.Core.List.{List, _∷_}
+use mathlib.Core.List.{_∷_}
 use lib.Dec.{ltb}
 use lib.ListN.{length, getD, take, drop, replicate, getD-replicate, List·getD-eq-default}
 use Rattle.words.specs.declared.BlockNo.{BlockNo}
-use Rattle.words.specs.Lines.{noLine, holdsOf}
+use Rattle.words.specs.Lines.{noLine}
 use Rattle.words.proofs.Folds.{below?}
 use Rattle.lanes.specs.declared.Lane.{Lane}
 use Rattle.lanes.specs.declared.Waiting.the-variants.{Idle}
 use Rattle.answers.specs.declared.Answer.the-variants.{Opened}
-use Rattle.store.specs.declared.Store.{Store}
 use Rattle.store.specs.declared.Block.{Block}
 use Rattle.store.specs.Opening.{badShape, zeros, blankLine, blankLane, blankBlock, freshOf, openOf}
 use Rattle.store.specs.Quiet.{noLane, noBlock, laneAt, blockAt}
@@ -22,7 +21,7 @@ use Rattle.machine.proofs.Tests.{on}
 use Rattle.machine.proofs.KeepsLane.{clash}
 use Rattle.machine.proofs.Keeps.{open-keeps}
 use Rattle.machine.proofs.Shape.{shape-bounds}
-use Rattle.machine.proofs.Owes.{Pending, Rests, nonePending}
+use Rattle.machine.proofs.Owes.{Rests, nonePending}
 use Rattle.machine.proofs.SizedKeeps.{open-sized}
 use Rattle.machine.proofs.BlockState.{Invalid, seen, blockNo, project}
 use Rattle.machine.proofs.Invariant.{Inv}

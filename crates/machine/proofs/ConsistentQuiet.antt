@@ -7,24 +7,19 @@ use mathlib.Core.Logic.{_⊎_, inl, inr, _≢_}
 use mathlib.Core.Path.{_≡_, refl, sym, ap, _∙_}
 use mathlib.Core.Bool.{Bool, true, false, cond, not, _||_, _&&_}
 use mathlib.Core.List.{List, []}
-use borrow.Author.Tests.{ltb-false, ltb-true, eq-eqb}
-use lib.Dec.{ltb, eqb}
-use lib.ListN.{length, getD, List·getD-eq-default}
-use Rattle.words.specs.declared.Line.{Line}
-use Rattle.words.specs.declared.LineNo.{LineNo}
-use Rattle.words.specs.declared.BlockNo.{BlockNo}
-use Rattle.words.specs.Lines.{noLine, holdsOf}
+use borrow.Author.Tests.{ltb-false, ltb-true}
+use lib.Dec.{ltb}
+use lib.ListN.{length, List·getD-eq-default}
+use Rattle.words.specs.Lines.{holdsOf}
 use Rattle.words.specs.Folds.{upTo, anyTo}
 use Rattle.words.proofs.Folds.{below?, any-false, any-true, any-never, or-left, or-right}
 use Rattle.lanes.specs.declared.Lane.{Lane}
-use Rattle.lanes.specs.declared.Waiting.{Waiting}
-use Rattle.lanes.specs.declared.Waiting.the-variants.{Idle, Unserved, Served}
+use Rattle.lanes.specs.declared.Waiting.the-variants.{Idle}
 use Rattle.lanes.specs.declared.Found.{Found}
 use Rattle.lanes.specs.declared.Found.the-variants.{At, Nothing}
 use Rattle.lanes.specs.Search.{searchOf}
 use Rattle.lanes.specs.Waits.{idleOf}
 use Rattle.store.specs.declared.Store.{Store}
-use Rattle.store.specs.declared.Block.{Block}
 use Rattle.store.specs.Control.{busyOf}
 use Rattle.store.specs.Quiet.{laneAt, blockAt, stirsOf, quietOf}
 use Rattle.machine.specs.Flat.{flatBlock}
@@ -37,9 +32,9 @@ use Rattle.machine.proofs.Owes.{Rests}
 use Rattle.machine.proofs.BlockState.{Status, Invalid, Shared, Modified, held, dirty, statusAt, wordsAt, seen, blockNo, project}
 use Rattle.machine.proofs.Invariant.{Inv, viewOf}
 use Rattle.machine.proofs.BlockQuiet.{quiet-view}
-use Rattle.machine.proofs.Searches.{Unique, found-holds, none-holds, search-at, holds-valid, valid-holds}
+use Rattle.machine.proofs.Searches.{found-holds, search-at, holds-valid, valid-holds}
 use Rattle.machine.proofs.SeenBegin.{held-line, idle-waiting}
-use Rattle.machine.proofs.Consistent.{Consistent, pendingOf, pendingIn}
+use Rattle.machine.proofs.Consistent.{Consistent, pendingIn}
 
 
 -- a loop keeps what each turn keeps

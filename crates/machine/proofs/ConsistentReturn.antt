@@ -1,51 +1,47 @@
 -- Return keeps a store consistent. Assumes nothing.
-use Prim.Native.Nat.{ℕ, _-_, _<_, _≤_}
+use Prim.Native.Nat.{ℕ, _-_, _<_}
 use native.Mathlib.Omega.{arith}
-use mathlib.Core.Logic.{_⊎_, inl, inr, _≢_}
+use mathlib.Core.Logic.{_≢_}
 use mathlib.Core.Path.{_≡_, refl, sym, ap, _∙_}
 use mathlib.Core.Bool.{Bool, true, false, cond}
-use mathlib.Core.List.{List, [], _∷_}
+use mathlib.Core.List.{List, _∷_}
 use borrow.Author.Tests.{eq-eqb, ne-eqb, eqb-true, eqb-false}
 use lib.Dec.{eqb}
-use lib.ListN.{length, length-set, getD-replicate, List·getD-eq-default}
-use Rattle.words.proofs.Folds.{below?}
+use lib.ListN.{length-set}
 use Rattle.words.specs.declared.LaneNo.{LaneNo}
 use Rattle.words.specs.declared.BlockNo.{BlockNo}
 use Rattle.queues.specs.declared.ReturnMessage.{ReturnMessage}
-use Rattle.queues.specs.declared.ReturnQueue.{ReturnQueue}
 use Rattle.queues.specs.Queues.{emptyAt, headReturn, takeReturn}
 use Rattle.lanes.specs.declared.Lane.{Lane}
-use Rattle.answers.specs.declared.Answer.the-variants.{Step}
 use Rattle.answers.specs.declared.Refusal.the-variants.{NothingPending, Unexpected}
 use Rattle.store.specs.declared.Store.{Store}
 use Rattle.store.specs.declared.Block.{Block}
 use Rattle.store.specs.declared.Service.{Service}
 use Rattle.store.specs.declared.Control.{Control}
 use Rattle.store.specs.declared.Control.the-variants.{Free, Busy}
-use Rattle.store.specs.declared.Counted.{Counted}
 use Rattle.store.specs.declared.Counted.the-variants.{Awaits, Closes, NotAwaited}
 use Rattle.store.specs.declared.Lookup.{Lookup}
 use Rattle.store.specs.declared.Lookup.the-variants.{Of, Nothing}
-use Rattle.store.specs.Control.{serviceOf, lowered, countedOf, answerOf}
+use Rattle.store.specs.Control.{serviceOf, lowered, countedOf}
 use Rattle.store.specs.Quiet.{laneAt, blockAt}
 use Rattle.machine.specs.declared.Move.{Move}
-use Rattle.machine.specs.Change.{withReturns, nobody, only, goesTo, noMessage, commitMove}
-use Rattle.machine.specs.Serve.{closedBlock, grantOf, close}
-use Rattle.machine.specs.Return.{takenBy, isAnswer, quietly, answered, returnMove, returnHead, returnOf}
+use Rattle.machine.specs.Change.{withReturns, nobody, noMessage, commitMove}
+use Rattle.machine.specs.Serve.{close}
+use Rattle.machine.specs.Return.{takenBy, isAnswer, quietly, answered, returnMove, returnOf}
 use Rattle.machine.specs.Flat.{flatBlock}
 use Rattle.machine.proofs.Sets.{pick}
 use Rattle.machine.proofs.Sound.{sound}
 use Rattle.machine.proofs.KeepsLane.{clash}
 use Rattle.machine.proofs.Owes.{upd}
 use Rattle.machine.proofs.Sized.{LaneSized}
-use Rattle.machine.proofs.BlockState.{Status, Seen, BlockState, keepIf, returnAbout, seen, blockNo, project}
+use Rattle.machine.proofs.BlockState.{Status, Seen, keepIf, returnAbout, seen, blockNo, project}
 use Rattle.machine.proofs.Queued.{returnsIn, take-returns, keep-head, keep-tail}
 use Rattle.machine.proofs.Invariant.{Inv}
-use Rattle.machine.proofs.Moves.{takeSeen, sendAll, closeState, returnState}
+use Rattle.machine.proofs.Moves.{takeSeen, returnState}
 use Rattle.machine.proofs.Directories.{nobody-none}
 use Rattle.machine.proofs.MemoryClose.{close-keeps}
 use Rattle.machine.proofs.MemoryReturn.{eject-returns, answer-returns}
-use Rattle.machine.proofs.Project.{Moves, movedStore, project-here}
+use Rattle.machine.proofs.Project.{project-here}
 use Rattle.machine.proofs.Consistent.{Consistent, StaysConsistent, refused-consistent, guarded-rule}
 use Rattle.machine.proofs.ConsistentMove.{Shows, commit-consistent}
 use Rattle.machine.proofs.ConsistentServe.{send-none, grant-block, only-length}

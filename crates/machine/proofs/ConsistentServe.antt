@@ -1,14 +1,13 @@
 -- Serve keeps a store consistent. Assumes nothing.
-use Prim.Native.Nat.{ℕ, zero, suc, _+_, _<_, _≤_}
+use Prim.Native.Nat.{ℕ, _<_, _≤_}
 use native.Mathlib.Omega.{arith}
-use native.Mathlib.Nat.{eq-or-lt-of-le}
 use mathlib.Core.Logic.{_⊎_, inl, inr, _≢_}
 use mathlib.Core.Path.{_≡_, refl, sym, ap, _∙_, fun-ext}
 use mathlib.Core.Bool.{Bool, true, false, cond}
-use mathlib.Core.List.{List, [], _∷_}
+use mathlib.Core.List.{List, []}
 use borrow.Author.Tests.{eq-eqb, ne-eqb, eqb-true, ltb-false}
 use lib.Dec.{eqb, ltb}
-use lib.ListN.{length, getD, set, length-set, List·getD-eq-default}
+use lib.ListN.{length, length-set, List·getD-eq-default}
 use Rattle.words.specs.declared.LaneNo.{LaneNo}
 use Rattle.words.specs.declared.BlockNo.{BlockNo}
 use Rattle.words.specs.Folds.{countTo}
@@ -31,7 +30,6 @@ use Rattle.store.specs.declared.Lookup.the-variants.{Nothing}
 use Rattle.store.specs.Control.{busyOf, serviceOf}
 use Rattle.store.specs.Quiet.{laneAt, blockAt}
 use Rattle.machine.specs.declared.Ready.{Ready}
-use Rattle.machine.specs.declared.Move.{Move}
 use Rattle.machine.specs.Change.{withWaiting, nobody, only, goesTo}
 use Rattle.machine.specs.Serve.{bareDown, orderOf, sendsOf, ordered, countOf, closedBlock, grantOf, close, readyWith, readyOf, serviceFor, serveMove, serveReady, serveOf}
 use Rattle.machine.specs.Flat.{flatBlock}
@@ -41,12 +39,12 @@ use Rattle.machine.proofs.KeepsLane.{clash}
 use Rattle.machine.proofs.Sums.{sum-zero, count-sum}
 use Rattle.machine.proofs.Owes.{upd}
 use Rattle.machine.proofs.Sized.{LaneSized}
-use Rattle.machine.proofs.BlockState.{Status, Seen, BlockState, seen, blockNo, project}
+use Rattle.machine.proofs.BlockState.{Status, Seen, seen, blockNo, project}
 use Rattle.machine.proofs.Invariant.{Inv}
-use Rattle.machine.proofs.Moves.{waitSeen, sendAll, serveState, closeState}
+use Rattle.machine.proofs.Moves.{waitSeen, sendAll, serveState}
 use Rattle.machine.proofs.MemoryClose.{close-keeps}
 use Rattle.machine.proofs.MemoryServe.{serve-opens}
-use Rattle.machine.proofs.Project.{Moves, movedStore, project-here}
+use Rattle.machine.proofs.Project.{project-here}
 use Rattle.machine.proofs.Consistent.{Consistent, StaysConsistent, refused-consistent, guarded-rule}
 use Rattle.machine.proofs.ConsistentMove.{Shows, commit-consistent}
 

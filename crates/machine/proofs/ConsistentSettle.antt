@@ -1,17 +1,13 @@
 -- Settle keeps a store consistent: it is a list of deliver, return and serve. Assumes nothing.
 use Prim.Native.Nat.{ℕ, zero, suc}
-use mathlib.Core.Path.{_≡_, refl}
-use mathlib.Core.Bool.{Bool, true, false, cond}
+use mathlib.Core.Path.{refl}
 use mathlib.Core.List.{List, [], _∷_, _++_}
 use lib.Dec.{ltb}
 use Rattle.words.specs.declared.LaneNo.{LaneNo}
-use Rattle.words.specs.Folds.{lowestTo}
 use Rattle.words.proofs.Folds.{by-cond}
 use Rattle.answers.specs.declared.Completion.{Completion}
-use Rattle.answers.specs.declared.Refusal.the-variants.{Unexpected}
 use Rattle.store.specs.declared.Store.{Store}
 use Rattle.store.specs.declared.Outcome.{Outcome}
-use Rattle.machine.specs.Change.{refuse}
 use Rattle.machine.specs.Serve.{serveOf}
 use Rattle.machine.specs.Return.{returnOf}
 use Rattle.machine.specs.Deliver.{deliverOf}
@@ -19,10 +15,10 @@ use Rattle.machine.specs.Settle.{settleStep, boundOf, Progress, doneIn, 
 use Rattle.machine.specs.Calls.{Settles, completionsOf}
 use Rattle.machine.proofs.Sound.{sound}
 use Rattle.machine.proofs.Keeps.{serve-keeps, return-keeps, deliver-keeps}
-use Rattle.machine.proofs.Owes.{Pending, upd, Completes}
+use Rattle.machine.proofs.Owes.{Pending, Completes}
 use Rattle.machine.proofs.SizedKeeps.{serve-sized, return-sized, deliver-sized, sized-whole}
-use Rattle.machine.proofs.FallsSettle.{startAt, lastOf, settle-rule}
-use Rattle.machine.proofs.Consistent.{Consistent, pendingIn, StaysConsistent}
+use Rattle.machine.proofs.FallsSettle.{startAt, settle-rule}
+use Rattle.machine.proofs.Consistent.{Consistent, pendingIn}
 use Rattle.machine.proofs.ConsistentServe.{serve-consistent}
 use Rattle.machine.proofs.ConsistentReturn.{return-consistent}
 use Rattle.machine.proofs.ConsistentDeliver.{deliver-consistent}

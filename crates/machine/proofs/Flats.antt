@@ -3,13 +3,13 @@
 use Prim.Native.Nat.{ℕ, _+_, _-_, _*_, _/_, _%_, _<_, _≤_}
 use native.Mathlib.Omega.{arith}
 use mathlib.Core.Logic.{_⊎_, inl, inr, _≢_}
-use mathlib.Core.Path.{_≡_, refl, sym, ap, _∙_}
+use mathlib.Core.Path.{_≡_, sym, ap, _∙_}
 use mathlib.Core.List.{List}
 use lib.ListN.{getD, set, take, drop}
 use lib.Seq.{take-set-lt, take-set-le, drop-set-lt, drop-set-add, getD-take, getD-drop}
 use Rattle.words.specs.declared.WordNo.{WordNo}
 use Rattle.words.specs.declared.Op.{Op}
-use Rattle.words.specs.Units.{blockOf, placeOf}
+use Rattle.words.specs.Units.{blockOf}
 use Rattle.words.specs.Operations.{applyOf}
 use Rattle.words.proofs.Folds.{below?}
 use Rattle.machine.specs.Flat.{flatValue, flatAfter, flatBlock}

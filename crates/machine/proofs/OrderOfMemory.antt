@@ -1,29 +1,17 @@
 -- Demand 3, proved: the order of completion is the order of memory. What it says is in specs/Demand3.antt. Assumes nothing.
-use Prim.Native.Nat.{ℕ, zero, suc}
-use mathlib.Core.Path.{_≡_, refl, sym, _∙_}
-use mathlib.Core.Bool.{true}
-use mathlib.Core.List.{List, []}
-use Rattle.words.specs.declared.LaneNo.{LaneNo}
-use Rattle.words.specs.declared.WordNo.{WordNo}
-use Rattle.words.specs.declared.Op.{Op}
-use Rattle.words.proofs.Folds.{by-cond}
-use lib.Dec.{ltb}
+use Prim.Native.Nat.{ℕ}
+use mathlib.Core.Path.{_≡_, _∙_}
+use mathlib.Core.List.{List}
 use Rattle.answers.specs.declared.Answer.the-variants.{Opened}
 use Rattle.store.specs.declared.Store.{Store}
-use Rattle.store.specs.declared.Outcome.{Outcome}
 use Rattle.store.specs.Opening.{openOf}
-use Rattle.store.specs.Quiet.{quietOf}
-use Rattle.machine.specs.Begin.{beginOf}
-use Rattle.machine.specs.Settle.{settleStep, boundOf, Progress, advance, ended, repeatStep, Settlement, settleOf}
 use Rattle.machine.specs.Calls.{Call, Begin, Serve, Return, Deliver, Settle, callOf, run}
 use Rattle.machine.specs.Flat.{flatOf}
-use Rattle.machine.specs.Demand3.{Coherent, WhenQuiet, Demand3}
+use Rattle.machine.specs.Demand3.{Demand3}
 use Rattle.machine.proofs.Sound.{sound}
 use Rattle.machine.proofs.Keeps.{begin-keeps}
-use Rattle.machine.proofs.KeepsShape.{SameShape}
 use Rattle.machine.proofs.ShapeKeeps.{call-shape}
 use Rattle.machine.proofs.SizedKeeps.{begin-sized, sized-whole}
-use Rattle.machine.proofs.FallsSettle.{startAt, settle-rule}
 use Rattle.machine.proofs.Owes.{Paid}
 use Rattle.machine.proofs.Outer.{Told, outer}
 use Rattle.machine.proofs.OuterRun.{Keeps, run-pays}

@@ -1,6 +1,6 @@
 -- Every call of demand 3, settle too, keeps n, c and m. Assumes nothing.
 use Prim.Native.Nat.{ℕ, zero, suc}
-use mathlib.Core.Path.{_≡_, refl, _∙_}
+use mathlib.Core.Path.{_∙_}
 use lib.Dec.{ltb}
 use Rattle.words.proofs.Folds.{by-cond}
 use Rattle.store.specs.declared.Store.{Store}

@@ -1,6 +1,6 @@
 -- 01, "Flat memory and flags": which operation a completion is of, from the calls and their answers alone. Assumes nothing.
 use Prim.Native.Nat.{ℕ, suc}
-use mathlib.Core.Bool.{Bool, cond, not}
+use mathlib.Core.Bool.{Bool, cond}
 use mathlib.Core.List.{List, [], _∷_, _++_, map}
 use lib.Dec.{eqb}
 use Rattle.words.specs.declared.LaneNo.{LaneNo}

@@ -1,5 +1,4 @@
 -- The calls of demand 3 and what a list of them gives. Assumes nothing.
-use Prim.Native.Nat.{ℕ}
 use mathlib.Core.Bool.{Bool, true, false}
 use mathlib.Core.List.{List, [], _∷_}
 use Rattle.words.specs.declared.LaneNo.{LaneNo}

@@ -1,6 +1,6 @@
 -- What every call shares: a refusal leaves the store as it was; a lane, or a lane with a block, the control and a message to some
 -- lanes, is put back in one place. Assumes nothing.
-use Prim.Native.Nat.{ℕ, _+_}
+use Prim.Native.Nat.{ℕ}
 use mathlib.Core.Bool.{Bool, false, true, cond, _&&_}
 use mathlib.Core.List.{List}
 use lib.Dec.{leb}
@@ -15,8 +15,7 @@ use Rattle.queues.specs.declared.DownQueue.{DownQueue}
 use Rattle.queues.specs.Queues.{fullAt, pushDown}
 use Rattle.lanes.specs.declared.Lane.{Lane}
 use Rattle.lanes.specs.declared.Waiting.{Waiting}
-use Rattle.answers.specs.declared.Answer.{Answer}
-use Rattle.answers.specs.declared.Answer.the-variants.{Step, Refused}
+use Rattle.answers.specs.declared.Answer.the-variants.{Refused}
 use Rattle.answers.specs.declared.Refusal.{Refusal}
 use Rattle.answers.specs.declared.Refusal.the-variants.{NoSuchLane, QueueFull, Corrupt}
 use Rattle.answers.specs.Refusals.{refusedOf}
@@ -25,7 +24,7 @@ use Rattle.store.specs.declared.Block.{Block}
 use Rattle.store.specs.declared.Control.{Control}
 use Rattle.store.specs.declared.Outcome.{Outcome}
 use Rattle.store.specs.Opening.{zeros}
-use Rattle.store.specs.Quiet.{laneAt, noLane}
+use Rattle.store.specs.Quiet.{noLane}
 use Rattle.machine.specs.declared.LaneStep.{LaneStep}
 use Rattle.machine.specs.declared.Move.{Move}
 use Rattle.machine.specs.Corruption.{corruptOf}

@@ -1,6 +1,6 @@
 -- 01, number 14 (spoilt): the store breaks its own bounds. Looked at are the n lanes, their c lines, the m blocks and the messages
 -- in the queues; what stands past them in the arrays is no part of the store. Assumes nothing.
-use Prim.Native.Nat.{ℕ, _/_}
+use Prim.Native.Nat.{ℕ}
 use mathlib.Core.Bool.{Bool, false, _||_, _&&_}
 use mathlib.Core.List.{List, [], _∷_}
 use lib.Dec.{leb, ltb, eqb}
@@ -8,13 +8,10 @@ use lib.ListN.{getD}
 use Rattle.words.specs.declared.Line.{Line}
 use Rattle.words.specs.declared.LineNo.{LineNo}
 use Rattle.words.specs.declared.BlockNo.{BlockNo}
-use Rattle.words.specs.declared.WordNo.{WordNo}
 use Rattle.words.specs.Units.{blockOf}
 use Rattle.words.specs.Lines.{noLine}
 use Rattle.words.specs.Folds.{anyTo, anyOf}
-use Rattle.queues.specs.declared.ReturnMessage.{ReturnMessage}
 use Rattle.queues.specs.declared.ReturnQueue.{ReturnQueue}
-use Rattle.queues.specs.declared.DownMessage.{DownMessage}
 use Rattle.queues.specs.declared.DownQueue.{DownQueue}
 use Rattle.queues.specs.Queues.{capacity, noReturn, noDown}
 use Rattle.lanes.specs.declared.Lane.{Lane}

@@ -1,6 +1,6 @@
 -- 01, "Deliver k". Assumes nothing.
 use Prim.Native.Nat.{ℕ}
-use mathlib.Core.Bool.{Bool, true, false, not, cond}
+use mathlib.Core.Bool.{true, false, not, cond}
 use lib.Dec.{eqb}
 use lib.ListN.{set}
 use Rattle.words.specs.declared.LaneNo.{LaneNo}

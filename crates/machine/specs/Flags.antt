@@ -6,7 +6,6 @@ use mathlib.Core.Bool.{Bool, true, false, cond, _&&_}
 use mathlib.Core.List.{List}
 use lib.ListN.{getD}
 use Rattle.words.specs.declared.Line.{Line}
-use Rattle.words.specs.declared.BlockNo.{BlockNo}
 use Rattle.words.specs.Lines.{noLine, holdsOf}
 use Rattle.words.specs.Folds.{upTo, anyTo}
 use Rattle.store.specs.declared.Store.{Store}

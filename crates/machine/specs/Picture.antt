@@ -35,12 +35,12 @@ unfoldable pub pictureBytes : Store → List ℕ
 pictureBytes s = gatherTo (λ k. gatherTo (lineBytes s k) (s .c)) (s .n)
 
 -- what picture gives: its answer, and the lent buffer after it
-pub record Sheet : Type 0 where
+pub record PictureOutcome : Type 0 where
   pub answer : Pictured
   pub buffer : List ℕ
 
 -- It gives the length; bytes after the records are unchanged. On 14 and on 15 nothing is written
-unfoldable pub pictureOf : Store → List ℕ → Sheet
+unfoldable pub pictureOf : Store → List ℕ → PictureOutcome
 pictureOf s buffer =
     let p = pictureBytes s in
     cond (corruptOf s) (record { answer = Refused Corrupt; buffer = buffer })

@@ -1,8 +1,6 @@
 -- 01, "The contracts and the cases": the rows that are shown from the definitions, what each gives and what it must give. Assumes nothing.
 use Prim.Native.Nat.{ℕ}
-use mathlib.Core.List.{List, [], _∷_, _++_, map}
-use Rattle.words.specs.declared.LaneNo.{LaneNo}
-use Rattle.words.specs.declared.WordNo.{WordNo}
+use mathlib.Core.List.{List, [], _∷_}
 use Rattle.words.specs.declared.Op.{Op}
 use Rattle.words.specs.declared.Op.the-variants as Op
 use Rattle.words.specs.Operations.{applyOf}
@@ -17,7 +15,7 @@ use Rattle.store.specs.Opening.{openOf}
 use Rattle.machine.specs.declared.Settled.{Settled}
 use Rattle.machine.specs.declared.Settled.the-variants.{Steps}
 use Rattle.machine.specs.Begin.{beginOf}
-use Rattle.machine.specs.Settle.{Settlement, settleOf}
+use Rattle.machine.specs.Settle.{settleOf}
 use Rattle.machine.specs.Tape.{replayOf}
 use Rattle.machine.specs.Text.{printed}
 
