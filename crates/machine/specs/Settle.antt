@@ -118,7 +118,7 @@ pub record Settlement : Type 0 where
 abbrev pub refuseSettle : Refusal → Store → Settlement
 refuseSettle r s = record { answer = Settled.Refused r; completions = []; store = s }
 
--- the store that was reached is quiet; the last case is never met (owed with settle's code: the count is at most boundOf)
+-- the store that was reached is quiet; the last case is never met (proofs/FallsSettle.antt, `last-quiet`)
 abbrev pub reached : Store → Progress → Settlement
 reached s p =
     cond (quietOf (p .store)) (record { answer = Steps (p .count); completions = p .completions; store = p .store })

@@ -1,0 +1,34 @@
+-- The theorems, by name and type. This file only states; the proofs are where it points.
+--
+-- The supply contract's sentence: a lane reads the last word stored, in every order in which the lanes' messages reach the
+-- controller. Assumes nothing.
+use Prim.Native.Nat.{ℕ}
+use mathlib.Core.Path.{_≡_}
+use mathlib.Core.List.{List}
+use Rattle.answers.specs.declared.Answer.the-variants.{Opened}
+use Rattle.store.specs.Opening.{openOf}
+use Rattle.machine.specs.Calls.{Call, run}
+use Rattle.machine.specs.Demand3.{Coherent}
+use Rattle.machine.proofs.OrderOfMemory.{order-of-memory}
+
+-- Demand 3: the order of completion is the order of memory.
+--
+--   calls   any list of load, store, exchange, add, serve, return, deliver and settle calls; lanes, words and v are any numbers, so
+--           that refused calls are in it. "In every order in which the messages reach the controller": the order in which serve,
+--           return and deliver stand in the list is that order, and it is any.
+--   Opened  "from any opening": n, c and m are any that opening does not refuse. There is no other hypothesis.
+--   run     each call on the store that the last one left; each gives what its contract says (`callOf`, specs/Calls.antt).
+--
+-- Of what the calls were answered (history) and the last store it says (`Coherent`, specs/Demand3.antt):
+--
+--   owned       "any other is of the operation begun by the last begin call before it, on the lane it carries, that was answered with
+--               a wait": there is always such a call, it wasn't refused, and it was on that lane
+--   once        each operation completes at most once
+--   values      "each completion's value equals the one flat memory then gives", fed the operations in the order of the completions:
+--               so a load gives the last word stored
+--   when-quiet  where no operation waits, no service is open and the queues are empty: every operation begun has completed; the store
+--               shows flat memory's words in every block; the four properties of the flags (000, section III)
+--   lanes, lines, blocks   the store still has the opening's n, c and m
+pub demand-3 : (n c m : ℕ) (calls : List Call) → openOf n c m .answer ≡ Opened →
+    Coherent n c m (run (openOf n c m .store) calls .history) (run (openOf n c m .store) calls .store)
+demand-3 = order-of-memory
