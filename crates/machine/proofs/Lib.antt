@@ -62,3 +62,4 @@ pub mod ShapeKeeps
 pub mod Updates
 pub mod Live
 pub mod LiveLane
+pub mod LiveOwed
