@@ -63,3 +63,5 @@ pub mod Updates
 pub mod Live
 pub mod LiveLane
 pub mod LiveOwed
+pub mod LiveMove
+pub mod LiveServe
