@@ -65,3 +65,4 @@ pub mod LiveLane
 pub mod LiveOwed
 pub mod LiveMove
 pub mod LiveServe
+pub mod LiveReturn

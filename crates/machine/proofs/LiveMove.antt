@@ -41,8 +41,8 @@ send-most to m g j e =
     let q = by-cond (λ n. n ≤ 1) (isOrder (m .kind)) 1 0 (omega arith) (omega arith) in
     by-cond (λ (l : Seen). owed l ≤ 1) (goesTo to j) _ _ (omega arith) (omega arith)
 
-pub send-none : (to : List Bool) (m : DownMessage) (g : ℕ → Seen) (j : ℕ) → isOrder (m .kind) ≡ false → owed (sendAll to m g j) ≡ owed (g j)
-send-none to m g j e = by-cond (λ (l : Seen). owed l ≡ owed (g j)) (goesTo to j) _ _ (post-owed m (g j) ∙ rw e (omega arith)) refl
+pub send-grant : (to : List Bool) (m : DownMessage) (g : ℕ → Seen) (j : ℕ) → isOrder (m .kind) ≡ false → owed (sendAll to m g j) ≡ owed (g j)
+send-grant to m g j e = by-cond (λ (l : Seen). owed l ≡ owed (g j)) (goesTo to j) _ _ (post-owed m (g j) ∙ rw e (omega arith)) refl
 
 -- what memory's part of a call has to show beside `Shows`
 pub record ShowsLive (s : Store) (k : LaneNo) (x : BlockNo) (v : Move) : Type 0 where
