@@ -66,3 +66,4 @@ pub mod LiveOwed
 pub mod LiveMove
 pub mod LiveServe
 pub mod LiveReturn
+pub mod LiveKeeps
