@@ -2,7 +2,6 @@
 use Prim.Native.Nat.{ℕ, zero, suc, _*_, _<_, _≤_}
 use native.Mathlib.Omega.{arith}
 use mathlib.Core.Path.{_≡_, refl}
-use mathlib.Core.Bool.{true, false}
 use mathlib.Core.List.{List}
 use lib.Dec.{leb, ltb}
 use Rattle.words.specs.declared.LaneNo.{LaneNo}
@@ -22,9 +21,7 @@ use Rattle.store.specs.Quiet.{noLane, laneAt}
 use Rattle.machine.specs.declared.LaneStep.{LaneStep}
 use Rattle.machine.specs.Change.{withLane, commitLane}
 use Rattle.machine.specs.Begin.{beginLane, beginOf}
-use Rattle.machine.specs.Serve.{serveOf}
-use Rattle.machine.specs.Return.{returnOf}
-use Rattle.machine.specs.Deliver.{deliverLane, deliverOf}
+use Rattle.machine.specs.Deliver.{deliverOf}
 use Rattle.machine.specs.Settle.{settleStep, boundOf, Progress, advance, ended, repeatStep, Settlement, settleOf}
 use Rattle.machine.specs.Calls.{Call, Begin, Serve, Return, Deliver, Settle, callOf, run}
 use Rattle.machine.specs.Flat.{flatOf}

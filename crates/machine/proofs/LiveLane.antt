@@ -6,7 +6,7 @@ use mathlib.Core.Bool.{Bool, true, false, cond, not, _||_, true≢false}
 use mathlib.Core.List.{List, [], _∷_, _++_}
 use borrow.Author.Tests.{eq-eqb}
 use lib.Dec.{eqb}
-use lib.ListN.{length, getD, set}
+use lib.ListN.{getD, set}
 use lib.Seq.{getD-set-same}
 use Rattle.words.specs.declared.LaneNo.{LaneNo}
 use Rattle.words.specs.declared.LineNo.{LineNo}
@@ -19,7 +19,6 @@ use Rattle.words.specs.Lines.{noLine, holdsOf}
 use Rattle.words.specs.Folds.{anyTo}
 use Rattle.words.proofs.Folds.{by-cond, any-true, any-false, any-never}
 use Rattle.queues.specs.declared.ReturnMessage.{ReturnMessage}
-use Rattle.queues.specs.declared.ReturnKind.the-variants.{Updated, Gone}
 use Rattle.queues.specs.declared.DownMessage.{DownMessage}
 use Rattle.queues.specs.declared.DownKind.{DownKind}
 use Rattle.queues.specs.declared.DownKind.the-variants.{Update, Purge, Grant, BareGrant}
@@ -42,8 +41,8 @@ use Rattle.machine.specs.declared.LaneStep.{LaneStep}
 use Rattle.machine.specs.declared.Ready.{Ready}
 use Rattle.machine.specs.declared.Ready.the-variants.{Go, No}
 use Rattle.machine.specs.Change.{refuseLane, withDowns, posted}
-use Rattle.machine.specs.Begin.{isLoad, complete, waits, hit, readOf, ejectOf, invalid, bareReturn, wordsReturn, evict, missWith, miss, beginAt, beginLane}
-use Rattle.machine.specs.Deliver.{reply, shared, updateAt, purgedOf, purgeAt, claimed, fillAt, grantAt, bareAt, servedOn, grantTo, bareTo, deliverKind, orAsBefore, deliverLane}
+use Rattle.machine.specs.Begin.{isLoad, complete, waits, hit, readOf, ejectOf, invalid, evict, missWith, miss, beginAt, beginLane}
+use Rattle.machine.specs.Deliver.{reply, shared, updateAt, purgedOf, purgeAt, fillAt, grantAt, bareAt, servedOn, grantTo, bareTo, deliverKind, orAsBefore, deliverLane}
 use Rattle.machine.specs.Return.{isAnswer}
 use Rattle.machine.proofs.Tests.{on}
 use Rattle.machine.proofs.Sets.{set-cases, pick}

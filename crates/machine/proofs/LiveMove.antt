@@ -1,10 +1,10 @@
 -- Memory's part of a call put back into a live store: what is left to show is its lane, what its block is owed, and its control.
 -- Assumes nothing.
-use Prim.Native.Nat.{ℕ, _+_, _<_, _≤_}
+use Prim.Native.Nat.{ℕ, _<_, _≤_}
 use native.Mathlib.Omega.{arith}
 use mathlib.Core.Logic.{_⊎_, inl, inr, _≢_}
-use mathlib.Core.Path.{_≡_, refl, sym, ap, _∙_}
-use mathlib.Core.Bool.{Bool, true, false, cond}
+use mathlib.Core.Path.{_≡_, refl, ap, _∙_}
+use mathlib.Core.Bool.{Bool, false, cond}
 use mathlib.Core.List.{List}
 use lib.Dec.{eqb}
 use lib.ListN.{set}
@@ -12,7 +12,6 @@ use Rattle.words.specs.declared.LaneNo.{LaneNo}
 use Rattle.words.specs.declared.BlockNo.{BlockNo}
 use Rattle.words.proofs.Folds.{by-cond}
 use Rattle.queues.specs.declared.DownMessage.{DownMessage}
-use Rattle.lanes.specs.declared.Lane.{Lane}
 use Rattle.store.specs.declared.Store.{Store}
 use Rattle.store.specs.declared.Outcome.{Outcome}
 use Rattle.store.specs.declared.Service.{Service}
@@ -21,12 +20,11 @@ use Rattle.store.specs.Quiet.{laneAt}
 use Rattle.machine.specs.declared.Move.{Move}
 use Rattle.machine.specs.Change.{goesTo, someFull, commitMove}
 use Rattle.machine.specs.Settle.{isOrder}
-use Rattle.machine.proofs.Tests.{on}
 use Rattle.machine.proofs.Sets.{same?, pick}
 use Rattle.machine.proofs.Owes.{upd}
 use Rattle.machine.proofs.BlockState.{Seen, BlockState, seen, project}
 use Rattle.machine.proofs.Invariant.{owed}
-use Rattle.machine.proofs.Moves.{postSeen, sendAll}
+use Rattle.machine.proofs.Moves.{sendAll}
 use Rattle.machine.proofs.MemoryMoves.{post-owed}
 use Rattle.machine.proofs.Project.{Moves, movedStore, lane-sent, project-here, project-there}
 use Rattle.machine.proofs.Consistent.{Consistent}

@@ -2,9 +2,9 @@
 use Prim.Native.Nat.{ℕ, _+_, _≤_}
 use native.Mathlib.Omega.{arith}
 use mathlib.Core.Logic.{_⊎_, inl, inr, _≢_}
-use mathlib.Core.Path.{_≡_, refl, ap, sym, _∙_}
-use mathlib.Core.Bool.{Bool, true, false, cond}
-use mathlib.Core.List.{List, [], _∷_, _++_}
+use mathlib.Core.Path.{_≡_, refl, ap, _∙_}
+use mathlib.Core.Bool.{true, false, cond}
+use mathlib.Core.List.{List, _∷_}
 use Rattle.words.specs.declared.LaneNo.{LaneNo}
 use Rattle.words.specs.declared.WordNo.{WordNo}
 use Rattle.words.specs.declared.BlockNo.{BlockNo}
@@ -28,7 +28,7 @@ use Rattle.machine.proofs.Invariant.{answerCount, orderCount, owed}
 use Rattle.machine.proofs.Moves.{hitSeen, waitSeen, ejection, evictSeen, answerSeen, updateSeen, purgeSeen, grantSeen, takeSeen}
 use Rattle.machine.proofs.Chains.{answers-join}
 use Rattle.machine.proofs.Searches.{same-block}
-use Rattle.machine.proofs.SeenBegin.{BeginCase, Hits, Excludes, Reads, Evicts, RefusedCase}
+use Rattle.machine.proofs.SeenBegin.{BeginCase, Hits, Excludes, Reads, Evicts}
 use Rattle.machine.proofs.SeenDeliver.{headBlock, OrderCase, GrantCase, DeliverCase, Updates, Purges, Grants, BareGrants}
 
 -- what is owed after a lane's moves

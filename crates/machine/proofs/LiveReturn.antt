@@ -1,5 +1,5 @@
 -- Return keeps a store live. Assumes nothing.
-use Prim.Native.Nat.{ℕ, _-_, _<_, _≤_}
+use Prim.Native.Nat.{ℕ, _<_, _≤_}
 use native.Mathlib.Omega.{arith}
 use mathlib.Core.Logic.{_≢_}
 use mathlib.Core.Path.{_≡_, refl, sym, ap, _∙_}
@@ -23,12 +23,12 @@ use Rattle.store.specs.declared.Counted.the-variants.{Awaits, Closes, NotAwaite
 use Rattle.store.specs.declared.Lookup.{Lookup}
 use Rattle.store.specs.declared.Lookup.the-variants.{Of, Nothing}
 use Rattle.store.specs.declared.Outcome.{Outcome}
-use Rattle.store.specs.Control.{serviceOf, lowered, countedOf, answerOf}
+use Rattle.store.specs.Control.{serviceOf, lowered, countedOf}
 use Rattle.store.specs.Quiet.{laneAt, blockAt}
 use Rattle.machine.specs.declared.Move.{Move}
 use Rattle.machine.specs.Change.{withReturns, nobody, only, noMessage, commitMove}
 use Rattle.machine.specs.Serve.{grantOf, close}
-use Rattle.machine.specs.Return.{takenBy, isAnswer, quietly, answered, returnMove, returnHead, returnOf}
+use Rattle.machine.specs.Return.{takenBy, isAnswer, quietly, answered, returnMove, returnOf}
 use Rattle.machine.specs.Settle.{isOrder}
 use Rattle.machine.specs.Flat.{flatBlock}
 use Rattle.machine.proofs.Sets.{pick}
@@ -39,7 +39,7 @@ use Rattle.machine.proofs.Updates.{upd-cases}
 use Rattle.machine.proofs.BlockState.{Status, Seen, keepIf, returnAbout, seen, project}
 use Rattle.machine.proofs.Queued.{returnsIn}
 use Rattle.machine.proofs.Invariant.{Inv, owed}
-use Rattle.machine.proofs.Moves.{takeSeen, sendAll, returnState}
+use Rattle.machine.proofs.Moves.{returnState}
 use Rattle.machine.proofs.Directories.{nobody-none}
 use Rattle.machine.proofs.MemoryReturn.{eject-returns, answer-returns}
 use Rattle.machine.proofs.Consistent.{Consistent, guarded-rule}
