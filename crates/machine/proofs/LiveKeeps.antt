@@ -84,6 +84,7 @@ lane-commits s k r live h less =
     })
 
 module _ (s : Store) (f : List ℕ) (i : Consistent s f) (k : LaneNo) (h : k .0 < s .n) where
+  -- the oldest line is one of the lane's
   oldest-below : placeAt (laneAt s (k .0) .order) 0 .0 < s .c
   oldest-below = sound s (i .sound) .lane (k .0) h .order .named 0 (sound s (i .sound) .c-low)
 
@@ -129,6 +130,7 @@ step-runs s (f, i, live) =
     P : Outcome → Type 0
     P r = Running (r .store)
 
+-- .. as often as it repeats
 repeat-runs : (n : ℕ) (p : Progress) → Running (p .store) → Running (repeatStep n p .store)
 unfolding repeatStep advance
 repeat-runs zero p r = r

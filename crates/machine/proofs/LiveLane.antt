@@ -60,6 +60,7 @@ takes a x = not (x .valid) || holdsOf x a
 abbrev pub roomIn : ℕ → List Line → BlockNo → Bool
 roomIn c ls a = anyTo (λ i. takes a (getD ls i noLine)) c
 
+-- .. to one that is not valid, and to one that holds it
 invalid-takes : (a : BlockNo) (x : Line) → x .valid ≡ false → takes a x ≡ true
 invalid-takes a x e = rw e
 
@@ -116,6 +117,7 @@ pub none-ejected : (c : ℕ) (l : Lane) → unservedOf (l .waiting) ≡ false �
 none-ejected c l e h = rw e at (h .ejects)
 
 module _ (c : ℕ) (k : LaneNo) (op : Op) (w : WordNo) (l : Lane) (z : LaneSized l) (b : c ≤ 8) (live : LaneLive c l) (idle : l .waiting ≡ Idle) where
+  -- nothing is ejected yet
   none : ejectCount (returnsIn (l .returns)) ≤ 0
   none = none-ejected c l (ap unservedOf idle) live
 
@@ -123,6 +125,7 @@ module _ (c : ℕ) (k : LaneNo) (op : Op) (w : WordNo) (l : Lane) (z : LaneSized
   waits-live : (x : Command) (l′ : Lane) → ejectCount (returnsIn (l′ .returns)) ≤ 1 → roomIn c (l′ .lines) (blockOf w) ≡ true → LaneLive c (waits x op w l′ .lane)
   waits-live x l′ e r = record { ejects = e; room = r }
 
+  -- a hit completes, or waits for the line that it has
   hit-live : (i : LineNo) → searchOf l c (blockOf w) ≡ At i → LaneLive c (hit c k i op w l .lane)
   unfolding hit complete
   hit-live i e =
@@ -140,6 +143,7 @@ module _ (c : ℕ) (k : LaneNo) (op : Op) (w : WordNo) (l : Lane) (z : LaneSized
       (λ t. waits-live (readOf op) (evicted i l) (push-most l (ejectOf (lineAt l i)) z (push-room (l .returns) (ejectOf (lineAt l i)) t) none)
       (any-true _ c (i .0) (rw (getD-set-same (l .lines) (i .0) (invalid (lineAt l i)) noLine (omega arith))) h))
 
+  -- a miss with a line that is not valid, or with none
   miss-live : placeAt (l .order) 0 .0 < c → (f : Found) → vacantOf l c ≡ f → LaneLive c (missWith f op w l .lane)
   miss-live h (At i) e =
       let f = vacant-invalid c l i e in
@@ -147,6 +151,7 @@ module _ (c : ℕ) (k : LaneNo) (op : Op) (w : WordNo) (l : Lane) (z : LaneSized
       waits-live (readOf op) l (omega arith) (any-true _ c (i .0) (invalid-takes (blockOf w) (lineAt l i) (f .1)) (f .0))
   miss-live h Nothing e = evict-live (placeAt (l .order) 0) h
 
+  -- by what Search finds
   at-live : placeAt (l .order) 0 .0 < c → (f : Found) → searchOf l c (blockOf w) ≡ f → LaneLive c (beginAt f c k op w l .lane)
   unfolding miss
   at-live h (At i) e = hit-live i e
@@ -168,6 +173,7 @@ module _ (c : ℕ) (k : LaneNo) (l : Lane) (z : LaneSized l) (live : LaneLive c 
       pick (λ (x : LaneStep). LaneLive c (orAsBefore l x .lane)) (pushReturn (l .returns) m .full) _ _ (λ _. live)
       (λ t. let p = push-answer l m z (push-room (l .returns) m t) e in stays-live c l _ refl (omega arith) r live)
 
+  -- the orders
   update-live : (a : BlockNo) (f : Found) → LaneLive c (orAsBefore l (updateAt f a (withDowns q l)) .lane)
   update-live a (At i) = reply-live _ _ refl (λ d. room-set c (l .lines) (i .0) (shared (lineAt l i)) d (λ e. e))
   update-live a Nothing = reply-live (l .lines) _ refl (λ d e. e)
@@ -184,6 +190,7 @@ module _ (c : ℕ) (k : LaneNo) (l : Lane) (z : LaneSized l) (live : LaneLive c 
     unfolding complete
     complete-live i x op w = record { ejects = none; room = refl }
 
+    -- the grants
     fill-live : (x : DownMessage) (o : Operation) (f : Found) → LaneLive c (orAsBefore l (fillAt f c k x o (withDowns q l)) .lane)
     fill-live x o (At i) = complete-live i _ _ _
     fill-live x o Nothing = live

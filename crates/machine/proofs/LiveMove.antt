@@ -49,6 +49,7 @@ pub record ShowsLive (s : Store) (k : LaneNo) (x : BlockNo) (v : Move) : Type 0 
   pub awaits : (u : Service) → v .control ≡ Busy u → u .awaited ≢ 0
 
 module _ (s : Store) (f : List ℕ) (i : Consistent s f) (live : Live s) (k : LaneNo) (h : k .0 < 8) (x : BlockNo) (v : Move) (w : Shows s f k x v) (y : ShowsLive s k x v) where
+  -- each lane after it
   lane-moved : (j : ℕ) → LaneLive (s .c) (laneAt (movedStore s k x v) j)
   lane-moved j =
       rw (lane-sent s (k .0) (v .lane) (v .to) (v .message) j (w .to) (i .sized .lanes) h)
@@ -57,6 +58,7 @@ module _ (s : Store) (f : List ℕ) (i : Consistent s f) (live : Live s) (k : La
       put : LaneLive (s .c) (cond (eqb j (k .0)) (v .lane) (laneAt s j))
       put = by-cond (LaneLive (s .c)) (eqb j (k .0)) (v .lane) (laneAt s j) (y .lane) (live .lane j)
 
+  -- the store after it
   moved : Moves s k x v → Live (movedStore s k x v)
   moved g = record { lane = lane-moved; one = λ a b j. go a b j (same? a (x .0)); awaits = y .awaits }
     where

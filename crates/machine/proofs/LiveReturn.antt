@@ -153,6 +153,7 @@ module _ (s : Store) (f : List ℕ) (i : Consistent s f) (live : Live s) (k : La
           (quiet-shows s f i k h filled (Busy (lowered v)) (λ j n. rw (c .0, ne-eqb (v .block .0) j (λ r. n (sym r ∙ c .1)))) (rw (eq-eqb _ _ (c .1)) (after (eqb-false _ _ z))))
           (quiet-live (Busy (lowered v)) (λ w r. lowered-awaits v w (eqb-false _ _ z) (eqb-false _ _ y) r))
 
+  -- memory's part, by the kind of the head
   pub head-live : Live (commitMove s k a (returnMove k x l b (s .control)) .store)
   unfolding returnMove commitMove
   head-live = pick (λ (v : Move). Live (commitMove s k a v .store)) (isAnswer (x .kind)) _ _ (λ e. go e (serviceOf (s .control) a) refl) eject-live

@@ -91,6 +91,7 @@ module _ (s : Store) (f : List ℕ) (i : Consistent s f) (live : Live s) (k : La
   unfolding close
   closes = record { lane = served-live; one = one-owed (only k) (grantOf b v); awaits = live .awaits }
 
+  -- memory's part
   pub ready-live : Live (serveReady (Ready.Go o) s k .store)
   unfolding serveMove
   ready-live =
