@@ -62,3 +62,9 @@ pub mod ShapeKeeps
 pub mod Updates
 pub mod Live
 pub mod Theorems
+pub mod LiveLane
+pub mod LiveOwed
+pub mod LiveMove
+pub mod LiveServe
+pub mod LiveReturn
+pub mod LiveKeeps
