@@ -3,7 +3,7 @@ use Prim.Native.Nat.{ℕ, _+_, _≤_}
 use mathlib.Core.Bool.{Bool}
 use mathlib.Core.List.{List}
 use lib.Dec.{ltb}
-use lib.ListN.{take, set}
+use lib.ListN.{take, set, replicate}
 use Rattle.lanes.specs.declared.Lane.{Lane}
 use Rattle.lanes.specs.Waits.{unservedOf}
 use Rattle.answers.specs.declared.Answer.{Answer}
@@ -11,6 +11,7 @@ use Rattle.answers.specs.declared.Answer.the-variants.{Opened, Done, Wait, Step
 use Rattle.answers.specs.declared.Completion.{Completion}
 use Rattle.answers.specs.declared.Refusal.{Refusal}
 use Rattle.answers.specs.declared.Refusal.the-variants.{Unexpected}
+use Rattle.answers.specs.Completions.{completionOf}
 use Rattle.machine.specs.declared.Settled.{Settled}
 use Rattle.machine.specs.declared.Settled.the-variants.{Steps}
 use Rattle.machine.specs.Settle.{Settlement}
@@ -22,6 +23,10 @@ use Rattle.settle.specs.declared.Turn.the-variants.{Deliver, Return, Ser
 -- the completions in order
 abbrev pub listOf : Completions → List Completion
 listOf d = take (d .len) (d .at)
+
+-- no completion so far
+unfoldable pub noCompletions : Completions
+noCompletions = record { len = 0; at = replicate 8 (completionOf (record { 0 = 0 }) 0) }
 
 -- what a settle gives, the completions as a list
 abbrev pub settlementOf : SettleOutcome → Settlement

@@ -2,14 +2,13 @@
 // settle is open to others and has no requires.
 ghost use mathlib.Core.Path.{_≡_};
 ghost use mathlib.Core.Bool.{false};
-ghost use mathlib.Core.List.{[]};
 ghost use Prim.Native.Nat.{_+_, _≤_};
 ghost use lib.ListN.{length};
 ghost use Rattle.words.specs.Folds.{lowestTo};
 ghost use Rattle.store.specs.Quiet.{laneAt};
 ghost use Rattle.machine.specs.Corruption.{corruptOf};
 ghost use Rattle.machine.specs.Settle.{settleStep, settleOf, boundOf, doneIn, refuseSettle};
-ghost use Rattle.settle.specs.Settles.{listOf, settlementOf, CountWithin, dueOf, listedOf, refusalOf};
+ghost use Rattle.settle.specs.Settles.{noCompletions, settlementOf, CountWithin, dueOf, listedOf, refusalOf};
 use answers::Answer;
 use answers::Completion;
 use answers::Refusal;
@@ -42,7 +41,7 @@ enum Turn {
 
 // No completion so far.
 fn none() -> Completions
-    ensures { λ r. ⌜ (listOf r ≡ []) × (r .len ≡ 0) ⌝ }
+    ensures { λ r. ⌜ r ≡ noCompletions ⌝ }
 {
     let x = answers::completed(LaneNo(0), 0);
     Completions { len: 0, at: [x; 8] }
