@@ -1,1 +1,4 @@
 pub mod Searches
+pub mod Arrays
+pub mod SettleLaws
+pub mod Going

@@ -1,0 +1,57 @@
+-- `settle::step` meets its contract. Assumes nothing.
+use borrow.Author.Tests.{lt-ltb, le-ltb}
+use native.Mathlib.Omega.{arith}
+use Rattle.machine.specs.Settle.{settleStep}
+use Rattle.machine.proofs.Sound.{sound}
+use borrow.Author.Needs.{needs}
+use Rattle.settle.proofs.step.Statement.{statement}
+use Rattle.settle.proofs.step.Tie as tie
+
+lowest-requires : tie.Need-lowest-requires
+lowest-requires c κs = sound _ (c .pre) .n-high
+
+deliver-sound-requires : tie.Need-deliver-sound-requires
+deliver-sound-requires c κs = search needs
+
+returns : tie.Need-returns
+returns c = ?
+
+lowest-requires-2 : tie.Need-lowest-requires-2
+lowest-requires-2 c κs = ?
+
+return-sound-requires : tie.Need-return-sound-requires
+return-sound-requires c κs = search needs
+
+returns-2 : tie.Need-returns-2
+returns-2 c = ?
+
+lowest-requires-3 : tie.Need-lowest-requires-3
+lowest-requires-3 c κs = ?
+
+serve-sound-requires : tie.Need-serve-sound-requires
+serve-sound-requires c κs = search needs
+
+returns-3 : tie.Need-returns-3
+returns-3 c = ?
+
+refused-requires : tie.Need-refused-requires
+refused-requires c κs = search needs
+
+returns-4 : tie.Need-returns-4
+returns-4 c = ?
+
+pub step-spec : {M : Type 1} → statement M
+step-spec =
+    tie.close
+    (tie.spec
+    lowest-requires
+    deliver-sound-requires
+    returns
+    lowest-requires-2
+    return-sound-requires
+    returns-2
+    lowest-requires-3
+    serve-sound-requires
+    returns-3
+    refused-requires
+    returns-4)
