@@ -19,10 +19,11 @@ use Rattle.machine.proofs.Sound.{sound}
 use Rattle.machine.proofs.Sized.{Sized}
 use Rattle.machine.proofs.SizedKeeps.{settle-step-sized, sized-whole}
 use Rattle.machine.proofs.KeepsRepeat.{settle-step-keeps}
+use Rattle.machine.proofs.Falls.{waitingIn, settle-falls, settle-completes, waiting-most}
+use Rattle.machine.proofs.FallsSettle.{repeat-ended, repeat-more}
 use Rattle.settle.specs.declared.Completions.{Completions}
 use Rattle.settle.specs.declared.SettleOutcome.{SettleOutcome}
 use Rattle.settle.specs.Settles.{listOf, noCompletions, settlementOf, listedOf, refusalOf}
-use Rattle.settle.proofs.SettleLaws.{waitingIn, settle-falls, settle-completes, waiting-most, repeat-ended, repeat-more}
 
 -- ---- the list of completions
 pub none-listed : listOf noCompletions ≡ []
@@ -37,11 +38,11 @@ list-adds d Step h = sym (append-nil _)
 list-adds d (Refused r) h = sym (append-nil _)
 
 list-counts : (d : Completions) (a : Answer) → listedOf d a .len ≡ length (doneIn a) + d .len
-list-counts d Opened = refl
+list-counts d Opened = omega arith
 list-counts d (Done x) = omega arith
-list-counts d Wait = refl
-list-counts d Step = refl
-list-counts d (Refused r) = refl
+list-counts d Wait = omega arith
+list-counts d Step = omega arith
+list-counts d (Refused r) = omega arith
 
 list-places : (d : Completions) (a : Answer) → length (listedOf d a .at) ≡ length (d .at)
 list-places d Opened = refl
@@ -88,7 +89,7 @@ unfolding noCompletions settleOf
 going-start s e g =
     let w = waiting-most s e in
     let z : boundOf s - 0 ≡ boundOf s = omega arith in
-    record { sound = e; sized = g; bounded = omega arith; fits = w; places = refl; answer = Step; passed = refl; same = rw (e, z) }
+    record { sound = e; sized = g; bounded = omega arith; fits = omega arith; places = refl; answer = Step; passed = refl; same = rw (e, z) }
 
 module _ (first s : Store) (d : Completions) (count : ℕ) (g : Going first s d count) where
   -- the store is quiet

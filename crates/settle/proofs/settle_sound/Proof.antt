@@ -1,72 +1,62 @@
+-- `settle::settle_sound` meets its contract. Assumes nothing.
+use borrow.Author.Needs.{needs}
+use native.Mathlib.Omega.{arith}
+use mathlib.Core.Path.{_≡_, sym, ap, _∙_}
+use mathlib.Core.Bool.{Bool, true, false}
+use Rattle.answers.specs.Refusals.{refusedOf}
+use Rattle.store.specs.declared.Outcome.{Outcome}
+use Rattle.store.specs.Quiet.{quietOf}
+use Rattle.machine.specs.Settle.{settleStep, boundOf, doneIn}
+use Rattle.machine.proofs.Falls.{settle-falls, bound-most}
+use Rattle.settle.proofs.Arrays.{arrays-sized}
+use Rattle.settle.proofs.Going.{Going, going-start, going-quiet, going-refused, going-fits, going-next}
 use Rattle.settle.proofs.settle_sound.Statement.{statement}
 use Rattle.settle.proofs.settle_sound.Tie as tie
-use Rattle.settle.proofs.settle_sound.Reads as reads
-use Rattle.settle.proofs.settle_sound.Lts as lts
-use Rattle.answers.proofs.Answer.refused.Reads as refused-reads
-use Rattle.settle.proofs.list.Reads as list-reads
-use Rattle.settle.proofs.none.Reads as none-reads
-use Rattle.settle.proofs.refusal.Reads as refusal-reads
-use Rattle.settle.proofs.refuse.Reads as refuse-reads
-use Rattle.settle.proofs.step.Reads as step-reads
-use Rattle.store.proofs.quiet.Reads as quiet-reads
 
 abbrev Inv-loop : tie.InvT-loop
-Inv-loop first s₀ done₀ count₀ s done count = ?
+Inv-loop first s₀ done₀ count₀ s done count = Going first s done count
 
 abbrev μ-loop : tie.MeasureT-loop
-μ-loop first s₀ done₀ count₀ s done count = ?
+μ-loop first s₀ done₀ count₀ s done count = boundOf s
 
--- src/lib.rt:154:9
 none-requires : tie.Need-none-requires Inv-loop μ-loop
 none-requires c κs = search needs
 
--- src/lib.rt:156:5
 loop-holds : tie.Need-loop-holds Inv-loop μ-loop
-loop-holds c = ?
+loop-holds c = rw (c .none .ensures) (going-start _ (c .before .pre) (arrays-sized _ _ _ (c .before .good .0 .1 .1 .1 .1 .1 .1 .0) (c .before .good .0 .1 .1 .1 .1 .1 .1 .1 .0)))
 
--- src/lib.rt:156:12
 quiet-requires : tie.Need-quiet-requires Inv-loop μ-loop
 quiet-requires c κs = search needs
 
--- src/lib.rt:157:13
 step-requires : tie.Need-step-requires Inv-loop μ-loop
-step-requires c κs = search needs
+step-requires c κs = c .before .before .loop .inv .sound
 
--- src/lib.rt:159:12
 refused-requires : tie.Need-refused-requires Inv-loop μ-loop
 refused-requires c κs = search needs
 
--- src/lib.rt:160:17
 refusal-requires : tie.Need-refusal-requires Inv-loop μ-loop
 refusal-requires c κs = search needs
 
--- src/lib.rt:161:13
 refuse-requires : tie.Need-refuse-requires Inv-loop μ-loop
 refuse-requires c κs = search needs
 
--- src/lib.rt:161:13
 returns : tie.Need-returns Inv-loop μ-loop
-returns c = ?
+returns c = let z = c .before .before .before .before .before .if1 .taken in ?
 
--- src/lib.rt:163:13
 list-requires : tie.Need-list-requires Inv-loop μ-loop
-list-requires c κs = search needs
+list-requires c κs = let z = c .before .before .before .if1 .taken in ?
 
--- src/lib.rt:167:9
 add-count : tie.Need-add-count Inv-loop μ-loop
 add-count c = ?
 
--- src/lib.rt:156:5
 loop-less : tie.Need-loop-less Inv-loop μ-loop
 loop-less c = ?
 
--- src/lib.rt:156:5
 loop-again : tie.Need-loop-again Inv-loop μ-loop
 loop-again c = ?
 
--- src/lib.rt:149:1
 returns-2 : tie.Need-returns-2 Inv-loop μ-loop
-returns-2 c = ?
+returns-2 c = let z = c .if1 .left in ?
 
 pub settle-sound-spec : {M : Type 1} → statement M
 settle-sound-spec =

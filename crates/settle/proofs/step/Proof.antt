@@ -14,31 +14,35 @@ deliver-sound-requires : tie.Need-deliver-sound-requires
 deliver-sound-requires c κs = search needs
 
 returns : tie.Need-returns
-returns c = ?
+unfolding settleStep
+returns c = rw (settleStep, ← c .before .before .lowest .ensures, lt-ltb _ _ (c .before .if1 .taken), c .deliver-sound .ensures)
 
 lowest-requires-2 : tie.Need-lowest-requires-2
-lowest-requires-2 c κs = ?
+lowest-requires-2 c κs = sound _ (c .before .before .pre) .n-high
 
 return-sound-requires : tie.Need-return-sound-requires
 return-sound-requires c κs = search needs
 
 returns-2 : tie.Need-returns-2
-returns-2 c = ?
+unfolding settleStep
+returns-2 c = rw (settleStep, ← c .before .before .before .before .lowest .ensures, le-ltb _ _ (c .before .before .before .if1 .left), ← c .before .before .lowest2 .ensures, lt-ltb _ _ (c .before .if2 .taken), c .return-sound .ensures)
 
 lowest-requires-3 : tie.Need-lowest-requires-3
-lowest-requires-3 c κs = ?
+lowest-requires-3 c κs = sound _ (c .before .before .before .before .pre) .n-high
 
 serve-sound-requires : tie.Need-serve-sound-requires
 serve-sound-requires c κs = search needs
 
 returns-3 : tie.Need-returns-3
-returns-3 c = ?
+unfolding settleStep
+returns-3 c = rw (settleStep, ← c .before .before .before .before .before .before .lowest .ensures, le-ltb _ _ (c .before .before .before .before .before .if1 .left), ← c .before .before .before .before .lowest2 .ensures, le-ltb _ _ (c .before .before .before .if2 .left), ← c .before .before .lowest3 .ensures, lt-ltb _ _ (c .before .if3 .taken), c .serve-sound .ensures)
 
 refused-requires : tie.Need-refused-requires
 refused-requires c κs = search needs
 
 returns-4 : tie.Need-returns-4
-returns-4 c = ?
+unfolding settleStep
+returns-4 c = rw (settleStep, ← c .before .before .before .before .before .before .lowest .ensures, le-ltb _ _ (c .before .before .before .before .before .if1 .left), ← c .before .before .before .before .lowest2 .ensures, le-ltb _ _ (c .before .before .before .if2 .left), ← c .before .before .lowest3 .ensures, le-ltb _ _ (c .before .if3 .left), c .refused .ensures)
 
 pub step-spec : {M : Type 1} → statement M
 step-spec =
