@@ -2,9 +2,9 @@
 use Prim.Native.Nat.{ℕ, suc, _+_, _-_, _≤_}
 use native.Mathlib.Omega.{arith}
 use native.Mathlib.Numerals.{add-one}
-use mathlib.Core.Bool.{Bool, true, false, _||_, true≢false}
+use mathlib.Core.Bool.{true, false, true≢false}
 use mathlib.Core.Path.{_≡_, refl, sym, ap, _∙_}
-use mathlib.Core.List.{List, [], _++_, append-nil}
+use mathlib.Core.List.{[], _++_, append-nil}
 use lib.ListN.{length, length-set}
 use lib.Seq.{take-suc-set}
 use Rattle.answers.specs.declared.Answer.{Answer}
@@ -22,7 +22,6 @@ use Rattle.machine.proofs.KeepsRepeat.{settle-step-keeps}
 use Rattle.machine.proofs.Falls.{waitingIn, settle-falls, settle-completes, waiting-most}
 use Rattle.machine.proofs.FallsSettle.{repeat-ended, repeat-more}
 use Rattle.settle.specs.declared.Completions.{Completions}
-use Rattle.settle.specs.declared.SettleOutcome.{SettleOutcome}
 use Rattle.settle.specs.Settles.{listOf, noCompletions, settlementOf, listedOf, refusalOf}
 
 -- ---- the list of completions

@@ -2,12 +2,10 @@
 use borrow.Author.Needs.{needs}
 use borrow.Author.Tests.{not-true, not-false}
 use native.Mathlib.Omega.{arith}
-use mathlib.Core.Path.{_≡_, sym, ap, _∙_}
-use mathlib.Core.Bool.{Bool, true, false}
+use mathlib.Core.Path.{sym, ap, _∙_}
 use Rattle.answers.specs.Refusals.{refusedOf}
 use Rattle.store.specs.declared.Outcome.{Outcome}
-use Rattle.store.specs.Quiet.{quietOf}
-use Rattle.machine.specs.Settle.{settleStep, boundOf, doneIn}
+use Rattle.machine.specs.Settle.{boundOf}
 use Rattle.machine.proofs.Falls.{settle-falls, bound-most}
 use Rattle.settle.proofs.Arrays.{arrays-sized}
 use Rattle.settle.proofs.Going.{Going, going-start, going-quiet, going-refused, going-fits, going-next}
