@@ -90,9 +90,11 @@ module _ (s : Store) (f : List ℕ) (i : Consistent s f) (k : LaneNo) (h : k .0 
       }
     where
       here : (v : (ℕ → Status)) × Inv v (project (withLane s (k .0) (r .lane)) (blockOf w .0)) (flatBlock (flatAfter f (fed op w)) (blockOf w .0))
-      here =
-          (before .0, rw (lane-project s f i (k .0) h (r .lane) (hitSeen op w (seen (s .c) (blockOf w) l)) (blockOf w .0) (c .here), flat-done f op w)
-            (hit-keeps (before .0) (project s (blockOf w .0)) (flatBlock f (blockOf w .0)) (k .0) op w (before .1) (c .copy) (c .able)))
+      here = (
+        before .0,
+        rw (lane-project s f i (k .0) h (r .lane) (hitSeen op w (seen (s .c) (blockOf w) l)) (blockOf w .0) (c .here), flat-done f op w)
+            (hit-keeps (before .0) (project s (blockOf w .0)) (flatBlock f (blockOf w .0)) (k .0) op w (before .1) (c .copy) (c .able)),
+      )
 
       there : (a : ℕ) → a < s .m → a ≢ blockOf w .0 → (v : (ℕ → Status)) × Inv v (project (withLane s (k .0) (r .lane)) a) (flatBlock (flatAfter f (fed op w)) a)
       there a b n = rw (lane-unseen s f i (k .0) h (r .lane) a (c .others (blockNo a) n), flat-other f op w a n) (i .block a b)
@@ -110,9 +112,11 @@ module _ (s : Store) (f : List ℕ) (i : Consistent s f) (k : LaneNo) (h : k .0 
       }
     where
       here : (v : (ℕ → Status)) × Inv v (project (withLane s (k .0) (r .lane)) (blockOf w .0)) (flatBlock f (blockOf w .0))
-      here =
-          (before .0, rw (lane-project s f i (k .0) h (r .lane) (waitSeen (Unserved (asked x op w)) (seen (s .c) (blockOf w) l)) (blockOf w .0) (c .here))
-            (wait-keeps (before .0) (project s (blockOf w .0)) (flatBlock f (blockOf w .0)) (k .0) (asked x op w) (before .1) (idle-at (blockOf w .0)) (rw (c .line) fits)))
+      here = (
+        before .0,
+        rw (lane-project s f i (k .0) h (r .lane) (waitSeen (Unserved (asked x op w)) (seen (s .c) (blockOf w) l)) (blockOf w .0) (c .here))
+            (wait-keeps (before .0) (project s (blockOf w .0)) (flatBlock f (blockOf w .0)) (k .0) (asked x op w) (before .1) (idle-at (blockOf w .0)) (rw (c .line) fits)),
+      )
 
   -- other blocks that see nothing
   unseen : (r : LaneStep) (a : ℕ) → a < s .m → seen (s .c) (blockNo a) (r .lane) ≡ seen (s .c) (blockNo a) l → (v : (ℕ → Status)) × Inv v (project (withLane s (k .0) (r .lane)) a) (flatBlock f a)
@@ -122,9 +126,11 @@ module _ (s : Store) (f : List ℕ) (i : Consistent s f) (k : LaneNo) (h : k .0 
   evicted-block : (r : LaneStep) (c : EvictCase (s .c) op w l r) → (a : ℕ) → a < s .m → a ≡ c .victim .0 → (v : (ℕ → Status)) × Inv v (project (withLane s (k .0) (r .lane)) a) (flatBlock f a)
   evicted-block r c a b e =
       let x : blockNo a ≡ c .victim = same-block (blockNo a) (c .victim) e in
-      let p = i .block a b in
-      (p .0, rw (lane-project s f i (k .0) h (r .lane) (evictSeen (blockNo a) (seen (s .c) (blockNo a) l)) a (rw x (c .there)))
-        (evict-keeps (p .0) (project s a) (flatBlock f a) (k .0) (blockNo a) (p .1) (idle-at a) (rw x (c .copy))))
+      let p = i .block a b in (
+        p .0,
+        rw (lane-project s f i (k .0) h (r .lane) (evictSeen (blockNo a) (seen (s .c) (blockNo a) l)) a (rw x (c .there)))
+            (evict-keeps (p .0) (project s a) (flatBlock f a) (k .0) (blockNo a) (p .1) (idle-at a) (rw x (c .copy))),
+      )
 
   evict-begins : (r : LaneStep) → EvictCase (s .c) op w l r → Begins s f k op w (record { answer = r .answer; store = withLane s (k .0) (r .lane) })
   evict-begins r c = wait-begins r (readOf op) Invalid (c .wait) (read-fits (isLoad op)) (λ a b n. go a b n (same? a (c .victim .0)))

@@ -81,9 +81,11 @@ module _ (s : Store) (f : List ℕ) (i : Consistent s f) (k : LaneNo) (h : k .0 
       record {
         flat = f;
         unique = lane-unique s f i (k .0) h (r .lane) (c .taken .unique);
-        block = each-block y (c .taken) f
-            (p .0, rw (lane-project s f i (k .0) h (r .lane) (F (seen (s .c) x l .line) x (c .taken .rest) (seen (s .c) x l)) (x .0) (c .here))
-              (keeps (p .0) (project s (x .0)) (flatBlock f (x .0)) (k .0) x (headDown (l .downs)) (c .taken .rest) (p .1) (c .taken .head) (c .taken .kind)))
+        block = each-block y (c .taken) f (
+          p .0,
+          rw (lane-project s f i (k .0) h (r .lane) (F (seen (s .c) x l .line) x (c .taken .rest) (seen (s .c) x l)) (x .0) (c .here))
+              (keeps (p .0) (project s (x .0)) (flatBlock f (x .0)) (k .0) x (headDown (l .downs)) (c .taken .rest) (p .1) (c .taken .head) (c .taken .kind)),
+        )
             (λ a n. refl);
         completes = rw (c .answer) (lane-pending-same s f i (k .0) h (r .lane) (ap pendingOf (c .waiting)), refl);
       }
@@ -104,10 +106,13 @@ module _ (s : Store) (f : List ℕ) (i : Consistent s f) (k : LaneNo) (h : k .0 
         block = each-block y (c .taken) (flatAfter f (fed (o .op) (o .word)))
             (p .0, rw (lane-project s f i (k .0) h (r .lane) (grantSeen o ws (c .taken .rest) (seen (s .c) x l)) (x .0) (c .here), done-at f (o .op) (o .word) (x .0) (c .block)) (q .1))
             (λ a n. flat-other f (o .op) (o .word) a (λ e. n (e ∙ c .block)));
-        completes = rw (c .answer)
-            (o .op, o .word, pending-here s f i (k .0) h ∙ ap pendingOf (c .served),
-              ap (valueDone (o .op) (o .word)) (q .0) ∙ value-at f (o .op) (o .word) (x .0) (c .block),
-              (lane-pending s f i (k .0) h (r .lane) ∙ ap (λ (z : Pending). upd (pendingIn s) (k .0) z) (ap pendingOf (c .waiting)), refl));
+        completes = rw (c .answer) (
+          o .op,
+          o .word,
+          pending-here s f i (k .0) h ∙ ap pendingOf (c .served),
+          ap (valueDone (o .op) (o .word)) (q .0) ∙ value-at f (o .op) (o .word) (x .0) (c .block),
+          (lane-pending s f i (k .0) h (r .lane) ∙ ap (λ (z : Pending). upd (pendingIn s) (k .0) z) (ap pendingOf (c .waiting)), refl),
+        );
       }
 
   -- the lane's part, by the message
@@ -118,15 +123,17 @@ module _ (s : Store) (f : List ℕ) (i : Consistent s f) (k : LaneNo) (h : k .0 
   case-consistent (Grants e c) =
       rw (c .answer)
       (rw (c .answer) at (grant-consistent Grant (headDown (l .downs) .words) c
-      (λ v z.
-        (grant-words v (project s (x .0)) (flatBlock f (x .0)) (k .0) (headDown (l .downs)) (c .taken .rest) z (c .taken .head) (c .taken .kind),
-          grant-keeps v (project s (x .0)) (flatBlock f (x .0)) (k .0) (c .operation) (headDown (l .downs)) (c .taken .rest) z (c .taken .head) (c .taken .kind) (c .before)))))
+      (λ v z. (
+        grant-words v (project s (x .0)) (flatBlock f (x .0)) (k .0) (headDown (l .downs)) (c .taken .rest) z (c .taken .head) (c .taken .kind),
+        grant-keeps v (project s (x .0)) (flatBlock f (x .0)) (k .0) (c .operation) (headDown (l .downs)) (c .taken .rest) z (c .taken .head) (c .taken .kind) (c .before),
+      ))))
   case-consistent (BareGrants e c) =
       rw (c .answer)
       (rw (c .answer) at (grant-consistent BareGrant (seen (s .c) x l .words) c
-      (λ v z.
-        (bare-words v (project s (x .0)) (flatBlock f (x .0)) (k .0) (headDown (l .downs)) (c .taken .rest) z (c .taken .head) (c .taken .kind),
-          bare-keeps v (project s (x .0)) (flatBlock f (x .0)) (k .0) (c .operation) (headDown (l .downs)) (c .taken .rest) z (c .taken .head) (c .taken .kind) (c .before)))))
+      (λ v z. (
+        bare-words v (project s (x .0)) (flatBlock f (x .0)) (k .0) (headDown (l .downs)) (c .taken .rest) z (c .taken .head) (c .taken .kind),
+        bare-keeps v (project s (x .0)) (flatBlock f (x .0)) (k .0) (c .operation) (headDown (l .downs)) (c .taken .rest) z (c .taken .head) (c .taken .kind) (c .before),
+      ))))
   case-consistent (Refuses c) = rw (c .answer) (refused-consistent s f (c .reason) i)
 
 pub deliver-consistent : (s : Store) (f : List ℕ) (k : LaneNo) → Consistent s f → StaysConsistent s f (deliverOf s k)

@@ -36,7 +36,6 @@ use Rattle.machine.proofs.Searches.{found-holds, search-at, holds-valid
 use Rattle.machine.proofs.SeenBegin.{held-line, idle-waiting}
 use Rattle.machine.proofs.Consistent.{Consistent, pendingIn}
 
-
 -- a loop keeps what each turn keeps
 loop-keeps : {A : Type 0} (P : A → Type 0) (g : ℕ → A → A) (n : ℕ) (a : A) → ((k : ℕ) → k < n → (x : A) → P x → P (g k x)) → P a → P (upTo g n a)
 unfolding upTo
