@@ -61,3 +61,4 @@ pub mod SeenDeliver
 pub mod ShapeKeeps
 pub mod Updates
 pub mod Live
+pub mod LiveSpare
