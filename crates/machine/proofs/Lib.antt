@@ -62,3 +62,5 @@ pub mod ShapeKeeps
 pub mod Updates
 pub mod Live
 pub mod LiveSpare
+pub mod LiveOwed
+pub mod LiveDeliver
