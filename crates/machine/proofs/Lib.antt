@@ -62,5 +62,7 @@ pub mod ShapeKeeps
 pub mod Updates
 pub mod Live
 pub mod LiveSpare
-pub mod LiveOwed
+pub mod LiveAwaited
 pub mod LiveDeliver
+pub mod LiveMemory
+pub mod LiveStep

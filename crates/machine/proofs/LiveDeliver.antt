@@ -57,7 +57,7 @@ use Rattle.machine.proofs.SeenBegin.{held-line}
 use Rattle.machine.proofs.Consistent.{Consistent}
 use Rattle.machine.proofs.ConsistentLane.{lane-below, lane-sized}
 use Rattle.machine.proofs.Live.{ejectCount, hasRoom, Live}
-use Rattle.machine.proofs.LiveOwed.{owed-awaited, awaited-same}
+use Rattle.machine.proofs.LiveAwaited.{owed-awaited, awaited-same}
 
 -- 14 and 6 are passed
 pub guarded-goes : (s : Store) (k : LaneNo) (r : Outcome) → corruptOf s ≡ false → k .0 < s .n → guarded s k r ≡ r
