@@ -66,3 +66,4 @@ pub mod LiveAwaited
 pub mod LiveDeliver
 pub mod LiveMemory
 pub mod LiveStep
+pub mod LiveSettle
