@@ -6,14 +6,13 @@ use mathlib.Core.Logic.{_⊎_, inl, inr, _≢_}
 use mathlib.Core.Path.{_≡_, refl, sym, ap, _∙_, subst}
 use mathlib.Core.Bool.{Bool, true, false, cond, not, _||_}
 use mathlib.Core.List.{List, [], _∷_}
-use borrow.Author.Tests.{eq-eqb, ne-eqb, eqb-true, lt-leb}
-use lib.Dec.{eqb, leb}
-use lib.ListN.{length, getD, take}
+use borrow.Author.Tests.{eq-eqb, eqb-true, lt-leb}
+use lib.Dec.{eqb}
+use lib.ListN.{length, getD}
 use Rattle.words.specs.declared.LaneNo.{LaneNo}
 use Rattle.words.specs.declared.BlockNo.{BlockNo}
 use Rattle.words.specs.Units.{blockOf}
 use Rattle.words.specs.Lines.{noLine, holdsOf}
-use Rattle.words.specs.Folds.{anyTo}
 use Rattle.words.proofs.Folds.{any-never, by-cond}
 use Rattle.queues.specs.declared.ReturnMessage.{ReturnMessage}
 use Rattle.queues.specs.declared.DownMessage.{DownMessage}
@@ -44,13 +43,13 @@ use Rattle.machine.specs.Settle.{isOrder}
 use Rattle.machine.specs.Flat.{flatBlock}
 use Rattle.machine.proofs.Tests.{on, or-never}
 use Rattle.machine.proofs.Sets.{same?, pick}
+use Rattle.machine.proofs.Counts.{step-most}
 use Rattle.machine.proofs.KeepsLane.{clash}
 use Rattle.machine.proofs.KeepsBegin.{all-valid}
 use Rattle.machine.proofs.Sound.{sound}
-use Rattle.machine.proofs.Sized.{LaneSized}
-use Rattle.machine.proofs.BlockState.{Status, Invalid, held, Seen, keepIf, returnAbout, downAbout, statusAt, waitingOn, seen, blockNo, project}
+use Rattle.machine.proofs.BlockState.{Status, Invalid, held, Seen, keepIf, returnAbout, downAbout, waitingOn, seen, blockNo, project}
 use Rattle.machine.proofs.Queued.{returnsIn, downsIn, take-downs, keep-head}
-use Rattle.machine.proofs.Invariant.{Chain, DueHead, Due, answerCount, orderCount, grantCount, servedCount, serving, owed}
+use Rattle.machine.proofs.Invariant.{Chain, DueHead, Due, answerCount, orderCount, grantCount, servedCount, owed}
 use Rattle.machine.proofs.LaneMovesDeliver.{bare-held}
 use Rattle.machine.proofs.Searches.{same-block, none-holds}
 use Rattle.machine.proofs.SeenBegin.{held-line}
@@ -194,12 +193,8 @@ module _ (s : Store) (f : List ℕ) (i : Consistent s f) (live : Live s) (k : La
       let q = g .short in
       let y = queue-length (l .returns .len) (l .returns .at) (omega arith) in
       let e = live .lane (k .0) .ejects in
-      let u = most (unservedOf (l .waiting)) in
+      let u = step-most (unservedOf (l .waiting)) in
       omega arith
-    where
-      most : (b : Bool) → cond b 1 0 ≤ 1
-      most true = omega arith
-      most false = omega arith
 
   -- a grant is for the operation that its lane waits for
   grant-served : isOrder (x .kind) ≡ false → (o : Operation) × (l .waiting ≡ Served o) × (blockOf (o .word) .0 ≡ a .0)

@@ -1,11 +1,11 @@
 -- Return and serve are never refused where all down queues are empty: a message that settle's return takes is no answer or is awaited,
 -- and what is sent finds room. Assumes nothing.
-use Prim.Native.Nat.{ℕ, _+_, _<_, _≤_}
+use Prim.Native.Nat.{ℕ, _+_, _<_}
 use native.Mathlib.Omega.{arith}
 use mathlib.Core.Logic.{_≢_}
 use mathlib.Core.Path.{_≡_, refl, ap, _∙_}
-use mathlib.Core.Bool.{Bool, true, false, cond, _&&_}
-use mathlib.Core.List.{List, [], _∷_}
+use mathlib.Core.Bool.{Bool, true, false, _&&_}
+use mathlib.Core.List.{List, _∷_}
 use borrow.Author.Tests.{eq-eqb, ne-eqb, eqb-true, lt-leb}
 use lib.Dec.{eqb}
 use lib.ListN.{getD, set}
@@ -18,7 +18,7 @@ use Rattle.queues.specs.Queues.{fullAt, emptyAt, headReturn, takeReturn}
 use Rattle.lanes.specs.declared.Lane.{Lane}
 use Rattle.lanes.specs.declared.Operation.{Operation}
 use Rattle.lanes.specs.declared.Waiting.{Waiting}
-use Rattle.lanes.specs.declared.Waiting.the-variants.{Unserved, Served}
+use Rattle.lanes.specs.declared.Waiting.the-variants.{Unserved}
 use Rattle.answers.specs.Refusals.{refusedOf}
 use Rattle.store.specs.declared.Store.{Store}
 use Rattle.store.specs.declared.Block.{Block}
@@ -27,7 +27,7 @@ use Rattle.store.specs.declared.Control.the-variants.{Free, Busy}
 use Rattle.store.specs.declared.Counted.{Counted}
 use Rattle.store.specs.declared.Counted.the-variants.{Awaits, Closes}
 use Rattle.store.specs.declared.Outcome.{Outcome}
-use Rattle.store.specs.Control.{busyOf, lowered, answerOf}
+use Rattle.store.specs.Control.{lowered, answerOf}
 use Rattle.store.specs.Quiet.{noLane, laneAt, blockAt}
 use Rattle.machine.specs.declared.Ready.{Ready}
 use Rattle.machine.specs.declared.Ready.the-variants.{Go}
@@ -38,9 +38,9 @@ use Rattle.machine.specs.Return.{takenBy, isAnswer, answered, returnMove
 use Rattle.machine.proofs.Tests.{and-never}
 use Rattle.machine.proofs.Sets.{pick, set-cases}
 use Rattle.machine.proofs.Sound.{sound}
-use Rattle.machine.proofs.BlockState.{keepIf, returnAbout, seen, project}
+use Rattle.machine.proofs.BlockState.{keepIf, returnAbout, seen}
 use Rattle.machine.proofs.Queued.{returnsIn, take-returns, keep-head}
-use Rattle.machine.proofs.Invariant.{answerCount, orderCount, owed}
+use Rattle.machine.proofs.Invariant.{answerCount, owed}
 use Rattle.machine.proofs.Consistent.{Consistent}
 use Rattle.machine.proofs.ConsistentLane.{lane-below, lane-sized}
 use Rattle.machine.proofs.LiveAwaited.{Awaited, owed-awaited}

@@ -2,9 +2,9 @@
 -- goes to one. Assumes nothing.
 use Prim.Native.Nat.{ℕ, zero, suc, _*_, _<_, _≤_}
 use native.Mathlib.Omega.{arith}
-use mathlib.Core.Logic.{_⊎_, inl, inr, _≢_}
+use mathlib.Core.Logic.{_⊎_, inl, inr}
 use mathlib.Core.Path.{_≡_, refl, sym, ap, _∙_}
-use mathlib.Core.Bool.{Bool, true, false, cond}
+use mathlib.Core.Bool.{Bool, true, false}
 use mathlib.Core.List.{List, [], _∷_}
 use lib.Dec.{leb, ltb, eqb}
 use lib.ListN.{length, getD, set, replicate, getD-replicate, List·getD-eq-default}
@@ -27,7 +27,6 @@ use Rattle.lanes.specs.declared.Waiting.the-variants.{Idle, Unserved, Served}
 use Rattle.answers.specs.Refusals.{refusedOf}
 use Rattle.store.specs.declared.Store.{Store}
 use Rattle.store.specs.declared.Block.{Block}
-use Rattle.store.specs.declared.Service.{Service}
 use Rattle.store.specs.declared.Control.{Control}
 use Rattle.store.specs.declared.Control.the-variants.{Free, Busy}
 use Rattle.store.specs.declared.Counted.{Counted}
@@ -35,23 +34,22 @@ use Rattle.store.specs.declared.Counted.the-variants.{Awaits, Closes, NotAwaite
 use Rattle.store.specs.declared.Lookup.{Lookup}
 use Rattle.store.specs.declared.Lookup.the-variants.{Of, Nothing}
 use Rattle.store.specs.declared.Outcome.{Outcome}
-use Rattle.store.specs.Control.{busyOf, serviceOf, lowered, countedOf, answerOf}
+use Rattle.store.specs.Control.{busyOf, lowered, countedOf, answerOf}
 use Rattle.store.specs.Opening.{badShape, blankLane, freshOf, openOf}
 use Rattle.store.specs.Quiet.{noLane, laneAt, blockAt}
 use Rattle.machine.specs.declared.LaneStep.{LaneStep}
 use Rattle.machine.specs.declared.Ready.{Ready}
-use Rattle.machine.specs.declared.Ready.the-variants.{Go, No}
 use Rattle.machine.specs.declared.Move.{Move}
 use Rattle.machine.specs.Corruption.{corruptOf}
-use Rattle.machine.specs.Change.{withLane, withReturns, withWaiting, commitLane, nobody, only, goesTo, someFull, posted, postTo, postAll, commitMove}
-use Rattle.machine.specs.Begin.{beginLane, beginOf}
-use Rattle.machine.specs.Serve.{sendsOf, ordered, countOf, close, serviceFor, readyWith, readyOf, serveMove, serveReady, serveOf}
-use Rattle.machine.specs.Return.{takenBy, isAnswer, quietly, answered, returnMove, returnOf}
-use Rattle.machine.specs.Deliver.{deliverLane, deliverOf}
+use Rattle.machine.specs.Change.{withLane, withReturns, commitLane, nobody, only, goesTo, someFull, postTo, postAll, commitMove}
+use Rattle.machine.specs.Begin.{beginOf}
+use Rattle.machine.specs.Serve.{sendsOf, ordered, countOf, close, readyWith, readyOf, serveMove, serveReady, serveOf}
+use Rattle.machine.specs.Return.{takenBy, isAnswer, answered, returnMove, returnOf}
+use Rattle.machine.specs.Deliver.{deliverOf}
 use Rattle.machine.specs.Settle.{settleStep, boundOf, Progress, advance, ended, repeatStep, Settlement, settleOf}
 use Rattle.machine.specs.Calls.{Call, Begin, Serve, Return, Deliver, Settle, callOf, run}
 use Rattle.machine.proofs.Tests.{on}
-use Rattle.machine.proofs.Sets.{same?, set-cases}
+use Rattle.machine.proofs.Sets.{set-cases}
 use Rattle.machine.proofs.KeepsLane.{clash}
 use Rattle.machine.proofs.KeepsStore.{guarded-keeps}
 use Rattle.machine.proofs.Sound.{BlockSound, ControlSound, sound}

@@ -1,12 +1,12 @@
 -- A step of settle is not refused where the store is not quiet: there is a message to deliver or to return, or a command to serve, and
 -- the first of these that settle takes goes through. Assumes nothing.
-use Prim.Native.Nat.{ℕ, zero, suc, _+_, _<_, _≤_}
+use Prim.Native.Nat.{ℕ, zero, suc, _<_, _≤_}
 use native.Mathlib.Omega.{arith}
 use native.Mathlib.Nat.{eq-or-lt-of-le}
 use mathlib.Core.Logic.{_⊎_, inl, inr, _≢_}
-use mathlib.Core.Path.{_≡_, refl, sym, ap, _∙_}
+use mathlib.Core.Path.{_≡_, refl, ap}
 use mathlib.Core.Bool.{Bool, true, false, cond, not}
-use mathlib.Core.List.{List, []}
+use mathlib.Core.List.{List}
 use borrow.Author.Tests.{ltb-true, ltb-false, eq-eqb}
 use lib.Dec.{ltb}
 use Rattle.words.specs.Units.{blockOf}
@@ -19,17 +19,14 @@ use Rattle.lanes.specs.Waits.{unservedOf}
 use Rattle.answers.specs.Refusals.{refusedOf}
 use Rattle.store.specs.declared.Store.{Store}
 use Rattle.store.specs.declared.Outcome.{Outcome}
-use Rattle.store.specs.declared.Service.{Service}
 use Rattle.store.specs.declared.Control.{Control}
 use Rattle.store.specs.declared.Control.the-variants.{Free, Busy}
-use Rattle.store.specs.declared.Lookup.the-variants.{Nothing}
-use Rattle.store.specs.Control.{serviceOf}
 use Rattle.store.specs.Quiet.{laneAt, stirsOf, quietOf}
 use Rattle.machine.specs.Settle.{lane, settleStep}
 use Rattle.machine.proofs.Sets.{pick}
 use Rattle.machine.proofs.KeepsLane.{clash}
 use Rattle.machine.proofs.Sound.{sound}
-use Rattle.machine.proofs.BlockState.{waitingOn, seen, blockNo, project}
+use Rattle.machine.proofs.BlockState.{seen, project}
 use Rattle.machine.proofs.Invariant.{grantCount, serving, servedCount, owed}
 use Rattle.machine.proofs.Consistent.{Consistent}
 use Rattle.machine.proofs.Live.{Live}
