@@ -31,7 +31,7 @@ use Rattle.machine.proofs.Searches.{Unique, search-none, invalid-holds}
 use Rattle.machine.proofs.Consistent.{Consistent, pendingOf, pendingIn}
 
 -- what holds of the blank lane and of none holds of each lane of an opening
-each-lane : (P : Lane → Type 0) (n c m : ℕ) → P blankLane → P noLane → (k : ℕ) → P (laneAt (freshOf n c m) k)
+pub each-lane : (P : Lane → Type 0) (n c m : ℕ) → P blankLane → P noLane → (k : ℕ) → P (laneAt (freshOf n c m) k)
 unfolding freshOf
 each-lane P n c m blank past k = go (below? k 8)
   where
@@ -118,7 +118,7 @@ fresh-consistent n c m e =
     }
 
 -- an opening that isn't refused
-opened-fresh : (n c m : ℕ) → openOf n c m .answer ≡ Opened → (badShape n c m ≡ false) × (openOf n c m .store ≡ freshOf n c m)
+pub opened-fresh : (n c m : ℕ) → openOf n c m .answer ≡ Opened → (badShape n c m ≡ false) × (openOf n c m .store ≡ freshOf n c m)
 unfolding openOf
 opened-fresh n c m e = on (badShape n c m) (λ b. clash (cc (rw b at e))) (λ b. (b, rw b))
 

@@ -51,7 +51,7 @@ use Rattle.machine.proofs.ConsistentMove.{Shows, commit-consistent}
 use Rattle.machine.proofs.ConsistentServe.{send-none, grant-block, only-length}
 
 -- a service looked up is the control's
-looked-up : (y : Control) (a : BlockNo) (v : Service) → serviceOf y a ≡ Of v → (y ≡ Busy v) × (v .block .0 ≡ a .0)
+pub looked-up : (y : Control) (a : BlockNo) (v : Service) → serviceOf y a ≡ Of v → (y ≡ Busy v) × (v .block .0 ≡ a .0)
 looked-up Free a v e = clash (cc)
 looked-up (Busy u) a v e = go (eqb (u .block .0) (a .0)) refl e
   where
@@ -101,10 +101,10 @@ module _ (s : Store) (f : List ℕ) (i : Consistent s f) (k : LaneNo) (h : k .0 
   t-sized : LaneSized t
   t-sized = record { lines = l-sized .lines; order = l-sized .order; returns = rw (ne-eqb _ _ filled) (length-set (l .returns .at) 0 _ ∙ l-sized .returns); downs = l-sized .downs }
 
-  taken : returnsIn (l .returns) ≡ x ∷ returnsIn (takeReturn (l .returns) .queue)
+  pub taken : returnsIn (l .returns) ≡ x ∷ returnsIn (takeReturn (l .returns) .queue)
   taken = take-returns (l .returns) (l-sized .returns) filled (sound s (i .sound) .lane (k .0) h .returns .short)
 
-  has-head : seen (s .c) a l .returns ≡ x ∷ rest
+  pub has-head : seen (s .c) a l .returns ≡ x ∷ rest
   unfolding seen
   has-head = ap (keepIf (returnAbout a)) taken ∙ keep-head (returnAbout a) x (returnsIn (takeReturn (l .returns) .queue)) (eq-eqb (a .0) (a .0) refl)
 
@@ -122,11 +122,11 @@ module _ (s : Store) (f : List ℕ) (i : Consistent s f) (k : LaneNo) (h : k .0 
       withReturned r = record { line = seen (s .c) (blockNo d) l .line; words = seen (s .c) (blockNo d) l .words; returns = r; downs = seen (s .c) (blockNo d) l .downs; waiting = seen (s .c) (blockNo d) l .waiting }
 
   -- the block before
-  before : (v : (ℕ → Status)) × Inv v (project s (a .0)) (flatBlock f (a .0))
+  pub before : (v : (ℕ → Status)) × Inv v (project s (a .0)) (flatBlock f (a .0))
   before = i .block (a .0) block-below
 
   -- the head is taken and nothing is sent; y is the control after it, d the block's service in it
-  quiet-shows : (y : Control) → ((c : ℕ) → c ≢ a .0 → serviceOf y (blockNo c) ≡ serviceOf (s .control) (blockNo c)) →
+  pub quiet-shows : (y : Control) → ((c : ℕ) → c ≢ a .0 → serviceOf y (blockNo c) ≡ serviceOf (s .control) (blockNo c)) →
       ((v : (ℕ → Status)) × Inv v (returnState k x rest (serviceOf y a) (project s (a .0))) (flatBlock f (a .0))) → Shows s f k a (quietly t u y)
   quiet-shows y c p =
       record {
@@ -143,7 +143,7 @@ module _ (s : Store) (f : List ℕ) (i : Consistent s f) (k : LaneNo) (h : k .0 
       }
 
   -- the last answer
-  close-shows : (v : Service) → s .control ≡ Busy v → v .block .0 ≡ a .0 →
+  pub close-shows : (v : Service) → s .control ≡ Busy v → v .block .0 ≡ a .0 →
       ((w : (ℕ → Status)) × Inv w (returnState k x rest (Of (lowered v)) (project s (a .0))) (flatBlock f (a .0))) → v .awaited ≡ 1 → Shows s f k a (close v t u Free)
   unfolding close
   close-shows v busy q p one =

@@ -82,7 +82,7 @@ pub only-length : (k : LaneNo) → length (only k) ≡ 8
 only-length k = length-set nobody (k .0) true
 
 -- no service
-not-busy : (x : Control) → busyOf x ≡ false → x ≡ Free
+pub not-busy : (x : Control) → busyOf x ≡ false → x ≡ Free
 not-busy Free e = refl
 not-busy (Busy v) e = clash (cc)
 
@@ -144,7 +144,7 @@ module _ (s : Store) (f : List ℕ) (i : Consistent s f) (k : LaneNo) (h : k .0 
       let p = i .block (x .0) block-below in
       (p .0, serve-opens (p .0) (project s (x .0)) (flatBlock f (x .0)) k o (p .1) lane-below waits returned no-service)
 
-  open-shows : Shows s f k x (record { answer = Step; lane = t; block = b; control = Busy v; to = to; message = bareDown (orderOf (o .command)) x })
+  pub open-shows : Shows s f k x (record { answer = Step; lane = t; block = b; control = Busy v; to = to; message = bareDown (orderOf (o .command)) x })
   open-shows =
       record {
         answer = refl;
@@ -170,7 +170,7 @@ module _ (s : Store) (f : List ℕ) (i : Consistent s f) (k : LaneNo) (h : k .0 
       rw (← send-none to (bareDown (orderOf (o .command)) x) served (goes-none to to-length none))
       (close-keeps (opened .0) (serveState k o (project s (x .0))) (flatBlock f (x .0)) v (opened .1) refl none)
 
-  close-shows : countOf to ≡ 0 → Shows s f k x (close v t b (s .control))
+  pub close-shows : countOf to ≡ 0 → Shows s f k x (close v t b (s .control))
   unfolding close
   close-shows none =
       record {

@@ -67,3 +67,9 @@ pub mod LiveDeliver
 pub mod LiveMemory
 pub mod LiveStep
 pub mod LiveSettle
+pub mod LiveLane
+pub mod LiveOwed
+pub mod LiveMove
+pub mod LiveServe
+pub mod LiveReturn
+pub mod LiveKeeps

@@ -1,0 +1,157 @@
+-- An opening gives a live store, and every call keeps a consistent one live; so does every list of calls. Assumes nothing.
+use Prim.Native.Nat.{ℕ, zero, suc, _*_, _<_, _≤_}
+use native.Mathlib.Omega.{arith}
+use mathlib.Core.Path.{_≡_, refl}
+use mathlib.Core.List.{List}
+use lib.Dec.{leb, ltb}
+use Rattle.words.specs.declared.LaneNo.{LaneNo}
+use Rattle.words.specs.declared.WordNo.{WordNo}
+use Rattle.words.specs.declared.BlockNo.{BlockNo}
+use Rattle.words.specs.declared.Op.{Op}
+use Rattle.words.proofs.Folds.{by-cond}
+use Rattle.lanes.specs.declared.Lane.{Lane}
+use Rattle.lanes.specs.UseOrder.{placeAt}
+use Rattle.lanes.specs.Waits.{idleOf}
+use Rattle.answers.specs.declared.Answer.the-variants.{Opened}
+use Rattle.answers.specs.Refusals.{refusedOf}
+use Rattle.store.specs.declared.Store.{Store}
+use Rattle.store.specs.declared.Outcome.{Outcome}
+use Rattle.store.specs.Opening.{blankLane, freshOf, openOf}
+use Rattle.store.specs.Quiet.{noLane, laneAt}
+use Rattle.machine.specs.declared.LaneStep.{LaneStep}
+use Rattle.machine.specs.Change.{withLane, commitLane}
+use Rattle.machine.specs.Begin.{beginLane, beginOf}
+use Rattle.machine.specs.Deliver.{deliverOf}
+use Rattle.machine.specs.Settle.{settleStep, boundOf, Progress, advance, ended, repeatStep, Settlement, settleOf}
+use Rattle.machine.specs.Calls.{Call, Begin, Serve, Return, Deliver, Settle, callOf, run}
+use Rattle.machine.specs.Flat.{flatOf}
+use Rattle.machine.proofs.Tests.{on}
+use Rattle.machine.proofs.Sets.{set-cases}
+use Rattle.machine.proofs.KeepsLane.{clash}
+use Rattle.machine.proofs.Sound.{sound}
+use Rattle.machine.proofs.FallsSettle.{startAt, settle-rule}
+use Rattle.machine.proofs.BlockState.{seen, blockNo}
+use Rattle.machine.proofs.Invariant.{owed}
+use Rattle.machine.proofs.SeenBegin.{begin-case}
+use Rattle.machine.proofs.SeenDeliver.{deliver-case}
+use Rattle.machine.proofs.OuterRun.{run-pays}
+use Rattle.machine.proofs.Consistent.{Consistent, pendingIn, guarded-rule}
+use Rattle.machine.proofs.ConsistentLane.{lane-sized}
+use Rattle.machine.proofs.ConsistentOpen.{each-lane, opened-fresh, open-consistent}
+use Rattle.machine.proofs.ConsistentSettle.{serve-leads, return-leads, deliver-leads}
+use Rattle.machine.proofs.OrderOfMemory.{call-consistent}
+use Rattle.machine.proofs.Live.{LaneLive, Live}
+use Rattle.machine.proofs.LiveLane.{begin-lane-live, deliver-lane-live}
+use Rattle.machine.proofs.LiveOwed.{OwesLess, begin-owed, deliver-owed}
+use Rattle.machine.proofs.LiveServe.{serve-live}
+use Rattle.machine.proofs.LiveReturn.{return-live}
+
+-- nothing is under way in the lanes of an opening
+blank-live : (c : ℕ) → LaneLive c blankLane
+unfolding blankLane
+blank-live c = record { ejects = omega arith; room = refl }
+
+blank-owed : (c : ℕ) (a : BlockNo) → owed (seen c a blankLane) ≤ 1
+unfolding blankLane seen owed
+blank-owed c a = omega arith
+
+past-owed : (c : ℕ) (a : BlockNo) → owed (seen c a noLane) ≤ 1
+unfolding seen owed
+past-owed c a = omega arith
+
+fresh-live : (n c m : ℕ) → Live (freshOf n c m)
+unfolding freshOf
+fresh-live n c m =
+    record {
+      lane = each-lane (LaneLive c) n c m (blank-live c) (record { ejects = omega arith; room = refl });
+      one = λ a _. each-lane (λ (l : Lane). owed (seen c (blockNo a) l) ≤ 1) n c m (blank-owed c (blockNo a)) (past-owed c (blockNo a));
+      awaits = λ v e. clash (cc);
+    }
+
+pub open-live : (n c m : ℕ) → openOf n c m .answer ≡ Opened → Live (openOf n c m .store)
+open-live n c m e = rw (opened-fresh n c m e .1) (fresh-live n c m)
+
+-- a live lane that owes no more, put back
+lane-commits : (s : Store) (k : LaneNo) (r : LaneStep) → Live s → LaneLive (s .c) (r .lane) → OwesLess (s .c) (laneAt s (k .0)) (r .lane) → Live (commitLane s k r .store)
+unfolding commitLane
+lane-commits s k r live h less =
+    by-cond Live (refusedOf (r .answer)) s (withLane s (k .0) (r .lane)) live
+    (record {
+      lane = λ j. set-cases (LaneLive (s .c)) (s .lanes) (k .0) j (r .lane) noLane (λ _. h) (live .lane j);
+      one = λ a b j. set-cases (λ (l : Lane). owed (seen (s .c) (blockNo a) l) ≤ 1) (s .lanes) (k .0) j (r .lane) noLane
+          (λ _. let p = less (blockNo a) in let q = live .one a b (k .0) in omega arith) (live .one a b j);
+      awaits = live .awaits;
+    })
+
+module _ (s : Store) (f : List ℕ) (i : Consistent s f) (k : LaneNo) (h : k .0 < s .n) where
+  oldest-below : placeAt (laneAt s (k .0) .order) 0 .0 < s .c
+  oldest-below = sound s (i .sound) .lane (k .0) h .order .named 0 (sound s (i .sound) .c-low)
+
+  -- what the lane owes after its part of begin
+  begin-less : (op : Op) (w : WordNo) → OwesLess (s .c) (laneAt s (k .0)) (beginLane (s .c) k op w (laneAt s (k .0)) .lane)
+  unfolding beginLane
+  begin-less op w =
+      on (idleOf (laneAt s (k .0) .waiting))
+      (λ e. begin-owed (s .c) k op w (laneAt s (k .0)) _ (begin-case (s .c) k op w (laneAt s (k .0)) (lane-sized s f i (k .0) h) (sound s (i .sound) .c-high) (i .unique (k .0)) oldest-below e))
+      (λ e. rw e (λ a. omega arith))
+
+pub begin-live : (s : Store) (f : List ℕ) (k : LaneNo) (op : Op) (w : WordNo) → Consistent s f → Live s → Live (beginOf s k op w .store)
+unfolding beginOf
+begin-live s f k op w i live =
+    guarded-rule (λ (r : Outcome). Live (r .store)) s k _ (λ _. live)
+    (λ h. by-cond (λ (r : Outcome). Live (r .store)) (leb (4 * s .m) (w .0)) _ _ live
+    (lane-commits s k _ live
+    (begin-lane-live (s .c) k op w (laneAt s (k .0)) (lane-sized s f i (k .0) h) (sound s (i .sound) .c-high) (oldest-below s f i k h) (live .lane (k .0)))
+    (begin-less s f i k h op w)))
+
+pub deliver-live : (s : Store) (f : List ℕ) (k : LaneNo) → Consistent s f → Live s → Live (deliverOf s k .store)
+unfolding deliverOf
+deliver-live s f k i live =
+    guarded-rule (λ (r : Outcome). Live (r .store)) s k _ (λ _. live)
+    (λ h.
+    let z = lane-sized s f i (k .0) h in
+    lane-commits s k _ live (deliver-lane-live (s .c) k (laneAt s (k .0)) z (live .lane (k .0)))
+    (deliver-owed (s .c) k (laneAt s (k .0)) _
+    (deliver-case (s .c) k (laneAt s (k .0)) z (sound s (i .sound) .c-high) (i .unique (k .0)) (sound s (i .sound) .lane (k .0) h .downs .short))))
+
+-- a consistent and live store, with flat memory
+abbrev Running : Store → Type 0
+Running s = (f : List ℕ) × Consistent s f × Live s
+
+-- settle is a list of deliver, return and serve
+step-runs : (s : Store) → Running s → Running (settleStep s .store)
+unfolding settleStep
+step-runs s (f, i, live) =
+    by-cond P (ltb _ (s .n)) _ _ (let r = deliver-leads s f _ i in (r .0, r .1, deliver-live s f _ i live))
+    (by-cond P (ltb _ (s .n)) _ _ (let r = return-leads s f _ i in (r .0, r .1, return-live s f _ i live))
+    (by-cond P (ltb _ (s .n)) _ _ (let r = serve-leads s f _ i in (r .0, r .1, serve-live s f _ i live)) (f, i, live)))
+  where
+    P : Outcome → Type 0
+    P r = Running (r .store)
+
+repeat-runs : (n : ℕ) (p : Progress) → Running (p .store) → Running (repeatStep n p .store)
+unfolding repeatStep advance
+repeat-runs zero p r = r
+repeat-runs (suc n) p r =
+    by-cond (λ (q : Progress). Running (q .store)) (ended p) p (repeatStep n (advance p)) r (repeat-runs n (advance p) (step-runs (p .store) r))
+
+pub settle-step-live : (s : Store) (f : List ℕ) → Consistent s f → Live s → Live (settleStep s .store)
+settle-step-live s f i live = step-runs s (f, i, live) .2
+
+pub settle-live : (s : Store) (f : List ℕ) → Consistent s f → Live s → Live (settleOf s .store)
+settle-live s f i live =
+    settle-rule (λ (r : Settlement). Live (r .store)) s (λ _. live) (λ _ _ _. repeat-runs (suc (boundOf s)) (startAt s) (f, i, live) .2)
+
+pub call-live : (s : Store) (f : List ℕ) (x : Call) → Consistent s f → Live s → Live (callOf s x .store)
+unfolding callOf
+call-live s f (Begin k op w) i live = begin-live s f k op w i live
+call-live s f (Serve k) i live = serve-live s f k i live
+call-live s f (Return k) i live = return-live s f k i live
+call-live s f (Deliver k) i live = deliver-live s f k i live
+call-live s f Settle i live = settle-live s f i live
+
+-- any list of calls from an opening
+pub run-live : (n c m : ℕ) (calls : List Call) → openOf n c m .answer ≡ Opened → Live (run (openOf n c m .store) calls .store)
+run-live n c m calls e =
+    run-pays (λ (s : Store) (f : List ℕ). Consistent s f × Live s) pendingIn (λ s f x r. let q = call-consistent s f x (r .0) in (q .0, (q .1, call-live s f x (r .0) (r .1)), q .2))
+    (openOf n c m .store) (flatOf m) calls (open-consistent n c m e, open-live n c m e) .1 .1
