@@ -5,7 +5,7 @@ use native.Mathlib.Omega.{arith}
 use mathlib.Core.Logic.{_≢_}
 use mathlib.Core.Path.{_≡_, refl, ap, _∙_}
 use mathlib.Core.Bool.{Bool, true, false, _&&_}
-use mathlib.Core.List.{List, _∷_}
+use mathlib.Core.List.{List}
 use borrow.Author.Tests.{eq-eqb, ne-eqb, eqb-true, lt-leb}
 use lib.Dec.{eqb}
 use lib.ListN.{getD, set}
@@ -39,10 +39,11 @@ use Rattle.machine.proofs.Tests.{and-never}
 use Rattle.machine.proofs.Sets.{pick, set-cases}
 use Rattle.machine.proofs.Sound.{sound}
 use Rattle.machine.proofs.BlockState.{keepIf, returnAbout, seen}
-use Rattle.machine.proofs.Queued.{returnsIn, take-returns, keep-head}
+use Rattle.machine.proofs.Queued.{returnsIn}
 use Rattle.machine.proofs.Invariant.{answerCount, owed}
 use Rattle.machine.proofs.Consistent.{Consistent}
-use Rattle.machine.proofs.ConsistentLane.{lane-below, lane-sized}
+use Rattle.machine.proofs.ConsistentLane.{lane-below}
+use Rattle.machine.proofs.ConsistentReturn.{has-head}
 use Rattle.machine.proofs.LiveAwaited.{Awaited, owed-awaited}
 use Rattle.machine.proofs.LiveDeliver.{guarded-goes}
 
@@ -83,18 +84,12 @@ module _ (s : Store) (empty : (j : ℕ) → laneAt s j .downs .len ≡ 0) where
       abbrev rest : List ReturnMessage
       rest = keepIf (returnAbout a) (returnsIn (takeReturn (l .returns) .queue))
 
-      has-head : seen (s .c) a l .returns ≡ x ∷ rest
-      unfolding seen
-      has-head =
-          let e = take-returns (l .returns) (lane-sized s f i (k .0) h .returns) filled (sound s (i .sound) .lane (k .0) h .returns .short) in
-          ap (keepIf (returnAbout a)) e ∙ keep-head (returnAbout a) x (returnsIn (takeReturn (l .returns) .queue)) (eq-eqb (a .0) (a .0) refl)
-
       -- an answer is owed, so a service awaits it
       answer-awaited : isAnswer (x .kind) ≡ true → Awaited s (a .0)
       unfolding owed
       answer-awaited e =
           owed-awaited s f i (a .0) (sound s (i .sound) .lane (k .0) h .returns .inside 0 (omega (arith, filled))) (k .0) (lane-below s f i (k .0) h)
-          (λ z. let n : answerCount (seen (s .c) a l .returns) ≡ 1 + answerCount rest = rw (has-head, e) in absurd (omega arith))
+          (λ z. let n : answerCount (seen (s .c) a l .returns) ≡ 1 + answerCount rest = rw (has-head s f i k h filled, e) in absurd (omega arith))
 
       -- .. and counts it, or closes
       answer-goes : (t : Lane) (u : Block) → t .downs .len ≡ 0 → Awaited s (a .0) → Goes (answered (answerOf (s .control) a) l b (s .control) t u)

@@ -28,6 +28,7 @@ use Rattle.machine.proofs.ConsistentSettle.{serve-leads, return-leads, 
 use Rattle.machine.proofs.OrderOfMemory.{reaches, order-of-memory}
 use Rattle.machine.proofs.Live.{Live}
 use Rattle.machine.proofs.LiveSpare.{Spare, open-spare, step-spare, run-spare}
+use Rattle.machine.proofs.LiveKeeps.{settle-step-live, run-live}
 use Rattle.machine.proofs.LiveStep.{step-goes}
 
 -- what a store has on which settle is never refused
@@ -51,62 +52,61 @@ settle-steps : (s : Store) → corruptOf s ≡ false → refusedOf (lastOf s .an
 unfolding settleOf
 settle-steps s e h q = rw e (unless-goes (lastOf s .answer) s (reached s (lastOf s)) h ∙ rw q)
 
-module _ (settle-step-live : (s : Store) (f : List ℕ) → Consistent s f → Live s → Live (settleStep s .store))
-    (run-live : (n c m : ℕ) (calls : List Call) → openOf n c m .answer ≡ Opened → Live (run (openOf n c m .store) calls .store)) where
-  step-consistent : (s : Store) (f : List ℕ) → Consistent s f → (g : List ℕ) × Consistent (settleStep s .store) g
-  unfolding settleStep
-  step-consistent s f i =
-      by-cond P (ltb _ (s .n)) _ _ (let r = deliver-leads s f _ i in (r .0, r .1))
-      (by-cond P (ltb _ (s .n)) _ _ (let r = return-leads s f _ i in (r .0, r .1)) (by-cond P (ltb _ (s .n)) _ _ (let r = serve-leads s f _ i in (r .0, r .1)) (f, i)))
-    where
-      P : Outcome → Type 0
-      P r = (g : List ℕ) × Consistent (r .store) g
+-- a step of settle, which is deliver, return or serve
+step-consistent : (s : Store) (f : List ℕ) → Consistent s f → (g : List ℕ) × Consistent (settleStep s .store) g
+unfolding settleStep
+step-consistent s f i =
+    by-cond P (ltb _ (s .n)) _ _ (let r = deliver-leads s f _ i in (r .0, r .1))
+    (by-cond P (ltb _ (s .n)) _ _ (let r = return-leads s f _ i in (r .0, r .1)) (by-cond P (ltb _ (s .n)) _ _ (let r = serve-leads s f _ i in (r .0, r .1)) (f, i)))
+  where
+    P : Outcome → Type 0
+    P r = (g : List ℕ) × Consistent (r .store) g
 
-  step-lively : (s : Store) → Lively s → Lively (settleStep s .store)
-  step-lively s l =
-      let r = step-consistent s (l .flat) (l .consistent) in
-      record { flat = r .0; consistent = r .1; live = settle-step-live s (l .flat) (l .consistent) (l .live); spare = step-spare s (l .spare) }
+step-lively : (s : Store) → Lively s → Lively (settleStep s .store)
+step-lively s l =
+    let r = step-consistent s (l .flat) (l .consistent) in
+    record { flat = r .0; consistent = r .1; live = settle-step-live s (l .flat) (l .consistent) (l .live); spare = step-spare s (l .spare) }
 
-  -- no step is refused
-  repeat-goes : (n : ℕ) (p : Progress) → refusedOf (p .answer) ≡ false → Lively (p .store) → refusedOf (repeatStep n p .answer) ≡ false
-  unfolding repeatStep advance ended
-  repeat-goes zero p e l = e
-  repeat-goes (suc n) p e l =
-      pick (λ (r : Progress). refusedOf (r .answer) ≡ false) (ended p) p (repeatStep n (advance p)) (λ _. e)
-      (λ q. repeat-goes n (advance p)
-      (step-goes (p .store) (l .flat) (l .consistent) (l .live) (l .spare) (or-right (refusedOf (p .answer)) (quietOf (p .store)) q))
-      (step-lively (p .store) l))
+-- no step is refused
+repeat-goes : (n : ℕ) (p : Progress) → refusedOf (p .answer) ≡ false → Lively (p .store) → refusedOf (repeatStep n p .answer) ≡ false
+unfolding repeatStep advance ended
+repeat-goes zero p e l = e
+repeat-goes (suc n) p e l =
+    pick (λ (r : Progress). refusedOf (r .answer) ≡ false) (ended p) p (repeatStep n (advance p)) (λ _. e)
+    (λ q. repeat-goes n (advance p)
+    (step-goes (p .store) (l .flat) (l .consistent) (l .live) (l .spare) (or-right (refusedOf (p .answer)) (quietOf (p .store)) q))
+    (step-lively (p .store) l))
 
-  pub settle-goes : (s : Store) → Lively s → Settles s
-  settle-goes s l =
-      let e = l .consistent .sound in
-      let h = repeat-goes (suc (boundOf s)) (startAt s) refl l in
-      let q = last-quiet s e (l .consistent .sized) h in
-      let z = settle-steps s e h q in
-      record { count = lastOf s .count; answer = ap (λ (r : Settlement). r .answer) z; quiet = ap (λ (r : Settlement). quietOf (r .store)) z ∙ q }
+pub settle-goes : (s : Store) → Lively s → Settles s
+settle-goes s l =
+    let e = l .consistent .sound in
+    let h = repeat-goes (suc (boundOf s)) (startAt s) refl l in
+    let q = last-quiet s e (l .consistent .sized) h in
+    let z = settle-steps s e h q in
+    record { count = lastOf s .count; answer = ap (λ (r : Settlement). r .answer) z; quiet = ap (λ (r : Settlement). quietOf (r .store)) z ∙ q }
 
-  -- what any list of calls reaches
-  run-lively : (n c m : ℕ) (calls : List Call) → openOf n c m .answer ≡ Opened → Lively (run (openOf n c m .store) calls .store)
-  run-lively n c m calls e =
-      let r = reaches n c m calls e in
-      record { flat = r .0; consistent = r .1 .consistent; live = run-live n c m calls e; spare = run-spare (openOf n c m .store) calls (open-spare n c m) }
+-- what any list of calls reaches
+run-lively : (n c m : ℕ) (calls : List Call) → openOf n c m .answer ≡ Opened → Lively (run (openOf n c m .store) calls .store)
+run-lively n c m calls e =
+    let r = reaches n c m calls e in
+    record { flat = r .0; consistent = r .1 .consistent; live = run-live n c m calls e; spare = run-spare (openOf n c m .store) calls (open-spare n c m) }
 
-  -- settle is never refused, and leaves a quiet store
-  pub always-settles : AlwaysSettles
-  always-settles n c m calls e = settle-goes (run (openOf n c m .store) calls .store) (run-lively n c m calls e)
+-- settle is never refused, and leaves a quiet store
+pub always-settles : AlwaysSettles
+always-settles n c m calls e = settle-goes (run (openOf n c m .store) calls .store) (run-lively n c m calls e)
 
-  -- a list of calls and then another
-  run-more : (s : Store) (xs ys : List Call) → run s (xs ++ ys) .store ≡ run (run s xs .store) ys .store
-  unfolding run
-  run-more s [] ys = refl
-  run-more s (x ∷ xs) ys = run-more (callOf s x .store) xs ys
+-- a list of calls and then another
+run-more : (s : Store) (xs ys : List Call) → run s (xs ++ ys) .store ≡ run (run s xs .store) ys .store
+unfolding run
+run-more s [] ys = refl
+run-more s (x ∷ xs) ys = run-more (callOf s x .store) xs ys
 
-  settled-quiet : (n c m : ℕ) (calls : List Call) → openOf n c m .answer ≡ Opened → quietOf (run (openOf n c m .store) (calls ++ (Settle ∷ [])) .store) ≡ true
-  unfolding run callOf
-  settled-quiet n c m calls e = ap quietOf (run-more (openOf n c m .store) calls (Settle ∷ [])) ∙ always-settles n c m calls e .quiet
+settled-quiet : (n c m : ℕ) (calls : List Call) → openOf n c m .answer ≡ Opened → quietOf (run (openOf n c m .store) (calls ++ (Settle ∷ [])) .store) ≡ true
+unfolding run callOf
+settled-quiet n c m calls e = ap quietOf (run-more (openOf n c m .store) calls (Settle ∷ [])) ∙ always-settles n c m calls e .quiet
 
-  -- after any list of calls and a settle, every operation begun has completed
-  pub all-complete : (n c m : ℕ) (calls : List Call) → openOf n c m .answer ≡ Opened →
-      (b : Begun) → List·Memᴰ b (begun (run (openOf n c m .store) (calls ++ (Settle ∷ [])) .history)) →
-      List·Memᴰ b (operations (run (openOf n c m .store) (calls ++ (Settle ∷ [])) .history))
-  all-complete n c m calls e = order-of-memory n c m (calls ++ (Settle ∷ [])) e .when-quiet (settled-quiet n c m calls e) .all-completed
+-- after any list of calls and a settle, every operation begun has completed
+pub all-complete : (n c m : ℕ) (calls : List Call) → openOf n c m .answer ≡ Opened →
+    (b : Begun) → List·Memᴰ b (begun (run (openOf n c m .store) (calls ++ (Settle ∷ [])) .history)) →
+    List·Memᴰ b (operations (run (openOf n c m .store) (calls ++ (Settle ∷ [])) .history))
+all-complete n c m calls e = order-of-memory n c m (calls ++ (Settle ∷ [])) e .when-quiet (settled-quiet n c m calls e) .all-completed

@@ -2,12 +2,11 @@
 -- goes to one. Assumes nothing.
 use Prim.Native.Nat.{ℕ, zero, suc, _*_, _<_, _≤_}
 use native.Mathlib.Omega.{arith}
-use mathlib.Core.Logic.{_⊎_, inl, inr}
 use mathlib.Core.Path.{_≡_, refl, sym, ap, _∙_}
 use mathlib.Core.Bool.{Bool, true, false}
 use mathlib.Core.List.{List, [], _∷_}
 use lib.Dec.{leb, ltb, eqb}
-use lib.ListN.{length, getD, set, replicate, getD-replicate, List·getD-eq-default}
+use lib.ListN.{getD, set}
 use lib.Seq.{getD-set-other}
 use Rattle.words.specs.declared.LaneNo.{LaneNo}
 use Rattle.words.specs.declared.BlockNo.{BlockNo}
@@ -15,7 +14,7 @@ use Rattle.words.specs.declared.WordNo.{WordNo}
 use Rattle.words.specs.declared.Op.{Op}
 use Rattle.words.specs.Units.{blockOf}
 use Rattle.words.specs.Folds.{upTo}
-use Rattle.words.proofs.Folds.{below?, by-cond}
+use Rattle.words.proofs.Folds.{by-cond}
 use Rattle.queues.specs.declared.ReturnMessage.{ReturnMessage}
 use Rattle.queues.specs.declared.DownMessage.{DownMessage}
 use Rattle.queues.specs.Queues.{emptyAt, headReturn, takeReturn}
@@ -55,6 +54,7 @@ use Rattle.machine.proofs.KeepsStore.{guarded-keeps}
 use Rattle.machine.proofs.Sound.{BlockSound, ControlSound, sound}
 use Rattle.machine.proofs.Directories.{nobody-none}
 use Rattle.machine.proofs.Project.{movedStore}
+use Rattle.machine.proofs.ConsistentOpen.{each-lane}
 use Rattle.machine.proofs.FallsSettle.{startAt, settle-rule}
 
 -- a lane that has no messages
@@ -72,12 +72,7 @@ unfolding blankLane
 blank-empty = record { returns = refl; downs = refl }
 
 fresh-spare : (n c m : ℕ) → Spare (freshOf n c m)
-unfolding freshOf
-fresh-spare n c m j _ = go (below? j 8)
-  where
-    go : (j < 8) ⊎ (8 ≤ j) → Empty (getD (replicate 8 blankLane) j noLane)
-    go (inl h) = rw (getD-replicate 8 j blankLane noLane h) blank-empty
-    go (inr h) = let p : length (replicate 8 blankLane) ≤ j = h in rw (List·getD-eq-default (replicate 8 blankLane) noLane p) (record { returns = refl; downs = refl })
+fresh-spare n c m j _ = each-lane Empty n c m blank-empty (record { returns = refl; downs = refl }) j
 
 pub open-spare : (n c m : ℕ) → Spare (openOf n c m .store)
 unfolding openOf
