@@ -107,11 +107,12 @@ reply-goes y l h = rw (lt-leb 2 (l .returns .len) h)
 
 -- what an operation waits for is held, or there is a line that is not valid
 room-vacant : (c : ℕ) (l : Lane) (o : Operation) → hasRoom c l (Served o) ≡ true → searchOf l c (blockOf (o .word)) ≡ Nothing → vacantOf l c ≢ Nothing
-room-vacant c l o r e n =
-    let z : hasRoom c l (Served o) ≡ false =
-          any-never (λ i. not (getD (l .lines) i noLine .valid) || holdsOf (getD (l .lines) i noLine) (blockOf (o .word))) c
-          (λ i h. or-never _ _ (ap not (all-valid l c n i h)) (none-holds c l (blockOf (o .word)) e i h)) in
-    clash (cc)
+room-vacant c l o r e n = clash (cc (none))
+  where
+    none : hasRoom c l (Served o) ≡ false
+    none =
+        any-never (λ i. not (getD (l .lines) i noLine .valid) || holdsOf (getD (l .lines) i noLine) (blockOf (o .word))) c
+        (λ i h. or-never _ _ (ap not (all-valid l c n i h)) (none-holds c l (blockOf (o .word)) e i h))
 
 -- a line that is not held is not found, and one that is held is
 status-none : (c : ℕ) (a : BlockNo) (l : Lane) → seen c a l .line ≡ Invalid → searchOf l c a ≡ Nothing

@@ -77,6 +77,7 @@ repeat-goes (suc n) p e l =
     (step-goes (p .store) (l .flat) (l .consistent) (l .live) (l .spare) (or-right (refusedOf (p .answer)) (quietOf (p .store)) q))
     (step-lively (p .store) l))
 
+-- so settle answers with its count, and the store is then quiet
 pub settle-goes : (s : Store) → Lively s → Settles s
 settle-goes s l =
     let e = l .consistent .sound in
