@@ -62,6 +62,12 @@ pub mod ShapeKeeps
 pub mod Updates
 pub mod Live
 pub mod Theorems
+pub mod LiveSpare
+pub mod LiveAwaited
+pub mod LiveDeliver
+pub mod LiveMemory
+pub mod LiveStep
+pub mod LiveSettle
 pub mod LiveLane
 pub mod LiveOwed
 pub mod LiveMove

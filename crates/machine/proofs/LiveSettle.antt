@@ -1,0 +1,113 @@
+-- Settle is never refused after any list of calls from an opening, and leaves a quiet store; so every operation begun completes. What
+-- it says is in specs/Completion.antt. Assumes nothing.
+use Prim.Native.Nat.{ℕ, zero, suc}
+use mathlib.Core.Path.{_≡_, refl, ap, _∙_}
+use mathlib.Core.Bool.{true, false}
+use mathlib.Core.List.{List, [], _∷_, _++_, List·Memᴰ}
+use lib.Dec.{ltb}
+use Rattle.words.proofs.Folds.{by-cond, or-right}
+use Rattle.answers.specs.declared.Answer.{Answer}
+use Rattle.answers.specs.declared.Answer.the-variants.{Opened, Done, Wait, Step}
+use Rattle.answers.specs.Refusals.{refusedOf}
+use Rattle.store.specs.declared.Store.{Store}
+use Rattle.store.specs.declared.Outcome.{Outcome}
+use Rattle.store.specs.Opening.{openOf}
+use Rattle.store.specs.Quiet.{quietOf}
+use Rattle.machine.specs.declared.Settled.the-variants.{Steps}
+use Rattle.machine.specs.Corruption.{corruptOf}
+use Rattle.machine.specs.Settle.{settleStep, boundOf, Progress, advance, ended, repeatStep, Settlement, unlessRefused, reached, settleOf}
+use Rattle.machine.specs.Calls.{Call, Settle, callOf, run}
+use Rattle.machine.specs.Attribution.{Begun}
+use Rattle.machine.specs.Demand3.{begun, operations}
+use Rattle.machine.specs.Completion.{Settles, AlwaysSettles}
+use Rattle.machine.proofs.KeepsLane.{clash}
+use Rattle.machine.proofs.Sets.{pick}
+use Rattle.machine.proofs.FallsSettle.{startAt, lastOf, last-quiet}
+use Rattle.machine.proofs.Consistent.{Consistent}
+use Rattle.machine.proofs.ConsistentSettle.{serve-leads, return-leads, deliver-leads}
+use Rattle.machine.proofs.OrderOfMemory.{reaches, order-of-memory}
+use Rattle.machine.proofs.Live.{Live}
+use Rattle.machine.proofs.LiveSpare.{Spare, open-spare, step-spare, run-spare}
+use Rattle.machine.proofs.LiveKeeps.{settle-step-live, run-live}
+use Rattle.machine.proofs.LiveStep.{step-goes}
+
+-- what a store has on which settle is never refused
+pub record Lively (s : Store) : Type 0 where
+  pub flat : List ℕ
+  pub consistent : Consistent s flat
+  pub live : Live s
+  pub spare : Spare s
+
+-- an answer that is no refusal
+unless-goes : (a : Answer) (s : Store) (r : Settlement) → refusedOf a ≡ false → unlessRefused a s r ≡ r
+unless-goes Opened s r e = refl
+unless-goes (Done x) s r e = refl
+unless-goes Wait s r e = refl
+unless-goes Step s r e = refl
+unless-goes (Answer.Refused n) s r e = clash (cc)
+
+-- a settle of which no step is refused
+settle-steps : (s : Store) → corruptOf s ≡ false → refusedOf (lastOf s .answer) ≡ false → quietOf (lastOf s .store) ≡ true →
+    settleOf s ≡ record { answer = Steps (lastOf s .count); completions = lastOf s .completions; store = lastOf s .store }
+unfolding settleOf
+settle-steps s e h q = rw e (unless-goes (lastOf s .answer) s (reached s (lastOf s)) h ∙ rw q)
+
+-- a step of settle, which is deliver, return or serve
+step-consistent : (s : Store) (f : List ℕ) → Consistent s f → (g : List ℕ) × Consistent (settleStep s .store) g
+unfolding settleStep
+step-consistent s f i =
+    by-cond P (ltb _ (s .n)) _ _ (let r = deliver-leads s f _ i in (r .0, r .1))
+    (by-cond P (ltb _ (s .n)) _ _ (let r = return-leads s f _ i in (r .0, r .1)) (by-cond P (ltb _ (s .n)) _ _ (let r = serve-leads s f _ i in (r .0, r .1)) (f, i)))
+  where
+    P : Outcome → Type 0
+    P r = (g : List ℕ) × Consistent (r .store) g
+
+step-lively : (s : Store) → Lively s → Lively (settleStep s .store)
+step-lively s l =
+    let r = step-consistent s (l .flat) (l .consistent) in
+    record { flat = r .0; consistent = r .1; live = settle-step-live s (l .flat) (l .consistent) (l .live); spare = step-spare s (l .spare) }
+
+-- no step is refused
+repeat-goes : (n : ℕ) (p : Progress) → refusedOf (p .answer) ≡ false → Lively (p .store) → refusedOf (repeatStep n p .answer) ≡ false
+unfolding repeatStep advance ended
+repeat-goes zero p e l = e
+repeat-goes (suc n) p e l =
+    pick (λ (r : Progress). refusedOf (r .answer) ≡ false) (ended p) p (repeatStep n (advance p)) (λ _. e)
+    (λ q. repeat-goes n (advance p)
+    (step-goes (p .store) (l .flat) (l .consistent) (l .live) (l .spare) (or-right (refusedOf (p .answer)) (quietOf (p .store)) q))
+    (step-lively (p .store) l))
+
+-- so settle answers with its count, and the store is then quiet
+pub settle-goes : (s : Store) → Lively s → Settles s
+settle-goes s l =
+    let e = l .consistent .sound in
+    let h = repeat-goes (suc (boundOf s)) (startAt s) refl l in
+    let q = last-quiet s e (l .consistent .sized) h in
+    let z = settle-steps s e h q in
+    record { count = lastOf s .count; answer = ap (λ (r : Settlement). r .answer) z; quiet = ap (λ (r : Settlement). quietOf (r .store)) z ∙ q }
+
+-- what any list of calls reaches
+run-lively : (n c m : ℕ) (calls : List Call) → openOf n c m .answer ≡ Opened → Lively (run (openOf n c m .store) calls .store)
+run-lively n c m calls e =
+    let r = reaches n c m calls e in
+    record { flat = r .0; consistent = r .1 .consistent; live = run-live n c m calls e; spare = run-spare (openOf n c m .store) calls (open-spare n c m) }
+
+-- settle is never refused, and leaves a quiet store
+pub always-settles : AlwaysSettles
+always-settles n c m calls e = settle-goes (run (openOf n c m .store) calls .store) (run-lively n c m calls e)
+
+-- a list of calls and then another
+run-more : (s : Store) (xs ys : List Call) → run s (xs ++ ys) .store ≡ run (run s xs .store) ys .store
+unfolding run
+run-more s [] ys = refl
+run-more s (x ∷ xs) ys = run-more (callOf s x .store) xs ys
+
+settled-quiet : (n c m : ℕ) (calls : List Call) → openOf n c m .answer ≡ Opened → quietOf (run (openOf n c m .store) (calls ++ (Settle ∷ [])) .store) ≡ true
+unfolding run callOf
+settled-quiet n c m calls e = ap quietOf (run-more (openOf n c m .store) calls (Settle ∷ [])) ∙ always-settles n c m calls e .quiet
+
+-- after any list of calls and a settle, every operation begun has completed
+pub all-complete : (n c m : ℕ) (calls : List Call) → openOf n c m .answer ≡ Opened →
+    (b : Begun) → List·Memᴰ b (begun (run (openOf n c m .store) (calls ++ (Settle ∷ [])) .history)) →
+    List·Memᴰ b (operations (run (openOf n c m .store) (calls ++ (Settle ∷ [])) .history))
+all-complete n c m calls e = order-of-memory n c m (calls ++ (Settle ∷ [])) e .when-quiet (settled-quiet n c m calls e) .all-completed
