@@ -2,14 +2,22 @@
 --
 -- The supply contract's sentence: a lane reads the last word stored, in every order in which the lanes' messages reach the
 -- controller. Assumes nothing.
-use Prim.Native.Nat.{ℕ}
+use Prim.Native.Nat.{ℕ, _≤_}
 use mathlib.Core.Path.{_≡_}
-use mathlib.Core.List.{List}
+use mathlib.Core.List.{List, [], _∷_, _++_, List·Memᴰ}
 use Rattle.answers.specs.declared.Answer.the-variants.{Opened}
+use Rattle.store.specs.declared.Store.{Store}
 use Rattle.store.specs.Opening.{openOf}
-use Rattle.machine.specs.Calls.{Call, run}
-use Rattle.machine.specs.Demand3.{Coherent}
+use Rattle.machine.specs.declared.Settled.the-variants.{Steps}
+use Rattle.machine.specs.Settle.{boundOf, settleOf}
+use Rattle.machine.specs.Calls.{Call, Settle, run}
+use Rattle.machine.specs.Attribution.{Begun}
+use Rattle.machine.specs.Demand3.{Coherent, begun, operations}
+use Rattle.machine.specs.Completion.{Settles}
+use Rattle.machine.proofs.Sized.{Sized}
+use Rattle.machine.proofs.FallsSettle.{settle-count}
 use Rattle.machine.proofs.OrderOfMemory.{order-of-memory}
+use Rattle.machine.proofs.LiveSettle.{always-settles, all-complete}
 
 -- Demand 3: the order of completion is the order of memory.
 --
@@ -32,3 +40,19 @@ use Rattle.machine.proofs.OrderOfMemory.{order-of-memory}
 pub demand-3 : (n c m : ℕ) (calls : List Call) → openOf n c m .answer ≡ Opened →
     Coherent n c m (run (openOf n c m .store) calls .history) (run (openOf n c m .store) calls .store)
 demand-3 = order-of-memory
+
+-- Beside demand 3: settle never fails. After any list of calls from any opening, settle is answered with its count (no 12, no 16), and
+-- nothing is under way after it (`Settles`, specs/Completion.antt).
+pub settle-succeeds : (n c m : ℕ) (calls : List Call) → openOf n c m .answer ≡ Opened → Settles (run (openOf n c m .store) calls .store)
+settle-succeeds = always-settles
+
+-- .. so that every operation that was begun completes: after any list of calls and one settle there is none that has not.
+pub begun-completes : (n c m : ℕ) (calls : List Call) → openOf n c m .answer ≡ Opened → (b : Begun) →
+    List·Memᴰ b (begun (run (openOf n c m .store) (calls ++ (Settle ∷ [])) .history)) →
+    List·Memᴰ b (operations (run (openOf n c m .store) (calls ++ (Settle ∷ [])) .history))
+begun-completes = all-complete
+
+-- 01's bound: the count of a settle that isn't refused is at most R + G + 2 × Q + S + 2 × n × U (`boundOf`, specs/Settle.antt), on every
+-- store, be it one that no opening gives; its arrays have their declared lengths, as every store of the program has.
+pub settle-bound : (s : Store) → Sized s → (count : ℕ) → settleOf s .answer ≡ Steps count → count ≤ boundOf s
+settle-bound = settle-count

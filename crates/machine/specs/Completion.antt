@@ -1,5 +1,6 @@
 -- Beside demand 3: from an opening, after any list of calls, settle is not refused (never 12, never 16), and the store is quiet
--- after it; so, by demand 3, every operation begun completes. This file only states it. Assumes nothing.
+-- after it; so, by demand 3, every operation begun completes. This file only states it; proofs/Theorems.antt has the theorem.
+-- Assumes nothing.
 use Prim.Native.Nat.{ℕ}
 use mathlib.Core.Path.{_≡_}
 use mathlib.Core.Bool.{true}
