@@ -43,7 +43,7 @@ deliver-leads s f k i =
     let w = sized-whole s (sound s (i .sound) .n-high) (i .sized) in
     (r .flat, record { sound = deliver-keeps s k (i .sound) w; sized = deliver-sized s k (i .sized); unique = r .unique; block = r .block }, r .completes)
 
-step-leads : (s : Store) (f : List ℕ) → Consistent s f → Leads s f (doneIn (settleStep s .answer)) (settleStep s .store)
+pub step-leads : (s : Store) (f : List ℕ) → Consistent s f → Leads s f (doneIn (settleStep s .answer)) (settleStep s .store)
 unfolding settleStep
 step-leads s f i =
     by-cond P (ltb _ (s .n)) _ _ (deliver-leads s f _ i)

@@ -71,7 +71,7 @@ close-keeps h n c m v l b x p q f g y =
     }
 
 -- an order goes to no lane that there is not, and not to k itself
-ordered-absent : (n : ℕ) (b : Block) (k : LaneNo) (x : Command) → BlockSound n b → (j : ℕ) → n ≤ j → j < 8 → goesTo (ordered b k x) j ≡ false
+pub ordered-absent : (n : ℕ) (b : Block) (k : LaneNo) (x : Command) → BlockSound n b → (j : ℕ) → n ≤ j → j < 8 → goesTo (ordered b k x) j ≡ false
 unfolding ordered
 ordered-absent n b k x g j p l =
     by-cond (λ (r : List Bool). getD r j false ≡ false) (sendsOf x (b .modified)) _ _ (reset-absent n (k .0) (b .present) (g .absent) j p l) (nobody-absent j l)

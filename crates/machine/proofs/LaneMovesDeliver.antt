@@ -56,7 +56,7 @@ record AnswerFits (f : List ℕ) (n : DownKind) (x y : Status) (us : List ℕ) (
 
 module _ (v : ℕ → Status) (b : BlockState) (f : List ℕ) (k : ℕ) where
   -- what is due where a message of kind n is at the head
-  head-due : (n : DownKind) (m : DownMessage) (rest : List DownMessage) (i : Inv v b f) → b .lane k .downs ≡ m ∷ rest → m .kind ≡ n →
+  pub head-due : (n : DownKind) (m : DownMessage) (rest : List DownMessage) (i : Inv v b f) → b .lane k .downs ≡ m ∷ rest → m .kind ≡ n →
       DueHead (b .lane k .waiting) (b .lane k .line) n rest (i .chain k .meet)
   head-due n m rest i e q =
       subst (λ (t : DownKind). DueHead (b .lane k .waiting) (b .lane k .line) t rest (i .chain k .meet)) q

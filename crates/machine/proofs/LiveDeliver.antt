@@ -3,7 +3,7 @@
 use Prim.Native.Nat.{ℕ, zero, suc, _+_, _<_, _≤_}
 use native.Mathlib.Omega.{arith}
 use mathlib.Core.Logic.{_⊎_, inl, inr, _≢_}
-use mathlib.Core.Path.{_≡_, refl, sym, ap, _∙_, subst}
+use mathlib.Core.Path.{_≡_, refl, sym, ap, _∙_}
 use mathlib.Core.Bool.{Bool, true, false, cond, not, _||_}
 use mathlib.Core.List.{List, [], _∷_}
 use borrow.Author.Tests.{eq-eqb, eqb-true, lt-leb}
@@ -47,10 +47,10 @@ use Rattle.machine.proofs.Counts.{step-most}
 use Rattle.machine.proofs.KeepsLane.{clash}
 use Rattle.machine.proofs.KeepsBegin.{all-valid}
 use Rattle.machine.proofs.Sound.{sound}
-use Rattle.machine.proofs.BlockState.{Status, Invalid, held, Seen, keepIf, returnAbout, downAbout, waitingOn, seen, blockNo, project}
+use Rattle.machine.proofs.BlockState.{Invalid, held, keepIf, returnAbout, downAbout, waitingOn, seen, blockNo, project}
 use Rattle.machine.proofs.Queued.{returnsIn, downsIn, take-downs, keep-head}
-use Rattle.machine.proofs.Invariant.{Chain, DueHead, Due, answerCount, orderCount, grantCount, servedCount, owed}
-use Rattle.machine.proofs.LaneMovesDeliver.{bare-held}
+use Rattle.machine.proofs.Invariant.{answerCount, orderCount, grantCount, servedCount, owed}
+use Rattle.machine.proofs.LaneMovesDeliver.{head-due, bare-held}
 use Rattle.machine.proofs.Searches.{same-block, none-holds}
 use Rattle.machine.proofs.SeenBegin.{held-line}
 use Rattle.machine.proofs.Consistent.{Consistent}
@@ -130,12 +130,6 @@ status-found c a l e q = clash (cc (rw q at e))
 -- an unserved operation is served on no block
 unserved-none : (o : Operation) (a : BlockNo) → servedCount (waitingOn a (Unserved o)) ≡ 0
 unserved-none o a = by-cond (λ (w : Waiting). servedCount w ≡ 0) (eqb (blockOf (o .word) .0) (a .0)) _ _ refl refl
-
--- a grant with words goes to a line that is not held
-grant-line : (v : Status) (l : Seen) (m : DownMessage) (rest : List DownMessage) → Chain v l → l .downs ≡ m ∷ rest → m .kind ≡ Grant → l .line ≡ Invalid
-grant-line v l m rest c e q =
-    subst (λ (n : DownKind). DueHead (l .waiting) (l .line) n rest (c .meet)) q
-    (subst (λ (d : List DownMessage). Due (l .waiting) (l .line) d (c .meet)) e (c .due)) .0
 
 module _ (s : Store) (f : List ℕ) (i : Consistent s f) (live : Live s) (k : LaneNo) (h : k .0 < s .n) (filled : laneAt s (k .0) .downs .len ≢ 0) where
   abbrev l : Lane
@@ -234,7 +228,7 @@ module _ (s : Store) (f : List ℕ) (i : Consistent s f) (live : Live s) (k : La
     words-goes q r e = go r (sym e ∙ none)
       where
         none : searchOf l (s .c) a ≡ Nothing
-        none = status-none (s .c) a l (grant-line _ _ x rest (i .block (a .0) block-below .1 .chain (k .0)) has-head q)
+        none = status-none (s .c) a l (head-due _ (project s (a .0)) (flatBlock f (a .0)) (k .0) Grant x rest (i .block (a .0) block-below .1) has-head q .0)
 
         go : (r : Found) → r ≡ Nothing → refusedOf (grantAt r (s .c) k x o t .answer) ≡ false
         go (At j) z = clash (cc)

@@ -4,13 +4,11 @@ use Prim.Native.Nat.{ℕ, zero, suc}
 use mathlib.Core.Path.{_≡_, refl, ap, _∙_}
 use mathlib.Core.Bool.{true, false}
 use mathlib.Core.List.{List, [], _∷_, _++_, List·Memᴰ}
-use lib.Dec.{ltb}
-use Rattle.words.proofs.Folds.{by-cond, or-right}
+use Rattle.words.proofs.Folds.{or-right}
 use Rattle.answers.specs.declared.Answer.{Answer}
 use Rattle.answers.specs.declared.Answer.the-variants.{Opened, Done, Wait, Step}
 use Rattle.answers.specs.Refusals.{refusedOf}
 use Rattle.store.specs.declared.Store.{Store}
-use Rattle.store.specs.declared.Outcome.{Outcome}
 use Rattle.store.specs.Opening.{openOf}
 use Rattle.store.specs.Quiet.{quietOf}
 use Rattle.machine.specs.declared.Settled.the-variants.{Steps}
@@ -24,7 +22,7 @@ use Rattle.machine.proofs.KeepsLane.{clash}
 use Rattle.machine.proofs.Sets.{pick}
 use Rattle.machine.proofs.FallsSettle.{startAt, lastOf, last-quiet}
 use Rattle.machine.proofs.Consistent.{Consistent}
-use Rattle.machine.proofs.ConsistentSettle.{serve-leads, return-leads, deliver-leads}
+use Rattle.machine.proofs.ConsistentSettle.{step-leads}
 use Rattle.machine.proofs.OrderOfMemory.{reaches, order-of-memory}
 use Rattle.machine.proofs.Live.{Live}
 use Rattle.machine.proofs.LiveSpare.{Spare, open-spare, step-spare, run-spare}
@@ -52,19 +50,10 @@ settle-steps : (s : Store) → corruptOf s ≡ false → refusedOf (lastOf s .an
 unfolding settleOf
 settle-steps s e h q = rw e (unless-goes (lastOf s .answer) s (reached s (lastOf s)) h ∙ rw q)
 
--- a step of settle, which is deliver, return or serve
-step-consistent : (s : Store) (f : List ℕ) → Consistent s f → (g : List ℕ) × Consistent (settleStep s .store) g
-unfolding settleStep
-step-consistent s f i =
-    by-cond P (ltb _ (s .n)) _ _ (let r = deliver-leads s f _ i in (r .0, r .1))
-    (by-cond P (ltb _ (s .n)) _ _ (let r = return-leads s f _ i in (r .0, r .1)) (by-cond P (ltb _ (s .n)) _ _ (let r = serve-leads s f _ i in (r .0, r .1)) (f, i)))
-  where
-    P : Outcome → Type 0
-    P r = (g : List ℕ) × Consistent (r .store) g
-
+-- a step of settle
 step-lively : (s : Store) → Lively s → Lively (settleStep s .store)
 step-lively s l =
-    let r = step-consistent s (l .flat) (l .consistent) in
+    let r = step-leads s (l .flat) (l .consistent) in
     record { flat = r .0; consistent = r .1; live = settle-step-live s (l .flat) (l .consistent) (l .live); spare = step-spare s (l .spare) }
 
 -- no step is refused

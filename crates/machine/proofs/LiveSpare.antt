@@ -19,7 +19,6 @@ use Rattle.queues.specs.declared.ReturnMessage.{ReturnMessage}
 use Rattle.queues.specs.declared.DownMessage.{DownMessage}
 use Rattle.queues.specs.Queues.{emptyAt, headReturn, takeReturn}
 use Rattle.lanes.specs.declared.Lane.{Lane}
-use Rattle.lanes.specs.declared.Command.{Command}
 use Rattle.lanes.specs.declared.Operation.{Operation}
 use Rattle.lanes.specs.declared.Waiting.{Waiting}
 use Rattle.lanes.specs.declared.Waiting.the-variants.{Idle, Unserved, Served}
@@ -42,16 +41,16 @@ use Rattle.machine.specs.declared.Move.{Move}
 use Rattle.machine.specs.Corruption.{corruptOf}
 use Rattle.machine.specs.Change.{withLane, withReturns, commitLane, nobody, only, goesTo, someFull, postTo, postAll, commitMove}
 use Rattle.machine.specs.Begin.{beginOf}
-use Rattle.machine.specs.Serve.{sendsOf, ordered, countOf, close, readyWith, readyOf, serveMove, serveReady, serveOf}
+use Rattle.machine.specs.Serve.{ordered, countOf, close, readyWith, readyOf, serveMove, serveReady, serveOf}
 use Rattle.machine.specs.Return.{takenBy, isAnswer, answered, returnMove, returnOf}
 use Rattle.machine.specs.Deliver.{deliverOf}
 use Rattle.machine.specs.Settle.{settleStep, boundOf, Progress, advance, ended, repeatStep, Settlement, settleOf}
 use Rattle.machine.specs.Calls.{Call, Begin, Serve, Return, Deliver, Settle, callOf, run}
 use Rattle.machine.proofs.Tests.{on}
-use Rattle.machine.proofs.Sets.{set-cases}
 use Rattle.machine.proofs.KeepsLane.{clash}
 use Rattle.machine.proofs.KeepsStore.{guarded-keeps}
 use Rattle.machine.proofs.Sound.{BlockSound, ControlSound, sound}
+use Rattle.machine.proofs.KeepsServe.{ordered-absent}
 use Rattle.machine.proofs.Directories.{nobody-none}
 use Rattle.machine.proofs.Project.{movedStore}
 use Rattle.machine.proofs.ConsistentOpen.{each-lane}
@@ -112,18 +111,12 @@ move-spare s k a v h to e =
 only-spare : (n : ℕ) (k : LaneNo) → k .0 < n → (j : ℕ) → n ≤ j → goesTo (only k) j ≡ false
 only-spare n k h j g = getD-set-other nobody (k .0) j true false (λ q. omega arith) ∙ nobody-none j
 
-ordered-spare : (n : ℕ) (b : Block) (k : LaneNo) (x : Command) → BlockSound n b → (j : ℕ) → n ≤ j → j < 8 → goesTo (ordered b k x) j ≡ false
-unfolding ordered
-ordered-spare n b k x g j p l =
-    by-cond (λ (r : List Bool). getD r j false ≡ false) (sendsOf x (b .modified)) _ _
-    (set-cases (λ (r : Bool). r ≡ false) (b .present) (k .0) j false false (λ _. refl) (g .absent j p l)) (nobody-none j)
-
 -- serve
 serve-to : (n : ℕ) (k : LaneNo) (o : Operation) (l : Lane) (b : Block) (x : Control) → k .0 < n → BlockSound n b → (j : ℕ) → n ≤ j → j < 8 →
     goesTo (serveMove k o l b x .to) j ≡ false
 unfolding serveMove close
 serve-to n k o l b x h g j p q =
-    by-cond (λ (v : Move). goesTo (v .to) j ≡ false) (eqb (countOf (ordered b k (o .command))) 0) _ _ (only-spare n k h j p) (ordered-spare n b k (o .command) g j p q)
+    by-cond (λ (v : Move). goesTo (v .to) j ≡ false) (eqb (countOf (ordered b k (o .command))) 0) _ _ (only-spare n k h j p) (ordered-absent n b k (o .command) g j p q)
 
 serve-spare : (s : Store) (k : LaneNo) → Spare s → Spare (serveOf s k .store)
 unfolding serveOf readyOf
