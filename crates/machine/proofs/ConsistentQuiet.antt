@@ -21,7 +21,7 @@ use Rattle.lanes.specs.Search.{searchOf}
 use Rattle.lanes.specs.Waits.{idleOf}
 use Rattle.store.specs.declared.Store.{Store}
 use Rattle.store.specs.Control.{busyOf}
-use Rattle.store.specs.Quiet.{laneAt, blockAt, stirsOf, quietOf}
+use Rattle.store.specs.Quiet.{laneAt, blockAt, activeOf, quietOf}
 use Rattle.machine.specs.Flat.{flatBlock}
 use Rattle.machine.specs.Flags.{lineIn, presentIn, hasCopy, owns, shownOf, Flags}
 use Rattle.machine.proofs.Tests.{on}
@@ -68,8 +68,8 @@ record Still (l : Lane) : Type 0 where
   returns : l .returns .len ≡ 0
   downs : l .downs .len ≡ 0
 
-still : (l : Lane) → stirsOf l ≡ false → Still l
-unfolding stirsOf
+still : (l : Lane) → activeOf l ≡ false → Still l
+unfolding activeOf
 still l e =
     on (idleOf (l .waiting))
     (λ w.
@@ -84,7 +84,7 @@ module _ (s : Store) (f : List ℕ) (i : Consistent s f) (quiet : quietOf s ≡ 
   unfolding quietOf
   lane-still k h =
       on (busyOf (s .control)) (λ b. let d : false ≡ true = rw b at quiet in clash (cc))
-      (λ b. still (laneAt s k) (any-false (λ j. stirsOf (laneAt s j)) (s .n) k (not-false _ (rw b at quiet)) h))
+      (λ b. still (laneAt s k) (any-false (λ j. activeOf (laneAt s j)) (s .n) k (not-false _ (rw b at quiet)) h))
 
   -- no lane waits
   pub quiet-rests : (k : ℕ) → pendingIn s k ≡ Rests

@@ -21,7 +21,7 @@ use Rattle.store.specs.declared.Store.{Store}
 use Rattle.store.specs.declared.Outcome.{Outcome}
 use Rattle.store.specs.declared.Control.{Control}
 use Rattle.store.specs.declared.Control.the-variants.{Free, Busy}
-use Rattle.store.specs.Quiet.{laneAt, stirsOf, quietOf}
+use Rattle.store.specs.Quiet.{laneAt, activeOf, quietOf}
 use Rattle.machine.specs.Settle.{lane, settleStep}
 use Rattle.machine.proofs.Sets.{pick}
 use Rattle.machine.proofs.KeepsLane.{clash}
@@ -119,17 +119,17 @@ module _ (s : Store) (f : List ℕ) (i : Consistent s f) (live : Live s) (spare 
 
       -- .. so that a store with no unserved operation is quiet
       quiet : ((k : ℕ) → k < s .n → unservedOf (laneAt s k .waiting) ≡ false) → quietOf s ≡ true
-      unfolding quietOf stirsOf
-      quiet none = rw free (ap not (any-never (λ k. stirsOf (laneAt s k)) (s .n) (λ k h. go k h (laneAt s k .waiting) refl)))
+      unfolding quietOf activeOf
+      quiet none = rw free (ap not (any-never (λ k. activeOf (laneAt s k)) (s .n) (λ k h. go k h (laneAt s k .waiting) refl)))
         where
-          go : (k : ℕ) → k < s .n → (w : Waiting) → laneAt s k .waiting ≡ w → stirsOf (laneAt s k) ≡ false
+          go : (k : ℕ) → k < s .n → (w : Waiting) → laneAt s k .waiting ≡ w → activeOf (laneAt s k) ≡ false
           go k h Idle e = rw (e, all-returns k, all-downs k)
           go k h (Unserved o) e = clash (cc (none k h))
           go k h (Served o) e = absurd (none-served k h o e)
 
   pub step-goes : quietOf s ≡ false → refusedOf (settleStep s .answer) ≡ false
   unfolding settleStep
-  step-goes stirs =
+  step-goes active =
       lowest-rule P (λ k. ltb 0 (laneAt s k .downs .len)) (s .n) _ _ (λ h e. deliver-goes s f i live (lane _) h (filled _ e))
       (λ d. lowest-rule P (λ k. ltb 0 (laneAt s k .returns .len)) (s .n) _ _ (λ h e. return-goes s (all-downs d) f i (lane _) h (filled _ e))
       (λ r. lowest-rule P (λ k. unservedOf (laneAt s k .waiting)) (s .n) _ _

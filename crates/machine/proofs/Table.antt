@@ -4,7 +4,7 @@ use mathlib.Core.List.{map}
 use Rattle.words.specs.Folds.{upTo, anyTo, countTo, sumTo, lowestTo, anyOf}
 use Rattle.lanes.specs.Search.{firstFrom}
 use Rattle.store.specs.Opening.{badShape, blankLane, blankBlock, freshOf, openOf}
-use Rattle.store.specs.Quiet.{stirsOf, quietOf}
+use Rattle.store.specs.Quiet.{activeOf, quietOf}
 use Rattle.machine.specs.Corruption.{badLane, badFlags, corruptOf}
 use Rattle.machine.specs.Change.{commitLane, someFull, postTo, postAll, commitMove}
 use Rattle.machine.specs.Begin.{complete, hit, evict, miss, beginLane, beginOf}
@@ -17,5 +17,5 @@ use Rattle.machine.specs.Text.{decimalIn, answerText, lineText, linesTex
 use Rattle.machine.specs.Table.{Row, rows, wholeTape, wholeText}
 
 pub table : map (λ (r : Row). r .given) rows ≡ map (λ (r : Row). r .wanted) rows
-unfolding upTo anyTo countTo sumTo lowestTo anyOf firstFrom badShape blankLane blankBlock freshOf openOf stirsOf quietOf badLane badFlags corruptOf commitLane someFull postTo postAll commitMove complete hit evict miss beginLane beginOf ordered countOf close readyOf serveMove serveOf returnMove returnOf reply deliverLane deliverOf settleStep boundOf advance ended repeatStep settleOf callRecord openRecord recordOf replayFrom replayOf decimalIn answerText lineText linesText endText printed rows wholeTape wholeText
+unfolding upTo anyTo countTo sumTo lowestTo anyOf firstFrom badShape blankLane blankBlock freshOf openOf activeOf quietOf badLane badFlags corruptOf commitLane someFull postTo postAll commitMove complete hit evict miss beginLane beginOf ordered countOf close readyOf serveMove serveOf returnMove returnOf reply deliverLane deliverOf settleStep boundOf advance ended repeatStep settleOf callRecord openRecord recordOf replayFrom replayOf decimalIn answerText lineText linesText endText printed rows wholeTape wholeText
 table = refl

@@ -27,9 +27,9 @@ abbrev pub blockAt : Store → ℕ → Block
 blockAt s a = getD (s .blocks) a noBlock
 
 -- the lane's operation waits, or one of its queues is filled
-unfoldable pub stirsOf : Lane → Bool
-stirsOf l = cond (idleOf (l .waiting)) (ltb 0 (l .returns .len) || ltb 0 (l .downs .len)) true
+unfoldable pub activeOf : Lane → Bool
+activeOf l = cond (idleOf (l .waiting)) (ltb 0 (l .returns .len) || ltb 0 (l .downs .len)) true
 
 -- no operation waits, no service, queues empty
 unfoldable pub quietOf : Store → Bool
-quietOf s = cond (busyOf (s .control)) false (not (anyTo (λ k. stirsOf (laneAt s k)) (s .n)))
+quietOf s = cond (busyOf (s .control)) false (not (anyTo (λ k. activeOf (laneAt s k)) (s .n)))

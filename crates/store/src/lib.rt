@@ -3,7 +3,7 @@
 ghost use mathlib.Core.Path.{_≡_};
 ghost use Rattle.store.specs.Control.{busyOf, serviceOf, answerOf};
 ghost use Rattle.store.specs.Opening.{badShape, blankLine, blankLane, blankBlock, freshOf, openOf};
-ghost use Rattle.store.specs.Quiet.{stirsOf, quietOf};
+ghost use Rattle.store.specs.Quiet.{activeOf, quietOf};
 use answers::Answer;
 use answers::Refusal;
 use lanes::Command;
@@ -233,8 +233,8 @@ pub fn open(n: u8, c: u8, m: u8) -> Outcome
 }
 
 // Whether the lane's operation waits or one of its queues is filled.
-fn stirs(l: Lane) -> bool
-    ensures { λ r. ⌜ r ≡ stirsOf l ⌝ }
+fn active(l: Lane) -> bool
+    ensures { λ r. ⌜ r ≡ activeOf l ⌝ }
 {
     let w = l.waiting;
     if w.idle() {
@@ -262,7 +262,7 @@ pub fn quiet(s: Store) -> bool
         }
         let i = k as usize;
         let l = s.lanes[i];
-        if stirs(l) {
+        if active(l) {
             return false;
         }
         k += 1;

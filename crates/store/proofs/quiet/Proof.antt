@@ -7,13 +7,13 @@ use mathlib.Core.Path.{_≡_, sym, _∙_}
 use lib.ListN.{length, length-map}
 use Rattle.words.specs.Folds.{anyTo}
 use Rattle.words.proofs.Folds.{any-none, any-more, any-true}
-use Rattle.store.specs.Quiet.{laneAt, stirsOf, quietOf}
-use Rattle.store.proofs.Quieting.{stirs-past}
+use Rattle.store.specs.Quiet.{laneAt, activeOf, quietOf}
+use Rattle.store.proofs.Quieting.{active-past}
 use Rattle.store.proofs.quiet.Statement.{statement}
 use Rattle.store.proofs.quiet.Tie as tie
 
 abbrev Inv-loop : tie.InvT-loop
-Inv-loop s n k₀ k = (k ≤ n) × (anyTo (λ i. stirsOf (laneAt s i)) k ≡ false)
+Inv-loop s n k₀ k = (k ≤ n) × (anyTo (λ i. activeOf (laneAt s i)) k ≡ false)
 
 abbrev μ-loop : tie.MeasureT-loop
 μ-loop s n k₀ k = n - k
@@ -31,7 +31,7 @@ loop-holds c = (omega arith, any-none _)
 returns-2 : tie.Need-returns-2 Inv-loop μ-loop
 unfolding quietOf
 returns-2 c = let h : length (c .before .before .before .before .before .args .t1 .lanes) ≡ 8 = simp length-map at (c .before .before .before .before .before .good .0 .1 .1 .1 .1 .1 .1 .0 .1 .0 .1) in
-    let z = stirs-past (c .before .before .before .before .before .args .t1) (c .before .before .loop .k) (c .before .before .before .before .before .args .t1 .n) (omega arith) (c .before .before .loop .inv .1) in
+    let z = active-past (c .before .before .before .before .before .args .t1) (c .before .before .loop .k) (c .before .before .before .before .before .args .t1 .n) (omega arith) (c .before .before .loop .inv .1) in
     rw (quietOf, ← c .before .before .before .before .busy .ensures, c .before .before .before .if1 .left, z)
 
 cast-i : tie.Need-cast-i Inv-loop μ-loop
@@ -43,12 +43,12 @@ mul-l c = search needs
 element-copy-out-l : tie.Need-element-copy-out-l Inv-loop μ-loop
 element-copy-out-l c = search needs
 
-stirs-requires : tie.Need-stirs-requires Inv-loop μ-loop
-stirs-requires c κs = search needs
+active-requires : tie.Need-active-requires Inv-loop μ-loop
+active-requires c κs = search needs
 
 returns-3 : tie.Need-returns-3 Inv-loop μ-loop
 unfolding quietOf
-returns-3 c = let h = any-true (λ i. stirsOf (laneAt (c .before .before .before .before .before .before .before .before .args .t1) i)) (c .before .before .before .before .before .before .before .before .args .t1 .n) (c .before .before .before .before .before .loop .k) (sym (c .before .stirs .ensures) ∙ c .if3 .taken) (omega arith) in
+returns-3 c = let h = any-true (λ i. activeOf (laneAt (c .before .before .before .before .before .before .before .before .args .t1) i)) (c .before .before .before .before .before .before .before .before .args .t1 .n) (c .before .before .before .before .before .loop .k) (sym (c .before .active .ensures) ∙ c .if3 .taken) (omega arith) in
     rw (quietOf, ← c .before .before .before .before .before .before .before .busy .ensures, c .before .before .before .before .before .before .if1 .left, h)
 
 add-k : tie.Need-add-k Inv-loop μ-loop
@@ -58,7 +58,7 @@ loop-less : tie.Need-loop-less Inv-loop μ-loop
 loop-less c = search needs
 
 loop-again : tie.Need-loop-again Inv-loop μ-loop
-loop-again c = (omega arith, any-more _ _ (c .before .before .before .before .before .loop .inv .1) (sym (c .before .stirs .ensures) ∙ c .if3 .left))
+loop-again c = (omega arith, any-more _ _ (c .before .before .before .before .before .loop .inv .1) (sym (c .before .active .ensures) ∙ c .if3 .left))
 
 returns-4 : tie.Need-returns-4 Inv-loop μ-loop
 unfolding quietOf
@@ -78,7 +78,7 @@ quiet-spec =
     cast-i
     mul-l
     element-copy-out-l
-    stirs-requires
+    active-requires
     returns-3
     add-k
     loop-less
