@@ -111,7 +111,7 @@ fn make_held(seed: &str, count: &str, file: &Path) -> Outcome {
     let mut summary = Cases::default();
     for index in 0..count {
         let case = stores::make(seed, index);
-        summary.add(&case, held::run(&case.store, case.call).answer);
+        summary.add(&case, &held::run(&case.store, case.call).answer);
         out.write_all(&held::encode_case(&case.store, case.call)).map_err(text)?;
     }
     out.flush().map_err(text)?;

@@ -1,8 +1,9 @@
 //! Counts of what tapes and cases met, for print.
 
 use crate::conditions::{self, REASONS, UNEXPECTED_REASONS};
-use crate::held::HeldAnswer;
+use crate::held::{HeldAnswer, HeldCall, PICTURE_KIND, SETTLE_KIND};
 use crate::parts::*;
+use crate::settle;
 use crate::situations;
 use crate::stores::{Case, SOURCES};
 use crate::tape::{self, Event, Outcome, Record};
@@ -213,11 +214,18 @@ pub struct Cases {
     /// By damage: all, and not corrupt after all.
     pub damages: BTreeMap<&'static str, (usize, usize)>,
     pub situations: BTreeMap<&'static str, usize>,
+    /// Settles that were not refused, by the count of completions.
+    pub settled: BTreeMap<usize, usize>,
+    /// Refused settles, by the reason of 14 and of 16.
+    pub settle_reasons: BTreeMap<&'static str, usize>,
+    /// Settles refused after steps, and of these after a completion.
+    pub undone: (usize, usize),
+    longest: u32,
     sources: BTreeMap<&'static str, usize>,
 }
 
 impl Cases {
-    pub fn add(&mut self, case: &Case, answer: HeldAnswer) {
+    pub fn add(&mut self, case: &Case, answer: &HeldAnswer) {
         self.cases += 1;
         *self.sources.entry(case.source).or_default() += 1;
         let kind = case.call.kind();
@@ -226,7 +234,12 @@ impl Cases {
             HeldAnswer::Machine(Answer::Wait) => "wait".to_string(),
             HeldAnswer::Machine(Answer::Step) => "step".to_string(),
             HeldAnswer::Picture(_) => "picture".to_string(),
-            HeldAnswer::Refused(number) => {
+            HeldAnswer::Settled(given) => {
+                self.longest = self.longest.max(given.steps);
+                *self.settled.entry(given.completions.len()).or_default() += 1;
+                "settled".to_string()
+            }
+            &HeldAnswer::Refused(number) => {
                 self.add_refusal(case, number);
                 number.to_string()
             }
@@ -249,11 +262,30 @@ impl Cases {
             let reasons = conditions::unexpected_reasons(&case.store, case.call);
             add_reasons(&mut self.unexpected_reasons, &reasons);
         }
+        if case.call == HeldCall::Settle {
+            self.add_refused_settle(&case.store, number);
+        }
         for also in conditions::all(&case.store, case.call) {
             if also != number {
                 let key = (case.call.kind(), number, also);
                 *self.passed_over.entry(key).or_default() += 1;
             }
+        }
+    }
+
+    fn add_refused_settle(&mut self, store: &Store, number: u8) {
+        let reasons = match number {
+            14 => conditions::corrupt_reasons(store),
+            16 => conditions::unexpected_reasons(store, HeldCall::Settle),
+            _ => Vec::new(),
+        };
+        for reason in reasons {
+            *self.settle_reasons.entry(reason).or_default() += 1;
+        }
+        if number != 14 {
+            let (steps, completions) = settle::before_refusal(store);
+            self.undone.0 += usize::from(steps > 0);
+            self.undone.1 += usize::from(completions > 0);
         }
     }
 
@@ -272,10 +304,14 @@ fn add_reasons(counts: &mut BTreeMap<&'static str, (usize, usize)>, reasons: &[&
     }
 }
 
-pub const HELD_KINDS: [u8; 8] = [1, 2, 3, 4, 5, 6, 7, 0x10];
+pub const HELD_KINDS: [u8; 9] = [1, 2, 3, 4, 5, 6, 7, PICTURE_KIND, SETTLE_KIND];
 
 pub fn kind_name(kind: u8) -> &'static str {
-    KINDS.get(usize::from(kind)).unwrap_or(&"picture")
+    match kind {
+        PICTURE_KIND => "picture",
+        SETTLE_KIND => "settle",
+        _ => KINDS.get(usize::from(kind)).unwrap_or(&"unknown"),
+    }
 }
 
 impl Display for Cases {
@@ -290,7 +326,7 @@ impl Display for Cases {
         }
         for kind in HELD_KINDS {
             write!(f, "{}:", kind_name(kind))?;
-            for name in ["done", "wait", "step", "picture"] {
+            for name in ["done", "wait", "step", "picture", "settled"] {
                 if let Some(count) = self.given.get(&(kind, name.to_string())) {
                     write!(f, " {name} {count}")?;
                 }
@@ -313,6 +349,14 @@ impl Cases {
                 .map(|((_, given, also), count)| format!("{given}<{also} {count}"))
                 .collect();
             writeln!(f, "  {}: {}", kind_name(kind), parts.join(", "))?;
+        }
+        writeln!(f, "settled, by the count of completions: {}", pairs(&self.settled))?;
+        writeln!(f, "longest settle: {} steps", self.longest)?;
+        let (steps, completions) = self.undone;
+        writeln!(f, "settles refused after steps: {steps}, after completions: {completions}")?;
+        writeln!(f, "reasons of 14 and 16 in refused settles:")?;
+        for reason in REASONS.iter().chain(&UNEXPECTED_REASONS) {
+            writeln!(f, "  {reason}: {}", self.settle_reasons.get(reason).unwrap_or(&0))?;
         }
         writeln!(f, "situations, not refused:")?;
         for name in situations::NAMES {
