@@ -3,8 +3,14 @@
 //! held stores.
 
 pub mod conditions;
+pub mod cover;
 pub mod damage;
+pub mod events;
+pub mod flat;
 pub mod held;
+pub mod judge;
+pub mod list_maker;
+pub mod lists;
 pub mod machine;
 pub mod parts;
 pub mod rng;
