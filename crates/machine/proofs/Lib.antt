@@ -17,3 +17,4 @@ pub mod KeepsRepeat
 pub mod KeepsShape
 pub mod Owes
 pub mod Sized
+pub mod SizedKeeps

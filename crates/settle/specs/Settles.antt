@@ -1,0 +1,60 @@
+-- How settle's code gives what 01 says of it, and what its parts compute. Assumes nothing.
+use Prim.Native.Nat.{ℕ, _+_, _≤_}
+use mathlib.Core.Bool.{Bool}
+use mathlib.Core.List.{List}
+use lib.Dec.{ltb}
+use lib.ListN.{take, set, replicate}
+use Rattle.lanes.specs.declared.Lane.{Lane}
+use Rattle.lanes.specs.Waits.{unservedOf}
+use Rattle.answers.specs.declared.Answer.{Answer}
+use Rattle.answers.specs.declared.Answer.the-variants.{Opened, Done, Wait, Step}
+use Rattle.answers.specs.declared.Completion.{Completion}
+use Rattle.answers.specs.declared.Refusal.{Refusal}
+use Rattle.answers.specs.declared.Refusal.the-variants.{Unexpected}
+use Rattle.answers.specs.Completions.{completionOf}
+use Rattle.machine.specs.declared.Settled.{Settled}
+use Rattle.machine.specs.declared.Settled.the-variants.{Steps}
+use Rattle.machine.specs.Settle.{Settlement}
+use Rattle.settle.specs.declared.Completions.{Completions}
+use Rattle.settle.specs.declared.SettleOutcome.{SettleOutcome}
+use Rattle.settle.specs.declared.Turn.{Turn}
+use Rattle.settle.specs.declared.Turn.the-variants.{Deliver, Return, Serve}
+
+-- the completions in order
+abbrev pub listOf : Completions → List Completion
+listOf d = take (d .len) (d .at)
+
+-- no completion so far
+unfoldable pub noCompletions : Completions
+noCompletions = record { len = 0; at = replicate 8 (completionOf (record { 0 = 0 }) 0) }
+
+-- what a settle gives, the completions as a list
+abbrev pub settlementOf : SettleOutcome → Settlement
+settlementOf r = record { answer = r .answer; completions = listOf (r .completions); store = r .store }
+
+-- a step count is at most the bound; a refusal has none
+abbrev pub CountWithin : ℕ → Settled → Type 0
+CountWithin most (Steps count) = count ≤ most
+CountWithin most (Settled.Refused r) = Unit {0}
+
+-- whether a lane has something for the step: a filled down queue, a filled return queue, an unserved operation
+abbrev pub dueOf : Turn → Lane → Bool
+dueOf Deliver l = ltb 0 (l .downs .len)
+dueOf Return l = ltb 0 (l .returns .len)
+dueOf Serve l = unservedOf (l .waiting)
+
+-- the completion of an answer, if it has one, behind the others
+abbrev pub listedOf : Completions → Answer → Completions
+listedOf d Opened = d
+listedOf d (Done x) = record { len = d .len + 1; at = set (d .at) (d .len) x }
+listedOf d Wait = d
+listedOf d Step = d
+listedOf d (Answer.Refused r) = d
+
+-- why an answer is a refusal
+abbrev pub refusalOf : Answer → Refusal
+refusalOf Opened = Unexpected
+refusalOf (Done x) = Unexpected
+refusalOf Wait = Unexpected
+refusalOf Step = Unexpected
+refusalOf (Answer.Refused r) = r

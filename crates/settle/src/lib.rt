@@ -1,0 +1,185 @@
+// Settle: 01's steps again and again until the store is quiet, as one call; each call ends.
+// settle is open to others and has no requires.
+ghost use mathlib.Core.Path.{_≡_};
+ghost use mathlib.Core.Bool.{false};
+ghost use Prim.Native.Nat.{_+_, _≤_};
+ghost use lib.ListN.{length};
+ghost use Rattle.words.specs.Folds.{lowestTo};
+ghost use Rattle.store.specs.Quiet.{laneAt};
+ghost use Rattle.machine.specs.Corruption.{corruptOf};
+ghost use Rattle.machine.specs.Settle.{settleStep, settleOf, boundOf, doneIn, refuseSettle};
+ghost use Rattle.settle.specs.Settles.{noCompletions, settlementOf, CountWithin, dueOf, listedOf, refusalOf};
+use answers::Answer;
+use answers::Completion;
+use answers::Refusal;
+use lanes::Lane;
+use machine::Settled;
+use store::Outcome;
+use store::Store;
+use words::LaneNo;
+
+// The completions of a settle in order: those before len. An operation that completes waits no more and settle begins none, so there
+// are at most as many as lanes.
+pub struct Completions {
+    pub len: u8,
+    pub at: [Completion; 8],
+}
+
+// What a settle gives.
+pub struct SettleOutcome {
+    pub answer: Settled,
+    pub completions: Completions,
+    pub store: Store,
+}
+
+// Which step a lane is looked for.
+enum Turn {
+    Deliver,
+    Return,
+    Serve,
+}
+
+// No completion so far.
+fn none() -> Completions
+    ensures { λ r. ⌜ r ≡ noCompletions ⌝ }
+{
+    let x = answers::completed(LaneNo(0), 0);
+    Completions { len: 0, at: [x; 8] }
+}
+
+// The completion of an answer, if it has one, goes behind the others.
+fn list(d: Completions, a: Answer) -> Completions
+    requires { ⌜ length (doneIn a) + d .len ≤ 8 ⌝ }
+    ensures { λ r. ⌜ r ≡ listedOf d a ⌝ }
+{
+    match a {
+        Answer::Opened => d,
+        Answer::Done(x) => {
+            let mut t = d;
+            let i = d.len as usize;
+            t.at[i] = x;
+            t.len = d.len + 1;
+            t
+        }
+        Answer::Wait => d,
+        Answer::Step => d,
+        Answer::Refused(_) => d,
+    }
+}
+
+// Why an answer is a refusal; of another answer it is not asked.
+fn refusal(a: Answer) -> Refusal
+    ensures { λ r. ⌜ r ≡ refusalOf a ⌝ }
+{
+    match a {
+        Answer::Opened => Refusal::Unexpected,
+        Answer::Done(_) => Refusal::Unexpected,
+        Answer::Wait => Refusal::Unexpected,
+        Answer::Step => Refusal::Unexpected,
+        Answer::Refused(r) => r,
+    }
+}
+
+// A refused settle gives its number alone; the store is the one before the call.
+fn refuse(r: Refusal, s: Store) -> SettleOutcome
+    ensures { λ o. ⌜ (settlementOf o ≡ refuseSettle r s) × CountWithin (boundOf s) (o .answer) ⌝ }
+{
+    let d = none();
+    SettleOutcome {
+        answer: Settled::Refused(r),
+        completions: d,
+        store: s,
+    }
+}
+
+// Whether a lane has something for the step.
+fn due(x: Turn, l: Lane) -> bool
+    ensures { λ r. ⌜ r ≡ dueOf x l ⌝ }
+{
+    match x {
+        Turn::Deliver => 0 < l.downs.len,
+        Turn::Return => 0 < l.returns.len,
+        Turn::Serve => {
+            let w = l.waiting;
+            w.unserved()
+        }
+    }
+}
+
+// The lowest lane that has something for the step, or n.
+fn lowest(x: Turn, s: Store) -> u8
+    requires { ⌜ s .n ≤ 8 ⌝ }
+    ensures { λ r. ⌜ r ≡ lowestTo (λ k. dueOf x (laneAt s k)) (s .n) ⌝ }
+{
+    let n = s.n;
+    let mut k: u8 = 0;
+    while k < n {
+        let i = k as usize;
+        let l = s.lanes[i];
+        if due(x, l) {
+            return k;
+        }
+        k += 1;
+    }
+    n
+}
+
+// One step: deliver, else return, else serve, at the lowest lane; 16 where there is none of these.
+fn step(s: Store) -> Outcome
+    requires { ⌜ corruptOf s ≡ false ⌝ }
+    ensures { λ r. ⌜ r ≡ settleStep s ⌝ }
+{
+    let n = s.n;
+    let d = lowest(Turn::Deliver, s);
+    if d < n {
+        return calls::deliver_sound(s, LaneNo(d));
+    }
+    let r = lowest(Turn::Return, s);
+    if r < n {
+        return calls::return_sound(s, LaneNo(r));
+    }
+    let u = lowest(Turn::Serve, s);
+    if u < n {
+        return calls::serve_sound(s, LaneNo(u));
+    }
+    calls::refused(Refusal::Unexpected, s)
+}
+
+// Settle of a store that is not corrupt.
+fn settle_sound(first: Store) -> SettleOutcome
+    requires { ⌜ corruptOf first ≡ false ⌝ }
+    ensures { λ r. ⌜ (settlementOf r ≡ settleOf first) × CountWithin (boundOf first) (r .answer) ⌝ }
+{
+    let mut s = first;
+    let mut done = none();
+    let mut count: u8 = 0;
+    while !store::quiet(s) {
+        let r = step(s);
+        let a = r.answer;
+        if a.refused() {
+            let x = refusal(a);
+            return refuse(x, first);
+        }
+        let d = list(done, a);
+        done = d;
+        let t = r.store;
+        s = t;
+        count += 1;
+    }
+    SettleOutcome {
+        answer: Settled::Steps(count),
+        completions: done,
+        store: s,
+    }
+}
+
+// Settle: the step count, at most the bound of the store before it, and the completions in order; or the number of the step that
+// was refused.
+pub fn settle(s: Store) -> SettleOutcome
+    ensures { λ r. ⌜ (settlementOf r ≡ settleOf s) × CountWithin (boundOf s) (r .answer) ⌝ }
+{
+    if checks::corrupt(s) {
+        return refuse(Refusal::Corrupt, s);
+    }
+    settle_sound(s)
+}
