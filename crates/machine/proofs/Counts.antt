@@ -8,7 +8,8 @@ use mathlib.Core.Bool.{Bool, true, false, cond}
 use Rattle.words.specs.Folds.{countTo}
 use Rattle.words.proofs.Folds.{count-most}
 
-step-most : (b : Bool) → cond b 1 0 ≤ 1
+-- what one test adds to a count
+pub step-most : (b : Bool) → cond b 1 0 ≤ 1
 step-most true = omega arith
 step-most false = omega arith
 

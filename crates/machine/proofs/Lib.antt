@@ -18,3 +18,10 @@ pub mod KeepsShape
 pub mod Owes
 pub mod Sized
 pub mod SizedKeeps
+pub mod Sums
+pub mod Posts
+pub mod FallsLane
+pub mod FallsStore
+pub mod FallsMove
+pub mod Falls
+pub mod FallsSettle

@@ -200,11 +200,11 @@ deliver-lane-sized c k l g =
     took = deliverKind (headDown (l .downs) .kind) c k (headDown (l .downs)) (withDowns (takeDown (l .downs) .queue) l)
 
 -- the lanes of a store, all of them with their lengths
-record LanesSized (ls : List Lane) : Type 0 where
-  lanes : length ls ≡ 8
-  lane : (k : ℕ) → k < 8 → LaneSized (getD ls k noLane)
+pub record LanesSized (ls : List Lane) : Type 0 where
+  pub lanes : length ls ≡ 8
+  pub lane : (k : ℕ) → k < 8 → LaneSized (getD ls k noLane)
 
-set-lane-sized : (ls : List Lane) (k : ℕ) (l : Lane) → LanesSized ls → (k < 8 → LaneSized l) → LanesSized (set ls k l)
+pub set-lane-sized : (ls : List Lane) (k : ℕ) (l : Lane) → LanesSized ls → (k < 8 → LaneSized l) → LanesSized (set ls k l)
 set-lane-sized ls k l g f =
     record {
       lanes = length-set ls k l ∙ g .lanes;
@@ -227,7 +227,7 @@ post-all-sized : (to : List Bool) (x : DownMessage) (ls : List Lane) → LanesSi
 unfolding postAll
 post-all-sized to x ls g = posts-sized to x 8 ls g
 
-lanes-sized : (s : Store) → Sized s → LanesSized (s .lanes)
+pub lanes-sized : (s : Store) → Sized s → LanesSized (s .lanes)
 lanes-sized s g = record { lanes = g .lanes; lane = g .lane }
 
 -- lane k after its part of a call
@@ -263,7 +263,7 @@ closed-sized ReadExclusive b k e = only-sized k
 closed-sized Exclude b k e = only-sized k
 
 -- memory's part of serve: its lane, its block
-serve-move-lane : (k : LaneNo) (o : Operation) (l : Lane) (b : Block) (x : Control) → LaneSized l → LaneSized (serveMove k o l b x .lane)
+pub serve-move-lane : (k : LaneNo) (o : Operation) (l : Lane) (b : Block) (x : Control) → LaneSized l → LaneSized (serveMove k o l b x .lane)
 unfolding serveMove close
 serve-move-lane k o l b x f =
     by-cond (λ (v : Move). LaneSized (v .lane)) (eqb (countOf (ordered b k (o .command))) 0) _ _ (with-waiting-sized l f (Served o)) (with-waiting-sized l f (Served o))
@@ -295,7 +295,7 @@ answered-present NotAwaited l b x t u e d = e
 answered-present (Awaits y) l b x t u e d = d
 answered-present (Closes v y) l b x t u e d = closed-sized (v .command) u (v .lane) d
 
-return-move-lane : (k : LaneNo) (x : ReturnMessage) (l : Lane) (b : Block) (y : Control) → LaneSized l → LaneSized (returnMove k x l b y .lane)
+pub return-move-lane : (k : LaneNo) (x : ReturnMessage) (l : Lane) (b : Block) (y : Control) → LaneSized l → LaneSized (returnMove k x l b y .lane)
 unfolding returnMove
 return-move-lane k x l b y f =
     let t = with-returns-sized l f (takeReturn (l .returns) .queue) (take-return-sized (l .returns) (f .returns)) in

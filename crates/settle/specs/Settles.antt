@@ -4,6 +4,7 @@ use mathlib.Core.Bool.{Bool}
 use mathlib.Core.List.{List}
 use lib.Dec.{ltb}
 use lib.ListN.{take, set, replicate}
+use Rattle.words.specs.declared.LaneNo.{LaneNo}
 use Rattle.lanes.specs.declared.Lane.{Lane}
 use Rattle.lanes.specs.Waits.{unservedOf}
 use Rattle.answers.specs.declared.Answer.{Answer}
@@ -12,8 +13,13 @@ use Rattle.answers.specs.declared.Completion.{Completion}
 use Rattle.answers.specs.declared.Refusal.{Refusal}
 use Rattle.answers.specs.declared.Refusal.the-variants.{Unexpected}
 use Rattle.answers.specs.Completions.{completionOf}
+use Rattle.store.specs.declared.Store.{Store}
+use Rattle.store.specs.declared.Outcome.{Outcome}
 use Rattle.machine.specs.declared.Settled.{Settled}
 use Rattle.machine.specs.declared.Settled.the-variants.{Steps}
+use Rattle.machine.specs.Serve.{serveOf}
+use Rattle.machine.specs.Return.{returnOf}
+use Rattle.machine.specs.Deliver.{deliverOf}
 use Rattle.machine.specs.Settle.{Settlement}
 use Rattle.settle.specs.declared.Completions.{Completions}
 use Rattle.settle.specs.declared.SettleOutcome.{SettleOutcome}
@@ -42,6 +48,12 @@ abbrev pub dueOf : Turn → Lane → Bool
 dueOf Deliver l = ltb 0 (l .downs .len)
 dueOf Return l = ltb 0 (l .returns .len)
 dueOf Serve l = unservedOf (l .waiting)
+
+-- the step on lane k
+abbrev pub turnOf : Turn → Store → LaneNo → Outcome
+turnOf Deliver s k = deliverOf s k
+turnOf Return s k = returnOf s k
+turnOf Serve s k = serveOf s k
 
 -- the completion of an answer, if it has one, behind the others
 abbrev pub listedOf : Completions → Answer → Completions

@@ -8,7 +8,7 @@ ghost use Rattle.words.specs.Folds.{lowestTo};
 ghost use Rattle.store.specs.Quiet.{laneAt};
 ghost use Rattle.machine.specs.Corruption.{corruptOf};
 ghost use Rattle.machine.specs.Settle.{settleStep, settleOf, boundOf, doneIn, refuseSettle};
-ghost use Rattle.settle.specs.Settles.{noCompletions, settlementOf, CountWithin, dueOf, listedOf, refusalOf};
+ghost use Rattle.settle.specs.Settles.{noCompletions, settlementOf, CountWithin, dueOf, turnOf, listedOf, refusalOf};
 use answers::Answer;
 use answers::Completion;
 use answers::Refusal;
@@ -32,7 +32,7 @@ pub struct SettleOutcome {
     pub store: Store,
 }
 
-// Which step a lane is looked for.
+// The three steps that settle repeats, in the order in which they have their turn.
 enum Turn {
     Deliver,
     Return,
@@ -124,7 +124,19 @@ fn lowest(x: Turn, s: Store) -> u8
     n
 }
 
-// One step: deliver, else return, else serve, at the lowest lane; 16 where there is none of these.
+// The step on lane k.
+fn take_turn(x: Turn, s: Store, k: LaneNo) -> Outcome
+    requires { ⌜ corruptOf s ≡ false ⌝ }
+    ensures { λ r. ⌜ r ≡ turnOf x s k ⌝ }
+{
+    match x {
+        Turn::Deliver => calls::deliver_sound(s, k),
+        Turn::Return => calls::return_sound(s, k),
+        Turn::Serve => calls::serve_sound(s, k),
+    }
+}
+
+// The next step: deliver, else return, else serve, at the lowest lane; 16 where there is none of these.
 fn step(s: Store) -> Outcome
     requires { ⌜ corruptOf s ≡ false ⌝ }
     ensures { λ r. ⌜ r ≡ settleStep s ⌝ }
@@ -132,15 +144,15 @@ fn step(s: Store) -> Outcome
     let n = s.n;
     let d = lowest(Turn::Deliver, s);
     if d < n {
-        return calls::deliver_sound(s, LaneNo(d));
+        return take_turn(Turn::Deliver, s, LaneNo(d));
     }
     let r = lowest(Turn::Return, s);
     if r < n {
-        return calls::return_sound(s, LaneNo(r));
+        return take_turn(Turn::Return, s, LaneNo(r));
     }
     let u = lowest(Turn::Serve, s);
     if u < n {
-        return calls::serve_sound(s, LaneNo(u));
+        return take_turn(Turn::Serve, s, LaneNo(u));
     }
     calls::refused(Refusal::Unexpected, s)
 }

@@ -19,7 +19,7 @@ returns : tie.Need-returns
 returns c = simp (c .before .enum-told .given .1)
 
 returns-2 : tie.Need-returns-2
-returns-2 c = simp (c .before .enum-told .given .1)
+returns-2 c = simp (c .before .enum-told2 .given .1)
 
 returns-3 : tie.Need-returns-3
 returns-3 c = search needs

@@ -1,4 +1,5 @@
 -- `settle::list` meets its contract. Assumes nothing.
+use native.Mathlib.Omega.{arith}
 use borrow.Author.Needs.{needs}
 use Rattle.settle.proofs.list.Statement.{statement}
 use Rattle.settle.proofs.list.Tie as tie
@@ -16,7 +17,7 @@ mul-x : tie.Need-mul-x
 mul-x c = search needs
 
 element-set-from-x : tie.Need-element-set-from-x
-element-set-from-x c = ?
+element-set-from-x c = let h = rw (c .before .before .a .given .1) at (c .before .before .before .before .pre) in omega arith
 
 add-t : tie.Need-add-t
 add-t c = search needs
@@ -34,7 +35,7 @@ returns : tie.Need-returns
 returns c = search needs
 
 returns-2 : tie.Need-returns-2
-returns-2 c = ?
+returns-2 c = rw (c .before .before .before .a .given .1)
 
 returns-3 : tie.Need-returns-3
 returns-3 c = search needs
