@@ -14,7 +14,7 @@ use words::WordNo;
 const RECORD_BYTES: usize = 8;
 
 // The proved loop has to end: more records than any input has.
-const MOST_RECORDS: u32 = 1000000000;
+const MOST_RECORDS: u32 = 100000000;
 
 // The kinds of record that are no call of storebytes.
 const OPEN: u8 = 0;
@@ -63,12 +63,12 @@ fn show(s: Store) {
 }
 
 // A record on the store that the records before it left.
-fn answer(s: Store, record: &[u8]) -> Store
-    requires { ⌜ 8 ≤ length (now record) ⌝ }
+fn answer(s: Store, bytes: &[u8]) -> Store
+    requires { ⌜ 8 ≤ length (now bytes) ⌝ }
 {
-    let kind = record[0];
+    let kind = bytes[0];
     if kind == OPEN {
-        let o = store::open(record[1], record[2], record[3]);
+        let o = store::open(bytes[1], bytes[2], bytes[3]);
         return told(o);
     }
     if kind == SETTLE {
@@ -78,24 +78,24 @@ fn answer(s: Store, record: &[u8]) -> Store
         show(s);
         return s;
     }
-    let k = LaneNo(record[1]);
-    let w = WordNo(record[2]);
-    let v = storebytes::word_from(record, 3);
+    let k = LaneNo(bytes[1]);
+    let w = WordNo(bytes[2]);
+    let v = storebytes::word_from(bytes, 3);
     let o = storebytes::called(s, kind, k, w, v);
     told(o)
 }
 
 // Reads a record and answers it.
 fn next(s: Store) -> Turn {
-    let mut record = [0u8; RECORD_BYTES];
-    let n = io::read_full(STDIN_FILENO, &mut record);
+    let mut bytes = [0u8; RECORD_BYTES];
+    let n = io::read_full(STDIN_FILENO, &mut bytes);
     if n < RECORD_BYTES {
         return Turn {
             more: false,
             store: s,
         };
     }
-    let t = answer(s, &record);
+    let t = answer(s, &bytes);
     Turn {
         more: true,
         store: t,
