@@ -206,12 +206,12 @@ fn most_on_one_word(before: &Store, settled: &Settled) -> usize {
 
 impl Display for Cover {
     fn fmt(&self, f: &mut Formatter) -> fmt::Result {
+        writeln!(f, "calls {}", self.calls)?;
         writeln!(
             f,
-            "lists {} of {} shapes, calls {}, longest list {} calls, stores shown {}",
+            "lists {} of {} shapes, longest list {} calls, stores shown {}",
             self.lists,
             self.shapes.len(),
-            self.calls,
             self.longest_list,
             self.shown
         )?;

@@ -1,7 +1,8 @@
 //! The command line. See README.md.
 
+use reference::cover::{self, Cover};
 use reference::summary::{Cases, Tapes};
-use reference::{cover, held, judge, list_maker, lists, stores, tape, tapes};
+use reference::{held, judge, list_maker, lists, stores, tape, tapes};
 use std::fs;
 use std::io::{self, BufWriter, Read, Write};
 use std::path::{Path, PathBuf};
@@ -17,6 +18,7 @@ const USAGE: &str = "usage:
   reference differ-held CASES ANSWERS
   reference lists < LISTS
   reference make-lists SEED COUNT FILE
+  reference count-lists LISTS
   reference cover-lists LISTS
   reference judge-lists LISTS ANSWERS
   reference differ-lists LISTS ANSWERS";
@@ -36,6 +38,7 @@ fn main() -> ExitCode {
         ["differ-held", cases, answers] => differ_held(cases, answers),
         ["lists"] => run_lists(),
         ["make-lists", seed, count, file] => make_lists(seed, count, Path::new(file)),
+        ["count-lists", lists] => count_lists(lists).map(|_| ()),
         ["cover-lists", lists] => cover_lists(lists),
         ["judge-lists", lists, answers] => judge_lists(lists, answers),
         ["differ-lists", lists, answers] => differ_lists(lists, answers),
@@ -153,10 +156,16 @@ fn make_lists(seed: &str, count: &str, file: &Path) -> Outcome {
     out.flush().map_err(text)
 }
 
-/// Prints what the lists met; fails if that is not all, or is impossible.
-fn cover_lists(file: &str) -> Outcome {
+/// Prints what the lists met.
+fn count_lists(file: &str) -> Result<Cover, String> {
     let cover = cover::cover(&lists::records(&fs::read(file).map_err(text)?)?);
     print!("{cover}");
+    Ok(cover)
+}
+
+/// The same; fails if that is not all, or is impossible.
+fn cover_lists(file: &str) -> Outcome {
+    let cover = count_lists(file)?;
     let (never, odd) = (cover.never_met(), cover.impossible());
     match never.is_empty() && odd.is_empty() {
         true => Ok(()),
