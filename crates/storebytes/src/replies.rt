@@ -1,11 +1,11 @@
 // A call from its kind, and what a call answers as bytes.
 ghost use Prim.Native.Nat.{_+_, _≤_};
 ghost use lib.ListN.{length};
+use super::encode::put;
+use super::encode::put_word;
 use answers::Answer;
 use answers::Completion;
 use answers::Refusal;
-use super::encode::put;
-use super::encode::put_word;
 use machine::Settled;
 use settle::Completions;
 use store::Outcome;
