@@ -2,9 +2,9 @@
 use Prim.Native.Nat.{ℕ, suc, _+_, _-_, _≤_}
 use native.Mathlib.Omega.{arith}
 use native.Mathlib.Numerals.{add-one}
-use mathlib.Core.Bool.{Bool, true, false, _||_, true≢false}
+use mathlib.Core.Bool.{true, false, true≢false}
 use mathlib.Core.Path.{_≡_, refl, sym, ap, _∙_}
-use mathlib.Core.List.{List, [], _++_, append-nil}
+use mathlib.Core.List.{[], _++_, append-nil}
 use lib.ListN.{length, length-set}
 use lib.Seq.{take-suc-set}
 use Rattle.answers.specs.declared.Answer.{Answer}
@@ -22,7 +22,6 @@ use Rattle.machine.proofs.KeepsRepeat.{settle-step-keeps}
 use Rattle.machine.proofs.Falls.{waitingIn, settle-falls, settle-completes, waiting-most}
 use Rattle.machine.proofs.FallsSettle.{repeat-ended, repeat-more}
 use Rattle.settle.specs.declared.Completions.{Completions}
-use Rattle.settle.specs.declared.SettleOutcome.{SettleOutcome}
 use Rattle.settle.specs.Settles.{listOf, noCompletions, settlementOf, listedOf, refusalOf}
 
 -- ---- the list of completions
@@ -30,6 +29,7 @@ pub none-listed : listOf noCompletions ≡ []
 unfolding noCompletions
 none-listed = refl
 
+-- the completion of an answer goes behind the others, if there is room for it
 pub list-adds : (d : Completions) (a : Answer) → length (doneIn a) + d .len ≤ length (d .at) → listOf (listedOf d a) ≡ listOf d ++ doneIn a
 list-adds d Opened h = sym (append-nil _)
 list-adds d (Done x) h = rw add-one (take-suc-set (d .at) (d .len) x (omega arith))
@@ -74,6 +74,7 @@ endsWith s p = unlessRefused (p .answer) s (reached s p)
 abbrev after : ℕ → Completions → Answer → Store → Progress
 after count d a s = record { count = count; completions = listOf d; answer = a; store = s }
 
+-- count steps have led from the first store to s with the completions d; none was refused, and what is left of the settle is the same
 pub record Going (first s : Store) (d : Completions) (count : ℕ) : Type 0 where
   pub sound : corruptOf s ≡ false
   pub sized : Sized s
@@ -100,6 +101,13 @@ module _ (first s : Store) (d : Completions) (count : ℕ) (g : Going first s d 
       let e : ended p ≡ true = rw (g .passed, q) in
       sym (g .same ∙ (rw (repeat-ended (suc (boundOf first - count)) p e, passes (g .answer) first (reached first p) (g .passed), q)))
 
+  -- there is room for the completion of a step
+  pub going-fits : refusedOf (settleStep s .answer) ≡ false → length (doneIn (settleStep s .answer)) + d .len ≤ 8
+  going-fits x =
+      let c = settle-completes s (g .sound) (g .sized) x in
+      let f = g .fits in
+      omega arith
+
   module _ (q : quietOf s ≡ false) where
     -- one step is taken
     steps : settleOf first ≡ endsWith first (repeatStep (boundOf first - count) (advance (after count d (g .answer) s)))
@@ -117,32 +125,24 @@ module _ (first s : Store) (d : Completions) (count : ℕ) (g : Going first s d 
         let e : ended p ≡ true = rw x in
         sym (steps ∙ (ap (endsWith first) (repeat-ended (boundOf first - count) p e) ∙ fails (settleStep s .answer) first (reached first p) x))
 
-    module _ (x : refusedOf (settleStep s .answer) ≡ false) where
-      -- there is room for its completion
-      pub going-fits : length (doneIn (settleStep s .answer)) + d .len ≤ 8
-      going-fits =
-          let c = settle-completes s (g .sound) (g .sized) x in
-          let f = g .fits in
-          omega arith
-
-      -- it is not
-      pub going-next : Going first (settleStep s .store) (listedOf d (settleStep s .answer)) (count + 1)
-      unfolding advance
-      going-next =
-          let c = settle-completes s (g .sound) (g .sized) x in
-          let f = g .fits in
-          let b = g .bounded in
-          let m = settle-falls s (g .sound) (g .sized) x in
-          let l = list-counts d (settleStep s .answer) in
-          let h : length (doneIn (settleStep s .answer)) + d .len ≤ length (d .at) = rw (g .places) going-fits in
-          let z : boundOf first - count ≡ suc (boundOf first - (count + 1)) = omega arith in
-          record {
-            sound = settle-step-keeps s (g .sound) (sized-whole s (sound s (g .sound) .n-high) (g .sized));
-            sized = settle-step-sized s (g .sized);
-            bounded = omega arith;
-            fits = omega arith;
-            places = list-places d (settleStep s .answer) ∙ g .places;
-            answer = settleStep s .answer;
-            passed = x;
-            same = steps ∙ rw (z, list-adds d (settleStep s .answer) h, add-one);
-          }
+    -- it is not
+    pub going-next : refusedOf (settleStep s .answer) ≡ false → Going first (settleStep s .store) (listedOf d (settleStep s .answer)) (count + 1)
+    unfolding advance
+    going-next x =
+        let c = settle-completes s (g .sound) (g .sized) x in
+        let f = g .fits in
+        let b = g .bounded in
+        let m = settle-falls s (g .sound) (g .sized) x in
+        let l = list-counts d (settleStep s .answer) in
+        let h : length (doneIn (settleStep s .answer)) + d .len ≤ length (d .at) = rw (g .places) (going-fits x) in
+        let z : boundOf first - count ≡ suc (boundOf first - (count + 1)) = omega arith in
+        record {
+          sound = settle-step-keeps s (g .sound) (sized-whole s (sound s (g .sound) .n-high) (g .sized));
+          sized = settle-step-sized s (g .sized);
+          bounded = omega arith;
+          fits = omega arith;
+          places = list-places d (settleStep s .answer) ∙ g .places;
+          answer = settleStep s .answer;
+          passed = x;
+          same = steps ∙ rw (z, list-adds d (settleStep s .answer) h, add-one);
+        }

@@ -2,12 +2,10 @@
 use borrow.Author.Needs.{needs}
 use borrow.Author.Tests.{not-true, not-false}
 use native.Mathlib.Omega.{arith}
-use mathlib.Core.Path.{_≡_, sym, ap, _∙_}
-use mathlib.Core.Bool.{Bool, true, false}
+use mathlib.Core.Path.{sym, ap, _∙_}
 use Rattle.answers.specs.Refusals.{refusedOf}
 use Rattle.store.specs.declared.Outcome.{Outcome}
-use Rattle.store.specs.Quiet.{quietOf}
-use Rattle.machine.specs.Settle.{settleStep, boundOf, doneIn}
+use Rattle.machine.specs.Settle.{boundOf}
 use Rattle.machine.proofs.Falls.{settle-falls, bound-most}
 use Rattle.settle.proofs.Arrays.{arrays-sized}
 use Rattle.settle.proofs.Going.{Going, going-start, going-quiet, going-refused, going-fits, going-next}
@@ -42,26 +40,26 @@ refuse-requires : tie.Need-refuse-requires Inv-loop μ-loop
 refuse-requires c κs = search needs
 
 returns : tie.Need-returns Inv-loop μ-loop
-returns c = let g = going-refused _ (c .before .before .before .before .before .before .before .loop .s) (c .before .before .before .before .before .before .before .loop .done) (c .before .before .before .before .before .before .before .loop .count) (c .before .before .before .before .before .before .before .loop .inv) (sym (c .before .before .before .before .before .before .quiet .ensures) ∙ not-true (c .before .before .before .before .before .before .quiet .result) (c .before .before .before .before .before .if1 .taken)) (ap (λ (x : Outcome). refusedOf (x .answer)) (sym (c .before .before .before .before .step .ensures)) ∙ (sym (c .before .before .before .refused .ensures) ∙ c .before .before .if2 .taken)) in
+returns c = let g = going-refused _ _ _ _ (c .before .before .before .before .before .before .before .loop .inv) (sym (c .before .before .before .before .before .before .quiet .ensures) ∙ not-true (c .before .before .before .before .before .before .quiet .result) (c .before .before .before .before .before .if1 .taken)) (ap (λ (x : Outcome). refusedOf (x .answer)) (sym (c .before .before .before .before .step .ensures)) ∙ (sym (c .before .before .before .refused .ensures) ∙ c .before .before .if2 .taken)) in
     (c .refuse .ensures .0 ∙ rw (c .before .refusal .ensures, c .before .before .before .before .step .ensures) g, c .refuse .ensures .1)
 
 list-requires : tie.Need-list-requires Inv-loop μ-loop
-list-requires c κs = rw (c .before .before .step .ensures) (going-fits _ (c .before .before .before .before .before .loop .s) (c .before .before .before .before .before .loop .done) (c .before .before .before .before .before .loop .count) (c .before .before .before .before .before .loop .inv) (sym (c .before .before .before .before .quiet .ensures) ∙ not-true (c .before .before .before .before .quiet .result) (c .before .before .before .if1 .taken)) (ap (λ (x : Outcome). refusedOf (x .answer)) (sym (c .before .before .step .ensures)) ∙ (sym (c .before .refused .ensures) ∙ c .if2 .left)))
+list-requires c κs = rw (c .before .before .step .ensures) (going-fits _ _ _ _ (c .before .before .before .before .before .loop .inv) (ap (λ (x : Outcome). refusedOf (x .answer)) (sym (c .before .before .step .ensures)) ∙ (sym (c .before .refused .ensures) ∙ c .if2 .left)))
 
 add-count : tie.Need-add-count Inv-loop μ-loop
-add-count c = let n = going-next _ (c .before .before .before .before .before .before .before .loop .s) (c .before .before .before .before .before .before .before .loop .done) (c .before .before .before .before .before .before .before .loop .count) (c .before .before .before .before .before .before .before .loop .inv) (sym (c .before .before .before .before .before .before .quiet .ensures) ∙ not-true (c .before .before .before .before .before .before .quiet .result) (c .before .before .before .before .before .if1 .taken)) (ap (λ (x : Outcome). refusedOf (x .answer)) (sym (c .before .before .before .before .step .ensures)) ∙ (sym (c .before .before .before .refused .ensures) ∙ c .before .before .if2 .left)) in
+add-count c = let n = going-next _ _ _ _ (c .before .before .before .before .before .before .before .loop .inv) (sym (c .before .before .before .before .before .before .quiet .ensures) ∙ not-true (c .before .before .before .before .before .before .quiet .result) (c .before .before .before .before .before .if1 .taken)) (ap (λ (x : Outcome). refusedOf (x .answer)) (sym (c .before .before .before .before .step .ensures)) ∙ (sym (c .before .before .before .refused .ensures) ∙ c .before .before .if2 .left)) in
     let b = n .bounded in
     let m = bound-most _ (c .before .before .before .before .before .before .before .before .before .pre) in
     omega arith
 
 loop-less : tie.Need-loop-less Inv-loop μ-loop
-loop-less c = rw (c .before .before .before .before .step .ensures) (settle-falls (c .before .before .before .before .before .before .before .loop .s) (c .before .before .before .before .before .before .before .loop .inv .sound) (c .before .before .before .before .before .before .before .loop .inv .sized) (ap (λ (x : Outcome). refusedOf (x .answer)) (sym (c .before .before .before .before .step .ensures)) ∙ (sym (c .before .before .before .refused .ensures) ∙ c .before .before .if2 .left)))
+loop-less c = rw (c .before .before .before .before .step .ensures) (settle-falls _ (c .before .before .before .before .before .before .before .loop .inv .sound) (c .before .before .before .before .before .before .before .loop .inv .sized) (ap (λ (x : Outcome). refusedOf (x .answer)) (sym (c .before .before .before .before .step .ensures)) ∙ (sym (c .before .before .before .refused .ensures) ∙ c .before .before .if2 .left)))
 
 loop-again : tie.Need-loop-again Inv-loop μ-loop
-loop-again c = rw (c .before .list .ensures, c .before .before .before .before .step .ensures) (going-next _ (c .before .before .before .before .before .before .before .loop .s) (c .before .before .before .before .before .before .before .loop .done) (c .before .before .before .before .before .before .before .loop .count) (c .before .before .before .before .before .before .before .loop .inv) (sym (c .before .before .before .before .before .before .quiet .ensures) ∙ not-true (c .before .before .before .before .before .before .quiet .result) (c .before .before .before .before .before .if1 .taken)) (ap (λ (x : Outcome). refusedOf (x .answer)) (sym (c .before .before .before .before .step .ensures)) ∙ (sym (c .before .before .before .refused .ensures) ∙ c .before .before .if2 .left)))
+loop-again c = rw (c .before .list .ensures, c .before .before .before .before .step .ensures) (going-next _ _ _ _ (c .before .before .before .before .before .before .before .loop .inv) (sym (c .before .before .before .before .before .before .quiet .ensures) ∙ not-true (c .before .before .before .before .before .before .quiet .result) (c .before .before .before .before .before .if1 .taken)) (ap (λ (x : Outcome). refusedOf (x .answer)) (sym (c .before .before .before .before .step .ensures)) ∙ (sym (c .before .before .before .refused .ensures) ∙ c .before .before .if2 .left)))
 
 returns-2 : tie.Need-returns-2 Inv-loop μ-loop
-returns-2 c = (going-quiet _ (c .before .before .loop .s) (c .before .before .loop .done) (c .before .before .loop .count) (c .before .before .loop .inv) (sym (c .before .quiet .ensures) ∙ not-false (c .before .quiet .result) (c .if1 .left)), omega (arith, c .before .before .loop .inv .bounded))
+returns-2 c = (going-quiet _ _ _ _ (c .before .before .loop .inv) (sym (c .before .quiet .ensures) ∙ not-false (c .before .quiet .result) (c .if1 .left)), omega (arith, c .before .before .loop .inv .bounded))
 
 pub settle-sound-spec : {M : Type 1} → statement M
 settle-sound-spec =

@@ -1,6 +1,5 @@
 -- `settle::step` meets its contract. Assumes nothing.
 use borrow.Author.Tests.{lt-ltb, le-ltb}
-use native.Mathlib.Omega.{arith}
 use Rattle.machine.specs.Settle.{settleStep}
 use Rattle.machine.proofs.Sound.{sound}
 use borrow.Author.Needs.{needs}
