@@ -2,12 +2,11 @@
 // bytes. It ends where the input does.
 ghost use Prim.Native.Nat.{_≤_};
 ghost use lib.ListN.{length};
-use answers::Answer;
 use libc::STDIN_FILENO;
 use libc::STDOUT_FILENO;
 use machine::Pictured;
-use store::Outcome;
 use store::Store;
+use storebytes::Reply;
 use words::LaneNo;
 use words::WordNo;
 
@@ -22,83 +21,15 @@ const UNWRITTEN: u8 = 165;
 // The proved loop has to end: more cases than any input has.
 const MOST_CASES: u32 = 1000000;
 
-// The kinds of call.
-const LOAD: u8 = 1;
-
-const STORE: u8 = 2;
-
-const EXCHANGE: u8 = 3;
-
-const ADD: u8 = 4;
-
-const SERVE: u8 = 5;
-
-const RETURN: u8 = 6;
-
+// The kinds of call that storebytes does not take.
 const PICTURE: u8 = 16;
 
-// An answer's bytes: its tag, a lane or a refusal's number, a value.
-struct Reply {
-    tag: u8,
-    small: u8,
-    value: u32,
-}
-
-fn call_reply(a: Answer) -> Reply {
-    match a {
-        Answer::Opened => Reply {
-            tag: 0,
-            small: 0,
-            value: 0,
-        },
-        Answer::Done(x) => Reply {
-            tag: 1,
-            small: x.lane.0,
-            value: x.value,
-        },
-        Answer::Wait => Reply {
-            tag: 2,
-            small: 0,
-            value: 0,
-        },
-        Answer::Step => Reply {
-            tag: 3,
-            small: 0,
-            value: 0,
-        },
-        Answer::Refused(r) => Reply {
-            tag: 4,
-            small: r.number(),
-            value: 0,
-        },
-    }
-}
+const SETTLE: u8 = 17;
 
 fn picture_reply(p: Pictured) -> Reply {
     match p {
-        Pictured::Length(n) => Reply {
-            tag: 5,
-            small: 0,
-            value: (n % 65536) as u32,
-        },
-        Pictured::Refused(r) => Reply {
-            tag: 4,
-            small: r.number(),
-            value: 0,
-        },
-    }
-}
-
-// What a call gives that is no picture.
-fn called(s: Store, kind: u8, k: LaneNo, w: WordNo, v: u32) -> Outcome {
-    match kind {
-        LOAD => calls::load(s, k, w),
-        STORE => calls::store_value(s, k, w, v),
-        EXCHANGE => calls::exchange(s, k, w, v),
-        ADD => calls::add(s, k, w, v),
-        SERVE => calls::serve(s, k),
-        RETURN => calls::return_head(s, k),
-        _ => calls::deliver(s, k),
+        Pictured::Length(n) => storebytes::reply_of(5, 0, (n % 65536) as u32),
+        Pictured::Refused(r) => storebytes::refused(r),
     }
 }
 
@@ -112,9 +43,7 @@ fn write_after(r: Reply, s: Store) {
 fn put_after(out: &mut [u8], r: Reply, s: Store)
     requires { ⌜ 3553 ≤ length (now out) ⌝ }
 {
-    storebytes::put(out, 0, r.tag);
-    storebytes::put(out, 1, r.small);
-    storebytes::put_word(out, 2, r.value);
+    storebytes::put_reply(out, r);
     storebytes::put_store(out, 8, s);
 }
 
@@ -134,6 +63,18 @@ fn answer_picture(s: Store, lent: usize) {
     io::write_all(STDOUT_FILENO, &buffer);
 }
 
+fn answer_settle(s: Store) {
+    let o = settle::settle(s);
+    let a = o.answer;
+    let d = o.completions;
+    let after = o.store;
+    let r = storebytes::settle_reply(a, d.len);
+    write_after(r, after);
+    let mut out = [0u8; 40];
+    storebytes::put_completions(&mut out, 0, d);
+    io::write_all(STDOUT_FILENO, &out);
+}
+
 // A case's answer: the call stands behind the store's 3,545 bytes.
 fn answer(case: &[u8])
     requires { ⌜ 3553 ≤ length (now case) ⌝ }
@@ -147,10 +88,14 @@ fn answer(case: &[u8])
         answer_picture(s, v as usize);
         return;
     }
-    let o = called(s, kind, k, w, v);
+    if kind == SETTLE {
+        answer_settle(s);
+        return;
+    }
+    let o = storebytes::called(s, kind, k, w, v);
     let a = o.answer;
     let after = o.store;
-    let r = call_reply(a);
+    let r = storebytes::call_reply(a);
     write_after(r, after);
 }
 

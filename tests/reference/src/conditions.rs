@@ -2,7 +2,8 @@
 //! its own. Written apart from the steps: the first in the law's order must
 //! be the number that the call gives.
 
-use crate::held::HeldCall;
+use crate::held::{HeldCall, SETTLE_KIND};
+use crate::machine;
 use crate::parts::*;
 
 /// The order of the checks of a held call.
@@ -14,16 +15,25 @@ pub fn applicable(kind: u8) -> &'static [u8] {
         0x01..=0x04 => &[14, 6, 7, 8, 12],
         0x05 => &[14, 6, 9, 10, 11, 12],
         0x06 | 0x07 => &[14, 6, 9, 16, 12],
+        SETTLE_KIND => &[14, 10, 16, 12],
         _ => &[14, 15],
     }
 }
 
 /// All conditions that hold, in the order of the checks.
 pub fn all(s: &Store, call: HeldCall) -> Vec<u8> {
+    if call == HeldCall::Settle && corrupt_reasons(s).is_empty() {
+        return match settle_end(s) {
+            SettleEnd::Quiet => Vec::new(),
+            SettleEnd::Stuck(_) => vec![16],
+            SettleEnd::At(now, step) => all(&now, HeldCall::Machine(step)),
+        };
+    }
     let holds = |number: u8| match (number, call) {
         (14, _) => !corrupt_reasons(s).is_empty(),
         (15, HeldCall::Picture(lent)) => 19 * valid_lines(s) > lent as usize,
         (_, HeldCall::Picture(_)) => false,
+        (_, HeldCall::Settle) => false,
         (6, HeldCall::Machine(call)) => call.lane() >= s.n,
         (_, HeldCall::Machine(call)) => match s.lanes.get(usize::from(call.lane())) {
             Some(lane) => call_condition(s, lane, call, number),
@@ -31,6 +41,46 @@ pub fn all(s: &Store, call: HeldCall) -> Vec<u8> {
         },
     };
     ORDER.into_iter().filter(|&number| holds(number)).collect()
+}
+
+/// Where settle's steps lead: to quiet, to a store without a next step, or
+/// to a store and the step that is refused there.
+pub enum SettleEnd {
+    Quiet,
+    Stuck(Box<Store>),
+    At(Box<Store>, Call),
+}
+
+/// Settle's steps one by one, each asked for its conditions.
+pub fn settle_end(s: &Store) -> SettleEnd {
+    let mut now = s.clone();
+    while let Some(step) = first_step(&now) {
+        if !all(&now, HeldCall::Machine(step)).is_empty() {
+            return SettleEnd::At(Box::new(now), step);
+        }
+        now = machine::call(&now, step).expect("no condition holds").0;
+    }
+    match stuck_reasons(&now) {
+        [false, false] => SettleEnd::Quiet,
+        _ => SettleEnd::Stuck(Box::new(now)),
+    }
+}
+
+/// Deliver, return, serve: the first that has a lane, on its lowest lane.
+fn first_step(s: &Store) -> Option<Call> {
+    let lanes: Vec<(u8, &Lane)> = (0..s.n).zip(&s.lanes).collect();
+    let mut steps = lanes.iter().filter(|(_, l)| l.down.length > 0).map(|&(k, _)| Call::Deliver(k));
+    let mut takes =
+        lanes.iter().filter(|(_, l)| l.returns.length > 0).map(|&(k, _)| Call::Return(k));
+    let waits = |lane: &Lane| lane.waiting.is_some_and(|w| !w.served);
+    let mut serves = lanes.iter().filter(|(_, l)| waits(l)).map(|&(k, _)| Call::Serve(k));
+    steps.next().or(takes.next()).or(serves.next())
+}
+
+/// With queues empty and nothing unserved: a service, a served operation.
+fn stuck_reasons(s: &Store) -> [bool; 2] {
+    let served = s.lanes.iter().take(usize::from(s.n)).any(|lane| lane.waiting.is_some());
+    [s.service.is_some(), served]
 }
 
 fn word_out_of_range(s: &Store, call: Call) -> bool {
@@ -102,8 +152,8 @@ fn head_answer(lane: &Lane) -> Option<Message<ReturnKind>> {
     lane.returns.head().filter(|m| m.kind.is_answer())
 }
 
-/// All the reasons that 16 can have, without settle's.
-pub const UNEXPECTED_REASONS: [&str; 9] = [
+/// All the reasons that 16 can have; the last two are settle's.
+pub const UNEXPECTED_REASONS: [&str; 11] = [
     "answer with no service",
     "answer for a block not in service",
     "answer with 0 awaited",
@@ -113,13 +163,27 @@ pub const UNEXPECTED_REASONS: [&str; 9] = [
     "bare grant on a block not held",
     "grant with words on a held block",
     "grant with words and no free line",
+    "settle is stuck with a service",
+    "settle is stuck with a served operation",
 ];
 
-/// The reasons for which a return or deliver meets a unexpected message.
+/// The reasons for which a call meets an unexpected message, or is stuck.
 pub fn unexpected_reasons(s: &Store, call: HeldCall) -> Vec<&'static str> {
-    let HeldCall::Machine(call) = call else {
-        return Vec::new();
-    };
+    match call {
+        HeldCall::Picture(_) => Vec::new(),
+        HeldCall::Machine(call) => message_reasons(s, call),
+        HeldCall::Settle => match settle_end(s) {
+            SettleEnd::Quiet => Vec::new(),
+            SettleEnd::At(now, step) => message_reasons(&now, step),
+            SettleEnd::Stuck(now) => {
+                let holds = stuck_reasons(&now);
+                (0..2).filter(|&i| holds[i]).map(|i| UNEXPECTED_REASONS[9 + i]).collect()
+            }
+        },
+    }
+}
+
+fn message_reasons(s: &Store, call: Call) -> Vec<&'static str> {
     let Some(lane) = s.lanes.get(usize::from(call.lane())) else {
         return Vec::new();
     };

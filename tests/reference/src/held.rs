@@ -2,6 +2,7 @@
 
 use crate::machine;
 use crate::parts::*;
+use crate::settle::{self, Settled};
 
 pub const STORE_BYTES: usize = 3_545;
 pub const CALL_BYTES: usize = 8;
@@ -9,35 +10,45 @@ pub const CASE_BYTES: usize = STORE_BYTES + CALL_BYTES;
 pub const ANSWER_BYTES: usize = 8;
 pub const BUFFER_BYTES: usize = 1_300;
 pub const BUFFER_FILL: u8 = 0xa5;
+pub const PICTURE_KIND: u8 = 0x10;
+pub const SETTLE_KIND: u8 = 0x11;
+
+/// A place for the completion of each lane, a lane and a value each.
+pub const COMPLETION_BYTES: usize = 5;
+pub const COMPLETIONS_BYTES: usize = LANES * COMPLETION_BYTES;
 
 #[derive(Clone, Copy, PartialEq, Eq, Debug)]
 pub enum HeldCall {
     Machine(Call),
     /// The length of the lent buffer.
     Picture(u32),
+    Settle,
 }
 
 impl HeldCall {
     pub fn kind(self) -> u8 {
         match self {
             HeldCall::Machine(call) => call.kind(),
-            HeldCall::Picture(_) => 0x10,
+            HeldCall::Picture(_) => PICTURE_KIND,
+            HeldCall::Settle => SETTLE_KIND,
         }
     }
 }
 
-#[derive(Clone, Copy, PartialEq, Eq, Debug)]
+#[derive(Clone, PartialEq, Eq, Debug)]
 pub enum HeldAnswer {
     Machine(Answer),
     Picture(u32),
+    Settled(Settled),
     Refused(u8),
 }
 
-/// What a held call gives: answer, store after, and picture's buffer.
+/// What a held call gives: answer, store after, and what follows the store:
+/// picture's buffer, or settle's completions.
 pub struct Given {
     pub answer: HeldAnswer,
     pub store: Store,
-    pub buffer: Option<Vec<u8>>,
+    pub after: Vec<u8>,
 }
 
 pub fn run(store: &Store, call: HeldCall) -> Given {
@@ -47,7 +58,7 @@ pub fn run(store: &Store, call: HeldCall) -> Given {
                 Ok((after, answer)) => (HeldAnswer::Machine(answer), after),
                 Err(number) => (HeldAnswer::Refused(number), store.clone()),
             };
-            Given { answer, store, buffer: None }
+            Given { answer, store, after: Vec::new() }
         }
         HeldCall::Picture(lent) => {
             let mut buffer = vec![BUFFER_FILL; BUFFER_BYTES];
@@ -55,26 +66,57 @@ pub fn run(store: &Store, call: HeldCall) -> Given {
                 Ok(length) => HeldAnswer::Picture(length as u32),
                 Err(number) => HeldAnswer::Refused(number),
             };
-            Given { answer, store: store.clone(), buffer: Some(buffer) }
+            Given { answer, store: store.clone(), after: buffer }
+        }
+        HeldCall::Settle => {
+            let (answer, store) = match settle::settle(store) {
+                Ok((after, given)) => (HeldAnswer::Settled(given), after),
+                Err(number) => (HeldAnswer::Refused(number), store.clone()),
+            };
+            let after = completions_bytes(&answer).to_vec();
+            Given { answer, store, after }
         }
     }
 }
 
 impl Given {
     pub fn bytes(&self) -> Vec<u8> {
-        let (tag, small, value) = match self.answer {
-            HeldAnswer::Machine(Answer::Done { lane, value }) => (1, lane, value),
-            HeldAnswer::Machine(Answer::Wait) => (2, 0, 0),
-            HeldAnswer::Machine(Answer::Step) => (3, 0, 0),
-            HeldAnswer::Refused(number) => (4, number, 0),
-            HeldAnswer::Picture(length) => (5, 0, length),
-        };
-        let mut out = vec![tag, small];
-        out.extend(value.to_le_bytes());
-        out.extend([0, 0]);
+        let mut out = answer_bytes(&self.answer).to_vec();
         out.extend(encode_store(&self.store));
-        out.extend(self.buffer.iter().flatten());
+        out.extend(&self.after);
         out
+    }
+}
+
+/// The 8 bytes of an answer.
+pub fn answer_bytes(answer: &HeldAnswer) -> [u8; ANSWER_BYTES] {
+    let (tag, small, value) = match answer {
+        HeldAnswer::Machine(Answer::Done { lane, value }) => (1, *lane, *value),
+        HeldAnswer::Machine(Answer::Wait) => (2, 0, 0),
+        HeldAnswer::Machine(Answer::Step) => (3, 0, 0),
+        HeldAnswer::Refused(number) => (4, *number, 0),
+        HeldAnswer::Picture(length) => (5, 0, *length),
+        HeldAnswer::Settled(given) => (6, 0, given.steps),
+    };
+    let v = value.to_le_bytes();
+    [tag, small, v[0], v[1], v[2], v[3], completions(answer).len() as u8, 0]
+}
+
+/// What follows settle's answer: its completions in order, then 0.
+pub fn completions_bytes(answer: &HeldAnswer) -> [u8; COMPLETIONS_BYTES] {
+    let mut out = [0; COMPLETIONS_BYTES];
+    for (place, done) in out.chunks_mut(COMPLETION_BYTES).zip(completions(answer)) {
+        place[0] = done.lane;
+        place[1..].copy_from_slice(&done.value.to_le_bytes());
+    }
+    out
+}
+
+/// The completions that settle lists; a refused one lists none.
+fn completions(answer: &HeldAnswer) -> &[Completion] {
+    match answer {
+        HeldAnswer::Settled(given) => &given.completions,
+        _ => &[],
     }
 }
 
@@ -107,6 +149,7 @@ pub fn encode_call(call: HeldCall) -> [u8; CALL_BYTES] {
         HeldCall::Machine(Call::Begin { lane, op, word }) => (lane, word, operand(op)),
         HeldCall::Machine(call) => (call.lane(), 0, 0),
         HeldCall::Picture(lent) => (0, 0, lent),
+        HeldCall::Settle => (0, 0, 0),
     };
     let v = v.to_le_bytes();
     [call.kind(), lane, word, v[0], v[1], v[2], v[3], 0]
@@ -124,7 +167,8 @@ pub fn decode_call(bytes: &[u8]) -> Result<HeldCall, String> {
         0x05 => Call::Serve(lane),
         0x06 => Call::Return(lane),
         0x07 => Call::Deliver(lane),
-        0x10 if v as usize <= BUFFER_BYTES => return Ok(HeldCall::Picture(v)),
+        PICTURE_KIND if v as usize <= BUFFER_BYTES => return Ok(HeldCall::Picture(v)),
+        SETTLE_KIND => return Ok(HeldCall::Settle),
         _ => return Err(format!("call kind {kind:#04x} with v {v}")),
     }))
 }
@@ -362,6 +406,6 @@ fn answer_part_name(offset: usize) -> String {
     } else if offset < ANSWER_BYTES + STORE_BYTES {
         part_name(offset - ANSWER_BYTES)
     } else {
-        format!("buffer byte {}", offset - ANSWER_BYTES - STORE_BYTES)
+        format!("byte {} after the store", offset - ANSWER_BYTES - STORE_BYTES)
     }
 }

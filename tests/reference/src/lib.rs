@@ -1,13 +1,21 @@
 //! A reference of the lane store of document 01, written from the document
-//! and its readings only, with generators of tapes and of held stores.
+//! and its readings only, with generators of tapes, of lists of calls and of
+//! held stores.
 
 pub mod conditions;
+pub mod cover;
 pub mod damage;
+pub mod events;
+pub mod flat;
 pub mod held;
+pub mod judge;
+pub mod list_maker;
+pub mod lists;
 pub mod machine;
 pub mod parts;
 pub mod rng;
 pub mod scramble;
+pub mod settle;
 pub mod situations;
 pub mod stores;
 pub mod summary;

@@ -1,7 +1,8 @@
 //! The command line. See README.md.
 
+use reference::cover::{self, Cover};
 use reference::summary::{Cases, Tapes};
-use reference::{held, stores, tape, tapes};
+use reference::{held, judge, list_maker, lists, stores, tape, tapes};
 use std::fs;
 use std::io::{self, BufWriter, Read, Write};
 use std::path::{Path, PathBuf};
@@ -14,7 +15,13 @@ const USAGE: &str = "usage:
   reference count-tapes DIR
   reference expect-tapes DIR
   reference make-held SEED COUNT FILE
-  reference differ-held CASES ANSWERS";
+  reference differ-held CASES ANSWERS
+  reference lists < LISTS
+  reference make-lists SEED COUNT FILE
+  reference count-lists LISTS
+  reference cover-lists LISTS
+  reference judge-lists LISTS ANSWERS
+  reference differ-lists LISTS ANSWERS";
 
 type Outcome = Result<(), String>;
 
@@ -29,6 +36,12 @@ fn main() -> ExitCode {
         ["expect-tapes", dir] => expect_tapes(Path::new(dir)),
         ["make-held", seed, count, file] => make_held(seed, count, Path::new(file)),
         ["differ-held", cases, answers] => differ_held(cases, answers),
+        ["lists"] => run_lists(),
+        ["make-lists", seed, count, file] => make_lists(seed, count, Path::new(file)),
+        ["count-lists", lists] => count_lists(lists).map(|_| ()),
+        ["cover-lists", lists] => cover_lists(lists),
+        ["judge-lists", lists, answers] => judge_lists(lists, answers),
+        ["differ-lists", lists, answers] => differ_lists(lists, answers),
         _ => Err(USAGE.to_string()),
     };
     match result {
@@ -111,7 +124,7 @@ fn make_held(seed: &str, count: &str, file: &Path) -> Outcome {
     let mut summary = Cases::default();
     for index in 0..count {
         let case = stores::make(seed, index);
-        summary.add(&case, held::run(&case.store, case.call).answer);
+        summary.add(&case, &held::run(&case.store, case.call).answer);
         out.write_all(&held::encode_case(&case.store, case.call)).map_err(text)?;
     }
     out.flush().map_err(text)?;
@@ -127,4 +140,50 @@ fn differ_held(cases: &str, answers: &str) -> Outcome {
         return Ok(());
     }
     Err(found.join("\n"))
+}
+
+fn run_lists() -> Outcome {
+    let out = lists::answers(&input()?)?;
+    io::stdout().write_all(&out).map_err(text)
+}
+
+fn make_lists(seed: &str, count: &str, file: &Path) -> Outcome {
+    let (seed, count) = (number(seed)?, number(count)?);
+    let mut out = BufWriter::new(fs::File::create(file).map_err(text)?);
+    for record in (0..count).flat_map(|index| list_maker::make(seed, index)) {
+        out.write_all(&record.bytes()).map_err(text)?;
+    }
+    out.flush().map_err(text)
+}
+
+/// Prints what the lists met.
+fn count_lists(file: &str) -> Result<Cover, String> {
+    let cover = cover::cover(&lists::records(&fs::read(file).map_err(text)?)?);
+    print!("{cover}");
+    Ok(cover)
+}
+
+/// The same; fails if that is not all, or is impossible.
+fn cover_lists(file: &str) -> Outcome {
+    let cover = count_lists(file)?;
+    let (never, odd) = (cover.never_met(), cover.impossible());
+    match never.is_empty() && odd.is_empty() {
+        true => Ok(()),
+        false => Err(format!("never met: {}\nimpossible: {}", never.join("; "), odd.join("; "))),
+    }
+}
+
+fn judge_lists(file: &str, answers: &str) -> Outcome {
+    let (input, answers) = (fs::read(file).map_err(text)?, fs::read(answers).map_err(text)?);
+    print!("{}", judge::judge(&lists::read(&input, &answers)?)?);
+    Ok(())
+}
+
+fn differ_lists(file: &str, answers: &str) -> Outcome {
+    let (input, answers) = (fs::read(file).map_err(text)?, fs::read(answers).map_err(text)?);
+    let found = lists::differences(&input, &answers, 20)?;
+    match found.is_empty() {
+        true => Ok(()),
+        false => Err(found.join("\n")),
+    }
 }

@@ -165,6 +165,13 @@ pub struct Lane {
     pub waiting: Option<Waiting>,
 }
 
+impl Lane {
+    /// Whether the lane waits for an operation that isn't served yet.
+    pub fn unserved(&self) -> bool {
+        matches!(self.waiting, Some(Waiting { served: false, .. }))
+    }
+}
+
 #[derive(Clone, Copy, PartialEq, Eq, Debug, Default)]
 pub struct Block {
     pub words: Words,
@@ -247,4 +254,11 @@ pub enum Answer {
     Done { lane: u8, value: u32 },
     Wait,
     Step,
+}
+
+/// An operation that completed: its lane and the value it gave.
+#[derive(Clone, Copy, PartialEq, Eq, Debug)]
+pub struct Completion {
+    pub lane: u8,
+    pub value: u32,
 }

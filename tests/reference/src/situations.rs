@@ -23,8 +23,8 @@ pub const NAMES: [&str; 14] = [
 ];
 
 /// The situations that a case meets, given that it was not refused.
-pub fn met(s: &Store, call: HeldCall, answer: HeldAnswer) -> Vec<&'static str> {
-    let (HeldCall::Machine(call), HeldAnswer::Machine(answer)) = (call, answer) else {
+pub fn met(s: &Store, call: HeldCall, answer: &HeldAnswer) -> Vec<&'static str> {
+    let (HeldCall::Machine(call), &HeldAnswer::Machine(answer)) = (call, answer) else {
         return Vec::new();
     };
     let lane = &s.lanes[usize::from(call.lane())];

@@ -52,7 +52,8 @@ pub fn reached(rng: &mut Rng) -> (Store, HeldCall) {
     }
     let call = match rng.below(100) {
         0..=9 => picture_call(&s, rng),
-        10..=59 => HeldCall::Machine(walk::next_call(&s, &style, rng)),
+        10..=24 => settle_call(&mut s, rng),
+        25..=64 => HeldCall::Machine(walk::next_call(&s, &style, rng)),
         _ => any_call(&s, rng),
     };
     (s, call)
@@ -61,9 +62,10 @@ pub fn reached(rng: &mut Rng) -> (Store, HeldCall) {
 /// A random store and a call that is turned toward it.
 fn random(rng: &mut Rng) -> (Store, HeldCall) {
     let mut s = scramble::store(rng);
-    let call = match rng.chance(8) {
-        true => picture_call(&s, rng),
-        false => any_call(&s, rng),
+    let call = match rng.below(100) {
+        0..=7 => picture_call(&s, rng),
+        8..=15 => settle_call(&mut s, rng),
+        _ => any_call(&s, rng),
     };
     if let HeldCall::Machine(call) = call {
         if call.lane() < s.n && rng.chance(70) {
@@ -95,6 +97,45 @@ fn picture_call(s: &Store, rng: &mut Rng) -> HeldCall {
     let near = [need, need, below, below, need + 1, need + 19, need.saturating_sub(19)];
     let lent = rng.pick(&near);
     HeldCall::Picture(rng.pick(&[lent, lent, any, 0, BUFFER_BYTES]) as u32)
+}
+
+/// Settle, of the store as it is or with one thing that its steps meet.
+fn settle_call(s: &mut Store, rng: &mut Rng) -> HeldCall {
+    let k = usize::from(rng.byte_below(s.n));
+    let (n, m) = (s.n, s.m);
+    match rng.below(10) {
+        // A service that is never answered: 10 or stuck.
+        0 | 1 => {
+            let fresh = scramble::service(n, m, rng);
+            let service = s.service.get_or_insert(fresh);
+            service.awaited = rng.pick(&[0, (service.awaited + 1).min(n - 1), n - 1]);
+        }
+        // An order to a lane with a full return queue: 12.
+        2 => {
+            let places = scramble::return_places(m, rng);
+            s.lanes[k].returns = Queue { length: 2, places };
+            let kind = rng.pick(&[DownKind::Update, DownKind::Purge]);
+            let order = Message { kind, block: rng.byte_below(m), words: [0; 4] };
+            s.lanes[k].down.push(order);
+        }
+        // A served operation that nothing answers: stuck.
+        3 => {
+            let fresh = scramble::waiting(m, rng);
+            s.lanes[k].waiting.get_or_insert(fresh).served = true;
+        }
+        // A last message that is refused when the others are taken.
+        4 => {
+            let last = &mut s.lanes[usize::from(n) - 1].returns;
+            last.push(scramble::return_places(m, rng)[0]);
+        }
+        // Ejects, which are always taken.
+        5 => {
+            let kind = rng.pick(&[ReturnKind::Eject, ReturnKind::WriteEject]);
+            s.lanes[k].returns.push(Message { kind, block: rng.byte_below(m), words: rng.words() });
+        }
+        _ => {}
+    }
+    HeldCall::Settle
 }
 
 /// Changes the store so that the later checks of the call are met.

@@ -1,8 +1,10 @@
 //! Counts of what tapes and cases met, for print.
 
 use crate::conditions::{self, REASONS, UNEXPECTED_REASONS};
-use crate::held::HeldAnswer;
+use crate::events::{Events, EVENTS};
+use crate::held::{HeldAnswer, HeldCall, PICTURE_KIND, SETTLE_KIND};
 use crate::parts::*;
+use crate::settle;
 use crate::situations;
 use crate::stores::{Case, SOURCES};
 use crate::tape::{self, Event, Outcome, Record};
@@ -14,30 +16,6 @@ const KINDS: [&str; 8] = ["open", "load", "store", "exchange", "add", "serve", "
 /// Numbers that a tape can give if the machine lets it.
 const TAPE_NUMBERS: [u8; 15] = [1, 2, 3, 4, 5, 6, 7, 8, 9, 10, 11, 12, 13, 14, 16];
 
-const EVENTS: [&str; 21] = [
-    "evictions, clean",
-    "evictions, dirty",
-    "EXCLUDE overtaken by PURGE",
-    "grants with words delivered to an EXCLUDE",
-    "bare grants delivered",
-    "orders joined behind a grant",
-    "grants delivered with an order behind",
-    "return queues grown to two messages",
-    "UPDATE on a held block",
-    "PURGE on a held PRIVATE block",
-    "PURGE on a held block, PRIVATE reset",
-    "orders on a block not held (GONE)",
-    "services closed by a return",
-    "quiet stores come to",
-    "begins that hit",
-    "begins that wait with EXCLUDE",
-    "begins that wait with READ shared",
-    "begins that wait with READ exclusive",
-    "serves of a READ shared",
-    "serves of a READ exclusive",
-    "serves of an EXCLUDE",
-];
-
 /// Counts over tapes.
 #[derive(Default)]
 pub struct Tapes {
@@ -45,8 +23,7 @@ pub struct Tapes {
     pub too_long: usize,
     pub lines: usize,
     pub refused: BTreeMap<u8, usize>,
-    pub events: BTreeMap<&'static str, usize>,
-    pub orders: [usize; 8],
+    pub events: Events,
     pub shapes: BTreeSet<(u8, u8, u8)>,
     bytes: usize,
     empty: usize,
@@ -85,83 +62,9 @@ impl Tapes {
                 self.shapes.insert((s.n, s.c, s.m));
             }
             (Some(Record::Call(call)), Outcome::Answer(_), Some(before), Some(after)) => {
-                self.see_call(call, before, after);
+                self.events.see(call, before, after);
             }
             _ => {}
-        }
-    }
-
-    fn count(&mut self, name: &'static str, met: bool) {
-        debug_assert!(EVENTS.contains(&name), "{name}");
-        if met {
-            *self.events.entry(name).or_default() += 1;
-        }
-    }
-
-    /// A call that was not refused.
-    fn see_call(&mut self, call: Call, before: &Store, after: &Store) {
-        let k = usize::from(call.lane());
-        let (was, is) = (&before.lanes[k], &after.lanes[k]);
-        let grown = is.returns.length == 2 && was.returns.length == 1;
-        self.count("return queues grown to two messages", grown);
-        self.count("quiet stores come to", after.quiet() && !before.quiet());
-        match call {
-            Call::Begin { .. } => self.see_begin(was, is),
-            Call::Serve(_) => self.see_serve(was, before, after),
-            Call::Return(_) => {
-                let closed = before.service.is_some() && after.service.is_none();
-                self.count("services closed by a return", closed);
-            }
-            Call::Deliver(_) => self.see_deliver(was, is),
-        }
-    }
-
-    fn see_begin(&mut self, was: &Lane, is: &Lane) {
-        let evicted = is.returns.length > was.returns.length;
-        let last = is.returns.places[usize::from(is.returns.length).saturating_sub(1)].kind;
-        self.count("evictions, clean", evicted && last == ReturnKind::Eject);
-        self.count("evictions, dirty", evicted && last == ReturnKind::WriteEject);
-        let command = is.waiting.map(|w| w.command);
-        self.count("begins that hit", command.is_none());
-        self.count("begins that wait with EXCLUDE", command == Some(Command::Exclude));
-        self.count("begins that wait with READ shared", command == Some(Command::ReadShared));
-        let exclusive = command == Some(Command::ReadExclusive);
-        self.count("begins that wait with READ exclusive", exclusive);
-    }
-
-    fn see_serve(&mut self, was: &Lane, before: &Store, after: &Store) {
-        let orders = after.service.map_or(0, |service| service.awaited);
-        self.orders[usize::from(orders)] += 1;
-        let command = was.waiting.map(|w| w.command);
-        self.count("serves of a READ shared", command == Some(Command::ReadShared));
-        self.count("serves of a READ exclusive", command == Some(Command::ReadExclusive));
-        self.count("serves of an EXCLUDE", command == Some(Command::Exclude));
-        for (lane, former) in after.lanes.iter().zip(&before.lanes) {
-            let grew = lane.down.length == 2 && former.down.length == 1;
-            let [first, second] = lane.down.places.map(|m| m.kind.is_order());
-            self.count("orders joined behind a grant", grew && !first && second);
-        }
-    }
-
-    fn see_deliver(&mut self, was: &Lane, is: &Lane) {
-        let (head, next) = (was.down.places[0].kind, was.down.places[1].kind);
-        if head.is_order() {
-            let answer = is.returns.places[usize::from(is.returns.length) - 1];
-            let kind = answer.kind;
-            self.count("UPDATE on a held block", kind == ReturnKind::Updated);
-            self.count("PURGE on a held PRIVATE block", kind == ReturnKind::PurgedWords);
-            self.count("PURGE on a held block, PRIVATE reset", kind == ReturnKind::Purged);
-            self.count("orders on a block not held (GONE)", kind == ReturnKind::Gone);
-            let waits = |w: Waiting| w.command == Command::Exclude && w.block() == answer.block;
-            let overtaken = kind == ReturnKind::Purged && is.waiting.is_some_and(waits);
-            self.count("EXCLUDE overtaken by PURGE", overtaken);
-        } else {
-            let exclude = was.waiting.is_some_and(|w| w.command == Command::Exclude);
-            let words = head == DownKind::Grant;
-            self.count("grants with words delivered to an EXCLUDE", exclude && words);
-            self.count("bare grants delivered", !words);
-            let behind = was.down.length == 2 && next.is_order();
-            self.count("grants delivered with an order behind", behind);
         }
     }
 }
@@ -187,9 +90,9 @@ impl Display for Tapes {
         writeln!(f, "refusals never met: {}", never.join(", "))?;
         writeln!(f, "events:")?;
         for name in EVENTS {
-            writeln!(f, "  {name}: {}", self.events.get(name).unwrap_or(&0))?;
+            writeln!(f, "  {name}: {}", self.events.of(name))?;
         }
-        writeln!(f, "serves with 0 to 7 orders: {:?}", self.orders)?;
+        writeln!(f, "serves with 0 to 7 orders: {:?}", self.events.orders)?;
         let distinct = |part: fn(&(u8, u8, u8)) -> u8| {
             self.shapes.iter().map(part).collect::<BTreeSet<u8>>().len()
         };
@@ -213,11 +116,18 @@ pub struct Cases {
     /// By damage: all, and not corrupt after all.
     pub damages: BTreeMap<&'static str, (usize, usize)>,
     pub situations: BTreeMap<&'static str, usize>,
+    /// Settles that were not refused, by the count of completions.
+    pub settled: BTreeMap<usize, usize>,
+    /// Refused settles, by the reason of 14 and of 16.
+    pub settle_reasons: BTreeMap<&'static str, usize>,
+    /// Settles refused after steps, and of these after a completion.
+    pub undone: (usize, usize),
+    longest: u32,
     sources: BTreeMap<&'static str, usize>,
 }
 
 impl Cases {
-    pub fn add(&mut self, case: &Case, answer: HeldAnswer) {
+    pub fn add(&mut self, case: &Case, answer: &HeldAnswer) {
         self.cases += 1;
         *self.sources.entry(case.source).or_default() += 1;
         let kind = case.call.kind();
@@ -226,7 +136,12 @@ impl Cases {
             HeldAnswer::Machine(Answer::Wait) => "wait".to_string(),
             HeldAnswer::Machine(Answer::Step) => "step".to_string(),
             HeldAnswer::Picture(_) => "picture".to_string(),
-            HeldAnswer::Refused(number) => {
+            HeldAnswer::Settled(given) => {
+                self.longest = self.longest.max(given.steps);
+                *self.settled.entry(given.completions.len()).or_default() += 1;
+                "settled".to_string()
+            }
+            &HeldAnswer::Refused(number) => {
                 self.add_refusal(case, number);
                 number.to_string()
             }
@@ -249,11 +164,30 @@ impl Cases {
             let reasons = conditions::unexpected_reasons(&case.store, case.call);
             add_reasons(&mut self.unexpected_reasons, &reasons);
         }
+        if case.call == HeldCall::Settle {
+            self.add_refused_settle(&case.store, number);
+        }
         for also in conditions::all(&case.store, case.call) {
             if also != number {
                 let key = (case.call.kind(), number, also);
                 *self.passed_over.entry(key).or_default() += 1;
             }
+        }
+    }
+
+    fn add_refused_settle(&mut self, store: &Store, number: u8) {
+        let reasons = match number {
+            14 => conditions::corrupt_reasons(store),
+            16 => conditions::unexpected_reasons(store, HeldCall::Settle),
+            _ => Vec::new(),
+        };
+        for reason in reasons {
+            *self.settle_reasons.entry(reason).or_default() += 1;
+        }
+        if number != 14 {
+            let (steps, completions) = settle::before_refusal(store);
+            self.undone.0 += usize::from(steps > 0);
+            self.undone.1 += usize::from(completions > 0);
         }
     }
 
@@ -272,10 +206,14 @@ fn add_reasons(counts: &mut BTreeMap<&'static str, (usize, usize)>, reasons: &[&
     }
 }
 
-pub const HELD_KINDS: [u8; 8] = [1, 2, 3, 4, 5, 6, 7, 0x10];
+pub const HELD_KINDS: [u8; 9] = [1, 2, 3, 4, 5, 6, 7, PICTURE_KIND, SETTLE_KIND];
 
 pub fn kind_name(kind: u8) -> &'static str {
-    KINDS.get(usize::from(kind)).unwrap_or(&"picture")
+    match kind {
+        PICTURE_KIND => "picture",
+        SETTLE_KIND => "settle",
+        _ => KINDS.get(usize::from(kind)).unwrap_or(&"unknown"),
+    }
 }
 
 impl Display for Cases {
@@ -290,7 +228,7 @@ impl Display for Cases {
         }
         for kind in HELD_KINDS {
             write!(f, "{}:", kind_name(kind))?;
-            for name in ["done", "wait", "step", "picture"] {
+            for name in ["done", "wait", "step", "picture", "settled"] {
                 if let Some(count) = self.given.get(&(kind, name.to_string())) {
                     write!(f, " {name} {count}")?;
                 }
@@ -313,6 +251,14 @@ impl Cases {
                 .map(|((_, given, also), count)| format!("{given}<{also} {count}"))
                 .collect();
             writeln!(f, "  {}: {}", kind_name(kind), parts.join(", "))?;
+        }
+        writeln!(f, "settled, by the count of completions: {}", pairs(&self.settled))?;
+        writeln!(f, "longest settle: {} steps", self.longest)?;
+        let (steps, completions) = self.undone;
+        writeln!(f, "settles refused after steps: {steps}, after completions: {completions}")?;
+        writeln!(f, "reasons of 14 and 16 in refused settles:")?;
+        for reason in REASONS.iter().chain(&UNEXPECTED_REASONS) {
+            writeln!(f, "  {reason}: {}", self.settle_reasons.get(reason).unwrap_or(&0))?;
         }
         writeln!(f, "situations, not refused:")?;
         for name in situations::NAMES {

@@ -1,6 +1,6 @@
 //! The tape reader and the lines that `benchtape` prints.
 
-use crate::machine::{self, TRUNCATED, ALREADY_OPEN, NOT_OPEN, UNKNOWN_KIND, TAPE_TOO_LONG};
+use crate::machine::{self, ALREADY_OPEN, NOT_OPEN, TAPE_TOO_LONG, TRUNCATED, UNKNOWN_KIND};
 use crate::parts::*;
 use std::fmt::Write;
 

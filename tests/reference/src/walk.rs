@@ -47,11 +47,10 @@ pub fn next_call(s: &Store, style: &Style, rng: &mut Rng) -> Call {
 
 /// A call that is not refused in a store from an opening, if there is one.
 pub fn meaningful_call(s: &Store, style: &Style, rng: &mut Rng) -> Option<Call> {
-    let unserved = |l: &Lane| matches!(l.waiting, Some(Waiting { served: false, .. }));
     let free = s.service.is_none();
     let candidates = [
         lanes_with(s, |l| l.waiting.is_none()),
-        lanes_with(s, |l| free && unserved(l) && l.returns.is_empty()),
+        lanes_with(s, |l| free && l.unserved() && l.returns.is_empty()),
         lanes_with(s, |l| !l.returns.is_empty()),
         lanes_with(s, |l| !l.down.is_empty()),
     ];

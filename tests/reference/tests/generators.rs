@@ -2,7 +2,7 @@
 
 use reference::conditions::{self, REASONS, UNEXPECTED_REASONS};
 use reference::damage::{CORRUPTING, FAIR};
-use reference::held::{self, HeldAnswer, HeldCall};
+use reference::held::{self, HeldAnswer, HeldCall, SETTLE_KIND};
 use reference::machine;
 use reference::rng::Rng;
 use reference::situations;
@@ -30,8 +30,9 @@ fn tapes_cover_what_they_must() {
     for number in [12, 14, 16] {
         assert!(!summary.refused.contains_key(&number), "refusal {number}");
     }
-    assert!(summary.orders.iter().all(|&count| count > 0), "{:?}", summary.orders);
-    assert_eq!(summary.events.len(), 21, "{:?}", summary.events.keys());
+    let events = &summary.events;
+    assert!(events.orders.iter().all(|&count| count > 0), "{:?}", events.orders);
+    assert_eq!(events.never_met(), [""; 0]);
     for n in 2..=8 {
         assert!(summary.shapes.iter().any(|s| s.0 == n));
     }
@@ -84,7 +85,8 @@ fn cases_agree_with_the_conditions() {
                 assert_eq!(Some(&number), holds.first(), "case {index} {:?}", case.call);
                 assert!(conditions::applicable(case.call.kind()).contains(&number));
                 assert!(given.store == case.store);
-                assert!(given.buffer.iter().flatten().all(|&byte| byte == 0xa5));
+                let untouched = if case.call == HeldCall::Settle { 0 } else { 0xa5 };
+                assert!(given.after.iter().all(|&byte| byte == untouched));
             }
             _ => {
                 assert!(holds.is_empty(), "case {index} {:?} {holds:?}", case.call);
@@ -100,7 +102,7 @@ fn cases_cover_what_they_must() {
         let mut summary = Cases::default();
         for index in 0..20_000 {
             let case = stores::make(seed, index);
-            summary.add(&case, held::run(&case.store, case.call).answer);
+            summary.add(&case, &held::run(&case.store, case.call).answer);
         }
         for number in conditions::ORDER {
             let total: usize = HELD_KINDS.iter().map(|&kind| summary.refused(kind, number)).sum();
@@ -118,8 +120,24 @@ fn cases_cover_what_they_must() {
         assert!(UNEXPECTED_REASONS.iter().all(|reason| alone(reason) >= 10));
         let met = |name| summary.situations.get(name).copied().unwrap_or(0);
         assert!(situations::NAMES.iter().all(|name| met(name) >= 10));
+        check_settles(&summary);
         check_pairs(&summary);
     }
+}
+
+/// Settle: each number and reason, each count of completions, and refusals
+/// that have steps and completions to undo.
+fn check_settles(summary: &Cases) {
+    for &number in conditions::applicable(SETTLE_KIND) {
+        let count = summary.refused(SETTLE_KIND, number);
+        assert!(count >= 100, "settle refused {number}: {count}");
+    }
+    for reason in REASONS.iter().chain(&UNEXPECTED_REASONS) {
+        let count = summary.settle_reasons.get(reason).copied().unwrap_or(0);
+        assert!(count >= 5, "settle, {reason}: {count}");
+    }
+    assert!((0..=8).all(|count| summary.settled.contains_key(&count)), "{:?}", summary.settled);
+    assert!(summary.undone.1 >= 100, "{:?}", summary.undone);
 }
 
 /// Pairs of numbers that can hold at once are met, in the law's order.

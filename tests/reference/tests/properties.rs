@@ -1,34 +1,10 @@
 //! Random runs from openings against flat memory, and the four properties.
 
+use reference::flat::{self, Flat};
 use reference::machine;
 use reference::parts::*;
 use reference::rng::Rng;
 use reference::walk::{self, Style};
-
-/// Flat memory, fed with completed operations.
-struct Flat(Vec<u32>);
-
-impl Flat {
-    fn feed(&mut self, op: Op, word: u8) -> u32 {
-        let cell = &mut self.0[usize::from(word)];
-        let former = *cell;
-        match op {
-            Op::Load => former,
-            Op::Store(v) => {
-                *cell = v;
-                v
-            }
-            Op::Exchange(v) => {
-                *cell = v;
-                former
-            }
-            Op::Add(v) => {
-                *cell = former.wrapping_add(v);
-                former
-            }
-        }
-    }
-}
 
 /// A machine, flat memory, and each lane's last begin call that waited.
 struct Run {
@@ -42,8 +18,7 @@ struct Run {
 impl Run {
     fn new(n: u8, c: u8, m: u8) -> Run {
         let store = machine::open(n, c, m).expect("shape in range");
-        let flat = Flat(vec![0; 4 * usize::from(m)]);
-        Run { store, flat, waited: [None; LANES], completions: 0, refused: 0 }
+        Run { store, flat: Flat::new(m), waited: [None; LANES], completions: 0, refused: 0 }
     }
 
     fn call(&mut self, call: Call) -> Result<Answer, u8> {
@@ -99,35 +74,8 @@ impl Run {
     }
 }
 
-/// The valid lines of a lane that have the block.
-fn copies(s: &Store, k: usize, block: usize) -> Vec<Line> {
-    let lines = s.lanes[k].lines[..usize::from(s.c)].iter();
-    lines.filter(|l| l.valid && usize::from(l.block) == block).copied().collect()
-}
-
-/// The four properties of a quiet store, and its words against flat memory.
-fn check_quiet(s: &Store, flat: &Flat) {
-    assert!(s.quiet());
-    let n = usize::from(s.n);
-    for (a, entry) in s.blocks[..usize::from(s.m)].iter().enumerate() {
-        let held: Vec<Vec<Line>> = (0..n).map(|k| copies(s, k, a)).collect();
-        let private = held.iter().flatten().find(|l| l.private);
-        for k in 0..n {
-            assert!(held[k].len() <= 1, "two lines of one block");
-            assert!(!entry.present[k] || !held[k].is_empty(), "property 1");
-            if held[k].iter().any(|l| l.private) {
-                let others = (0..n).filter(|&j| j != k);
-                assert!(others.clone().all(|j| held[j].is_empty()), "property 3, copies");
-                assert!(entry.present[k], "property 3, own PRESENT");
-                assert!(others.clone().all(|j| !entry.present[j]), "property 3, PRESENT");
-            }
-            let shared = held[k].iter().filter(|l| !l.private);
-            assert!(shared.clone().all(|l| l.words == entry.words), "property 4");
-        }
-        assert!(!entry.modified || private.is_some(), "property 2");
-        let shown = private.map_or(entry.words, |l| l.words);
-        assert_eq!(shown, flat.0[4 * a..4 * a + 4], "words of block {a}");
-    }
+fn check_quiet(run: &Run) {
+    assert_eq!(flat::check_quiet(&run.store, &run.flat), Ok(()));
 }
 
 fn random_run(seed: u64, index: u64, calls: usize) -> Run {
@@ -139,7 +87,7 @@ fn random_run(seed: u64, index: u64, calls: usize) -> Run {
     for i in 0..calls {
         if i % 150 == 149 {
             run.drain();
-            check_quiet(&run.store, &run.flat);
+            check_quiet(&run);
             style = match rng.chance(20) {
                 true => Style::sharing(&run.store, &mut rng),
                 false => Style::random(&run.store, &mut rng),
@@ -147,11 +95,11 @@ fn random_run(seed: u64, index: u64, calls: usize) -> Run {
         }
         let _ = run.call(walk::next_call(&run.store, &style, &mut rng));
         if run.store.quiet() {
-            check_quiet(&run.store, &run.flat);
+            check_quiet(&run);
         }
     }
     run.drain();
-    check_quiet(&run.store, &run.flat);
+    check_quiet(&run);
     run
 }
 
@@ -177,7 +125,7 @@ fn every_lane_adds_one_to_one_word() {
             }
             run.drain();
         }
-        check_quiet(&run.store, &run.flat);
+        check_quiet(&run);
         assert_eq!(run.flat.0[2], 20 * u32::from(n));
         assert_eq!(run.completions, 20 * usize::from(n));
     }

@@ -222,7 +222,7 @@ fn corrupt_before_all() {
     s.lanes[0].lines[0] = valid(0);
     let given = held::run(&s, HeldCall::Picture(18));
     assert_eq!(given.answer, HeldAnswer::Refused(15));
-    assert_eq!(given.buffer, Some(vec![0xa5; 1_300]));
+    assert_eq!(given.after, vec![0xa5; 1_300]);
     assert_eq!(held::run(&s, HeldCall::Picture(19)).answer, HeldAnswer::Picture(19));
 }
 
@@ -328,4 +328,28 @@ fn case_bytes() {
     assert_eq!(given.len(), 8 + 3_545 + 1_300);
     assert_eq!(given[..8], [5, 0, 0, 0, 0, 0, 0, 0]);
     assert!(held::answers(&bytes[..3_552]).is_err());
+}
+
+#[test]
+fn settle_bytes() {
+    assert_eq!(held::encode_call(HeldCall::Settle), [0x11, 0, 0, 0, 0, 0, 0, 0]);
+    let mut s = Store::fresh(3, 1, 2);
+    for lane in [2, 1] {
+        s.lanes[lane].waiting = Some(Waiting {
+            served: false,
+            command: Command::ReadExclusive,
+            op: Op::Store(0x0403_0201 * lane as u32),
+            word: 3,
+        });
+    }
+    let given = held::run(&s, HeldCall::Settle).bytes();
+    assert_eq!(given.len(), 8 + 3_545 + 40);
+    assert_eq!(given[..8], [6, 0, 6, 0, 0, 0, 2, 0]);
+    assert_eq!(given[8 + 3_545..][..10], [1, 1, 2, 3, 4, 2, 2, 4, 6, 8]);
+    assert_eq!(given[8 + 3_545 + 10..], [0; 30]);
+    s.lanes[0].down = queue(1, DownKind::BareGrant, 1);
+    let given = held::run(&s, HeldCall::Settle).bytes();
+    assert_eq!(given[..8], [4, 16, 0, 0, 0, 0, 0, 0]);
+    assert_eq!(given[8..8 + 3_545], held::encode_store(&s));
+    assert_eq!(given[8 + 3_545..], [0; 40]);
 }

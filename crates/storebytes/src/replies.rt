@@ -1,0 +1,119 @@
+// A call from its kind, and what a call answers as bytes.
+ghost use Prim.Native.Nat.{_+_, _≤_};
+ghost use lib.ListN.{length};
+use super::encode::put;
+use super::encode::put_word;
+use answers::Answer;
+use answers::Completion;
+use answers::Refusal;
+use machine::Settled;
+use settle::Completions;
+use store::Outcome;
+use store::Store;
+use words::LaneNo;
+use words::WordNo;
+
+// The kinds of call; a kind that is none of these is deliver.
+const LOAD: u8 = 1;
+
+const STORE: u8 = 2;
+
+const EXCHANGE: u8 = 3;
+
+const ADD: u8 = 4;
+
+const SERVE: u8 = 5;
+
+const RETURN: u8 = 6;
+
+// An answer's bytes: its tag, a lane or a refusal's number, a value, and how many completions there are.
+pub struct Reply {
+    pub tag: u8,
+    pub small: u8,
+    pub value: u32,
+    pub listed: u8,
+}
+
+// A reply that lists no completion.
+pub fn reply_of(tag: u8, small: u8, value: u32) -> Reply {
+    Reply {
+        tag: tag,
+        small: small,
+        value: value,
+        listed: 0,
+    }
+}
+
+pub fn refused(r: Refusal) -> Reply {
+    reply_of(4, r.number(), 0)
+}
+
+pub fn call_reply(a: Answer) -> Reply {
+    match a {
+        Answer::Opened => reply_of(0, 0, 0),
+        Answer::Done(x) => reply_of(1, x.lane.0, x.value),
+        Answer::Wait => reply_of(2, 0, 0),
+        Answer::Step => reply_of(3, 0, 0),
+        Answer::Refused(r) => refused(r),
+    }
+}
+
+pub fn settle_reply(a: Settled, listed: u8) -> Reply {
+    match a {
+        Settled::Steps(n) => Reply {
+            tag: 6,
+            small: 0,
+            value: n as u32,
+            listed: listed,
+        },
+        Settled::Refused(r) => Reply {
+            tag: 4,
+            small: r.number(),
+            value: 0,
+            listed: listed,
+        },
+    }
+}
+
+// What a call gives that is no picture and no settle.
+pub fn called(s: Store, kind: u8, k: LaneNo, w: WordNo, v: u32) -> Outcome {
+    match kind {
+        LOAD => calls::load(s, k, w),
+        STORE => calls::store_value(s, k, w, v),
+        EXCHANGE => calls::exchange(s, k, w, v),
+        ADD => calls::add(s, k, w, v),
+        SERVE => calls::serve(s, k),
+        RETURN => calls::return_head(s, k),
+        _ => calls::deliver(s, k),
+    }
+}
+
+// An answer's 8 bytes; the last is left.
+pub fn put_reply(out: &mut [u8], r: Reply)
+    requires { ⌜ 8 ≤ length (now out) ⌝ }
+{
+    put(out, 0, r.tag);
+    put(out, 1, r.small);
+    put_word(out, 2, r.value);
+    put(out, 6, r.listed);
+}
+
+fn put_completion(out: &mut [u8], at: usize, x: Completion)
+    requires { ⌜ at + 5 ≤ length (now out) ⌝ }
+{
+    put(out, at, x.lane.0);
+    put_word(out, at + 1, x.value);
+}
+
+// The completions that are listed, 5 bytes each; 40 bytes have room for all.
+pub fn put_completions(out: &mut [u8], at: usize, d: Completions)
+    requires { ⌜ at + 40 ≤ length (now out) ⌝ }
+{
+    let listed = d.len as usize;
+    let mut i: usize = 0;
+    while i < 8 && i < listed {
+        let x = d.at[i];
+        put_completion(out, at + 5 * i, x);
+        i += 1;
+    }
+}

@@ -1,0 +1,238 @@
+//! Counts of what lists of calls met, and what they never met.
+
+use crate::events::{Events, EVENTS};
+use crate::held::{HeldAnswer, HeldCall, SETTLE_KIND};
+use crate::lists::{self, Given, Record, OPEN_KIND};
+use crate::parts::*;
+use crate::settle::{self, Settled};
+use crate::summary::kind_name;
+use std::collections::{BTreeMap, BTreeSet};
+use std::fmt::{self, Display, Formatter};
+
+/// What a settle can find, and what it can come to.
+const SETTLES: [&str; 13] = [
+    "a quiet store",
+    "an open service",
+    "a grant on its way",
+    "an order on its way",
+    "an answer on its way",
+    "an eject on its way",
+    "two messages in a return queue",
+    "two messages in a down queue",
+    "an unserved operation",
+    "two completions on one word",
+    "eight completions on one word",
+    "as many steps as the bound",
+    "more than 100 steps",
+];
+
+/// The answers that each kind of call must have met; on lists that begin
+/// with an opening nothing else is possible.
+const ANSWERS: [(u8, &[&str]); 9] = [
+    (OPEN_KIND, &["opened", "refused 5"]),
+    (1, &["done", "wait", "refused 6", "refused 7", "refused 8", "refused 14"]),
+    (2, &["done", "wait", "refused 6", "refused 7", "refused 8", "refused 14"]),
+    (3, &["done", "wait", "refused 6", "refused 7", "refused 8", "refused 14"]),
+    (4, &["done", "wait", "refused 6", "refused 7", "refused 8", "refused 14"]),
+    (5, &["step", "refused 6", "refused 9", "refused 10", "refused 11", "refused 14"]),
+    (6, &["step", "refused 6", "refused 9", "refused 14"]),
+    (7, &["done", "step", "refused 6", "refused 9", "refused 14"]),
+    (SETTLE_KIND, &["settled", "refused 14"]),
+];
+
+#[derive(Default)]
+pub struct Cover {
+    pub calls: usize,
+    pub lists: usize,
+    shown: usize,
+    longest_list: usize,
+    this_list: usize,
+    answers: BTreeMap<(u8, String), usize>,
+    /// Settles by the count of completions.
+    completions: BTreeMap<usize, usize>,
+    settles: BTreeMap<&'static str, usize>,
+    longest: u32,
+    steps: usize,
+    /// Calls on their own, and the steps inside settles.
+    events: Events,
+    inside: Events,
+    shapes: BTreeSet<(u8, u8, u8)>,
+}
+
+/// The counts over the records of whole lists.
+pub fn cover(records: &[Record]) -> Cover {
+    let (mut cover, mut store) = (Cover::default(), lists::blank());
+    for &record in records {
+        let before = store.clone();
+        let given = lists::run(&mut store, record);
+        cover.see(record, &given, &before, &store);
+    }
+    cover
+}
+
+impl Cover {
+    fn see(&mut self, record: Record, given: &Given, before: &Store, after: &Store) {
+        match record {
+            Record::Show => self.shown += 1,
+            Record::Open { n, c, m } => {
+                self.this_list = 0;
+                self.answer(OPEN_KIND, given);
+                if *given == Given::Opened {
+                    self.lists += 1;
+                    self.shapes.insert((n, c, m));
+                }
+            }
+            Record::Call(call) => {
+                self.calls += 1;
+                self.this_list += 1;
+                self.longest_list = self.longest_list.max(self.this_list);
+                self.answer(call.kind(), given);
+                self.see_call(call, given, before, after);
+            }
+        }
+    }
+
+    fn answer(&mut self, kind: u8, given: &Given) {
+        let name = match given {
+            Given::Opened => "opened".to_string(),
+            Given::Answer(HeldAnswer::Machine(Answer::Done { .. })) => "done".to_string(),
+            Given::Answer(HeldAnswer::Machine(Answer::Wait)) => "wait".to_string(),
+            Given::Answer(HeldAnswer::Machine(Answer::Step)) => "step".to_string(),
+            Given::Answer(HeldAnswer::Settled(_)) => "settled".to_string(),
+            Given::Answer(HeldAnswer::Refused(number)) => format!("refused {number}"),
+            Given::Answer(HeldAnswer::Picture(_)) | Given::Store(_) => "other".to_string(),
+        };
+        *self.answers.entry((kind, name)).or_default() += 1;
+    }
+
+    fn see_call(&mut self, call: HeldCall, given: &Given, before: &Store, after: &Store) {
+        match (call, given) {
+            (HeldCall::Machine(call), Given::Answer(HeldAnswer::Machine(_))) => {
+                self.events.see(call, before, after);
+            }
+            (HeldCall::Settle, Given::Answer(HeldAnswer::Settled(settled))) => {
+                self.see_settle(before, settled);
+            }
+            _ => {}
+        }
+    }
+
+    fn see_settle(&mut self, before: &Store, settled: &Settled) {
+        *self.completions.entry(settled.completions.len()).or_default() += 1;
+        self.longest = self.longest.max(settled.steps);
+        self.steps += settled.steps as usize;
+        let most = most_on_one_word(before, settled);
+        let bound = settle::bound(before);
+        let found =
+            [most >= 2, most >= 8, bound > 0 && settled.steps == bound, settled.steps > 100];
+        let met = found_by_settle(before).into_iter().chain(found);
+        for (name, _) in SETTLES.iter().zip(met).filter(|(_, met)| *met) {
+            *self.settles.entry(name).or_default() += 1;
+        }
+        let mut now = before.clone();
+        while let Some(step) = settle::next_step(&now) {
+            let after = crate::machine::call(&now, step).expect("settle was not refused").0;
+            self.inside.see(step, &now, &after);
+            now = after;
+        }
+    }
+
+    /// What was never met; empty if the lists cover all.
+    pub fn never_met(&self) -> Vec<String> {
+        let mut never = Vec::new();
+        for (kind, names) in ANSWERS {
+            let missing =
+                names.iter().filter(|n| !self.answers.contains_key(&(kind, n.to_string())));
+            never.extend(missing.map(|name| format!("{} {name}", kind_name(kind))));
+        }
+        let counts = (0..=LANES).filter(|count| !self.completions.contains_key(count));
+        never.extend(counts.map(|count| format!("settle with {count} completions")));
+        let found = SETTLES.iter().filter(|name| !self.settles.contains_key(*name));
+        never.extend(found.map(|name| format!("settle: {name}")));
+        never.extend(self.events.never_met().into_iter().map(str::to_string));
+        let orders = (0..LANES).filter(|&count| self.events.orders[count] == 0);
+        never.extend(orders.map(|count| format!("serve with {count} orders")));
+        let orders = (0..LANES).filter(|&count| self.inside.orders[count] == 0);
+        never.extend(orders.map(|count| format!("serve with {count} orders inside settle")));
+        if self.shapes.len() < crate::list_maker::SHAPES {
+            never.push(format!("shapes: only {}", self.shapes.len()));
+        }
+        never
+    }
+
+    /// Answers that no list from an opening can have.
+    pub fn impossible(&self) -> Vec<String> {
+        let known = |kind: u8, name: &str| {
+            ANSWERS.iter().any(|(k, names)| *k == kind && names.contains(&name))
+        };
+        let odd = self.answers.keys().filter(|(kind, name)| !known(*kind, name));
+        odd.map(|(kind, name)| format!("{} {name}", kind_name(*kind))).collect()
+    }
+}
+
+/// The first nine of `SETTLES`, of the store before.
+fn found_by_settle(s: &Store) -> [bool; 9] {
+    let lanes = &s.lanes[..usize::from(s.n)];
+    let down = |test: fn(DownKind) -> bool| {
+        let messages = |l: &Lane| l.down.places[..usize::from(l.down.length)].to_vec();
+        lanes.iter().flat_map(messages).any(|message| test(message.kind))
+    };
+    let returns = |test: fn(ReturnKind) -> bool| {
+        let messages = |l: &Lane| l.returns.places[..usize::from(l.returns.length)].to_vec();
+        lanes.iter().flat_map(messages).any(|message| test(message.kind))
+    };
+    [
+        s.quiet(),
+        s.service.is_some(),
+        down(|kind| !kind.is_order()),
+        down(DownKind::is_order),
+        returns(ReturnKind::is_answer),
+        returns(|kind| !kind.is_answer()),
+        lanes.iter().any(|lane| lane.returns.length == 2),
+        lanes.iter().any(|lane| lane.down.length == 2),
+        lanes.iter().any(Lane::unserved),
+    ]
+}
+
+/// How many completions of a settle are of the same word.
+fn most_on_one_word(before: &Store, settled: &Settled) -> usize {
+    let mut counts = [0; 256];
+    for done in &settled.completions {
+        let waiting = before.lanes[usize::from(done.lane)].waiting.expect("a waiting operation");
+        counts[usize::from(waiting.word)] += 1;
+    }
+    counts.into_iter().max().unwrap_or(0)
+}
+
+impl Display for Cover {
+    fn fmt(&self, f: &mut Formatter) -> fmt::Result {
+        writeln!(f, "calls {}", self.calls)?;
+        writeln!(
+            f,
+            "lists {} of {} shapes, longest list {} calls, stores shown {}",
+            self.lists,
+            self.shapes.len(),
+            self.longest_list,
+            self.shown
+        )?;
+        for (kind, _) in ANSWERS {
+            let of_kind = self.answers.iter().filter(|((k, _), _)| *k == kind);
+            let parts: Vec<String> = of_kind.map(|((_, name), n)| format!("{name} {n}")).collect();
+            writeln!(f, "{}: {}", kind_name(kind), parts.join(", "))?;
+        }
+        let parts: Vec<String> =
+            self.completions.iter().map(|(count, n)| format!("{count}: {n}")).collect();
+        writeln!(f, "settles by the count of completions: {}", parts.join(", "))?;
+        writeln!(f, "steps inside settles {}, longest settle {} steps", self.steps, self.longest)?;
+        writeln!(f, "settles that met")?;
+        for name in SETTLES {
+            writeln!(f, "  {name}: {}", self.settles.get(name).unwrap_or(&0))?;
+        }
+        writeln!(f, "events (calls, steps inside settles):")?;
+        for name in EVENTS {
+            writeln!(f, "  {name}: {}, {}", self.events.of(name), self.inside.of(name))?;
+        }
+        writeln!(f, "serves with 0 to 7 orders: {:?}", self.events.orders)?;
+        writeln!(f, "serves with 0 to 7 orders inside settles: {:?}", self.inside.orders)
+    }
+}

@@ -1,0 +1,156 @@
+//! Demand 3 on lists, from the calls and their answers alone: nothing of the
+//! machine enters here, so it judges the answers of any program.
+
+use crate::flat::{check_quiet, Flat};
+use crate::held::{HeldAnswer, HeldCall};
+use crate::lists::{Given, Record};
+use crate::parts::*;
+use crate::settle::Settled;
+use std::fmt::{self, Display, Formatter};
+
+/// A begin call that was answered with a wait.
+#[derive(Clone, Copy)]
+struct Waited {
+    op: Op,
+    word: u8,
+    /// Its completion has not come yet.
+    open: bool,
+}
+
+/// Counts of what was judged.
+#[derive(Default)]
+pub struct Judged {
+    pub completions: usize,
+    pub in_begins: usize,
+    pub in_delivers: usize,
+    pub in_settles: usize,
+    pub quiet_stores: usize,
+}
+
+/// Flat memory, and each lane's last begin call that waits.
+pub struct Judge {
+    flat: Flat,
+    waited: [Option<Waited>; 256],
+    /// The record before was a settle that was not refused, or an opening.
+    quiet: bool,
+    pub judged: Judged,
+}
+
+impl Default for Judge {
+    fn default() -> Judge {
+        Judge { flat: Flat::new(0), waited: [None; 256], quiet: false, judged: Judged::default() }
+    }
+}
+
+/// Judges a whole file of lists.
+pub fn judge(all: &[(Record, Given)]) -> Result<Judged, String> {
+    let mut judge = Judge::default();
+    for (index, (record, given)) in all.iter().enumerate() {
+        let told = judge.see(*record, given);
+        told.map_err(|text| format!("record {index} {record:?}, {given:?}: {text}"))?;
+    }
+    Ok(judge.judged)
+}
+
+impl Judge {
+    /// One record and what it gave.
+    pub fn see(&mut self, record: Record, given: &Given) -> Result<(), String> {
+        let was_quiet = self.quiet;
+        self.quiet = false;
+        match (record, given) {
+            (Record::Open { m, .. }, Given::Opened) => {
+                (self.flat, self.waited, self.quiet) = (Flat::new(m), [None; 256], true);
+                Ok(())
+            }
+            (Record::Show, Given::Store(store)) if was_quiet => {
+                self.judged.quiet_stores += 1;
+                self.quiet = true;
+                check_quiet(store, &self.flat)
+            }
+            (Record::Show, Given::Store(_)) => Ok(()),
+            (_, Given::Answer(HeldAnswer::Refused(_))) => Ok(()),
+            (Record::Call(call), Given::Answer(answer)) => self.see_answer(call, answer),
+            _ => Err("the answer is not one of this record".to_string()),
+        }
+    }
+
+    fn see_answer(&mut self, call: HeldCall, answer: &HeldAnswer) -> Result<(), String> {
+        match (call, answer) {
+            (HeldCall::Machine(Call::Begin { lane, op, word }), HeldAnswer::Machine(answer)) => {
+                self.see_begin(lane, op, word, *answer)
+            }
+            (HeldCall::Machine(_), HeldAnswer::Machine(Answer::Step)) => Ok(()),
+            (
+                HeldCall::Machine(Call::Deliver(k)),
+                HeldAnswer::Machine(Answer::Done { lane, value }),
+            ) => {
+                self.judged.in_delivers += 1;
+                demand(*lane == k, "another lane's completion")?;
+                self.complete(*lane, *value)
+            }
+            (HeldCall::Settle, HeldAnswer::Settled(given)) => self.see_settle(given),
+            _ => Err("the answer is not one of this call".to_string()),
+        }
+    }
+
+    fn see_begin(&mut self, lane: u8, op: Op, word: u8, answer: Answer) -> Result<(), String> {
+        match answer {
+            Answer::Wait => {
+                self.waited[usize::from(lane)] = Some(Waited { op, word, open: true });
+                Ok(())
+            }
+            Answer::Done { lane: told, value } => {
+                self.judged.in_begins += 1;
+                demand(told == lane, "another lane's completion")?;
+                self.feed(op, word, value)
+            }
+            Answer::Step => Err("a begin call that is a step".to_string()),
+        }
+    }
+
+    fn see_settle(&mut self, given: &Settled) -> Result<(), String> {
+        for done in &given.completions {
+            self.judged.in_settles += 1;
+            self.complete(done.lane, done.value)?;
+        }
+        let open = self.waited.iter().flatten().any(|waited| waited.open);
+        demand(!open, "settled with an operation that waits")?;
+        demand(given.completions.len() <= given.steps as usize, "more completions than steps")?;
+        self.quiet = true;
+        Ok(())
+    }
+
+    /// A completion that carries the lane, of its last begin that waited.
+    fn complete(&mut self, lane: u8, value: u32) -> Result<(), String> {
+        let waited = self.waited[usize::from(lane)].as_mut().filter(|waited| waited.open);
+        let waited = waited.ok_or(format!("lane {lane} has no operation that waits"))?;
+        waited.open = false;
+        let (op, word) = (waited.op, waited.word);
+        self.feed(op, word, value)
+    }
+
+    fn feed(&mut self, op: Op, word: u8, value: u32) -> Result<(), String> {
+        self.judged.completions += 1;
+        demand(usize::from(word) < self.flat.0.len(), "a word that flat memory has not")?;
+        let flat = self.flat.feed(op, word);
+        demand(flat == value, &format!("{op:?} of word {word} gave {value}, flat memory {flat}"))
+    }
+}
+
+fn demand(holds: bool, text: &str) -> Result<(), String> {
+    match holds {
+        true => Ok(()),
+        false => Err(text.to_string()),
+    }
+}
+
+impl Display for Judged {
+    fn fmt(&self, f: &mut Formatter) -> fmt::Result {
+        writeln!(
+            f,
+            "demand 3 holds: {} completions (begin {}, deliver {}, settle {}) as flat memory",
+            self.completions, self.in_begins, self.in_delivers, self.in_settles
+        )?;
+        writeln!(f, "quiet stores shown, with the four properties: {}", self.quiet_stores)
+    }
+}

@@ -1,0 +1,170 @@
+//! Makes lists of calls. List `index` depends on the seed and the index only;
+//! 3,584 lists in a row have every shape once.
+
+use crate::held::HeldCall;
+use crate::lists::{self, Given, Record};
+use crate::parts::*;
+use crate::rng::Rng;
+use crate::walk::{self, Style};
+
+pub const SHAPES: usize = 7 * 8 * 64;
+
+/// One list in so many is long.
+const LONG_EVERY: usize = 16;
+
+/// The shape of a list, by its index.
+pub fn shape(index: usize) -> (u8, u8, u8) {
+    let (n, c, m) = (index % 7, index / 7 % 8, index / 56 % 64);
+    (2 + n as u8, 1 + c as u8, 1 + m as u8)
+}
+
+pub fn make(seed: u64, index: usize) -> Vec<Record> {
+    let mut rng = Rng::stream(seed ^ 0x6c69_7374, index as u64);
+    let (n, c, m) = shape(index);
+    let mut maker = Maker { store: lists::blank(), records: Vec::new(), rng: rng.clone() };
+    if rng.chance(2) {
+        maker.refused_opening();
+    }
+    maker.push(Record::Open { n, c, m });
+    let length = match index % LONG_EVERY {
+        0 => rng.between(400, 1_000),
+        _ => rng.between(24, 64),
+    };
+    match rng.weighted(&[4, 5, 3]) {
+        0 => maker.mixed(length),
+        1 => maker.bursts(length),
+        _ => maker.sharing(length),
+    }
+    if rng.chance(80) {
+        maker.call(HeldCall::Settle);
+    }
+    maker.push(Record::Show);
+    maker.records
+}
+
+struct Maker {
+    store: Store,
+    records: Vec<Record>,
+    rng: Rng,
+}
+
+impl Maker {
+    fn push(&mut self, record: Record) -> Given {
+        self.records.push(record);
+        lists::run(&mut self.store, record)
+    }
+
+    fn call(&mut self, call: HeldCall) {
+        self.push(Record::Call(call));
+    }
+
+    /// Settle; at times the store is shown then.
+    fn settle(&mut self) {
+        self.call(HeldCall::Settle);
+        if self.rng.chance(8) {
+            self.push(Record::Show);
+        }
+    }
+
+    /// An opening that is refused, then calls on the blank store.
+    fn refused_opening(&mut self) {
+        let shapes = [(1, 1, 1), (9, 1, 1), (2, 0, 1), (2, 9, 1), (2, 1, 0), (2, 1, 65)];
+        let (n, c, m) = self.rng.pick(&shapes);
+        self.push(Record::Open { n, c, m });
+        let fair = Store::fresh(8, 8, 64);
+        for _ in 0..3 {
+            let call = walk::odd_call(&fair, &mut self.rng);
+            self.call(HeldCall::Machine(call));
+        }
+        self.call(HeldCall::Settle);
+    }
+
+    /// Calls of all kinds, with a settle among them now and then.
+    fn mixed(&mut self, length: usize) {
+        let share = self.rng.pick(&[2, 6, 15]);
+        let mut style = self.style();
+        for i in 0..length {
+            if i % 100 == 99 {
+                style = self.style();
+            }
+            match self.rng.chance(share) {
+                true => self.settle(),
+                false => self.walk(&style),
+            }
+        }
+    }
+
+    fn style(&mut self) -> Style {
+        match self.rng.chance(20) {
+            true => Style::sharing(&self.store, &mut self.rng),
+            false => Style::random(&self.store, &mut self.rng),
+        }
+    }
+
+    fn walk(&mut self, style: &Style) {
+        let call = walk::next_call(&self.store, style, &mut self.rng);
+        self.call(HeldCall::Machine(call));
+    }
+
+    /// Many lanes begin on the same one to three words, some steps are taken,
+    /// then settle.
+    fn bursts(&mut self, length: usize) {
+        let style = self.style();
+        let end = self.records.len() + length;
+        while self.records.len() < end {
+            let words: Vec<u8> = (0..self.rng.between(1, 3)).map(|_| self.word()).collect();
+            let share = self.rng.pick(&[40, 80, 100]);
+            for lane in self.lanes() {
+                if self.rng.chance(share) {
+                    let (op, word) = (walk::any_op(&mut self.rng), self.rng.pick(&words));
+                    self.call(HeldCall::Machine(Call::Begin { lane, op, word }));
+                }
+            }
+            let any = self.rng.between(1, 24);
+            for _ in 0..self.rng.pick(&[0, 0, any]) {
+                self.walk(&style);
+            }
+            self.settle();
+        }
+    }
+
+    /// Lanes load the same blocks until all have them, then each writes one.
+    fn sharing(&mut self, length: usize) {
+        let end = self.records.len() + length;
+        while self.records.len() < end {
+            let first = self.rng.byte_below(self.store.m);
+            let blocks = self.rng.between(1, usize::from(self.store.c.min(self.store.m))) as u8;
+            for block in 0..blocks {
+                self.all_begin(|_| (first + block, Op::Load));
+                self.settle();
+            }
+            let (op, apart) = (walk::write_op(&mut self.rng), self.rng.chance(60));
+            self.all_begin(|lane| (first + if apart { lane % blocks } else { 0 }, op));
+            if self.rng.chance(40) {
+                let style = self.style();
+                (0..self.rng.between(1, 12)).for_each(|_| self.walk(&style));
+            }
+            self.settle();
+        }
+    }
+
+    /// Each lane, in any order, begins on a block, counted on past m.
+    fn all_begin(&mut self, plan: impl Fn(u8) -> (u8, Op)) {
+        for lane in self.lanes() {
+            let (block, op) = plan(lane);
+            let word = 4 * (block % self.store.m) + self.rng.byte_below(4);
+            self.call(HeldCall::Machine(Call::Begin { lane, op, word }));
+        }
+    }
+
+    /// All lanes, in any order.
+    fn lanes(&mut self) -> Vec<u8> {
+        let mut lanes: Vec<u8> = (0..self.store.n).collect();
+        crate::scramble::permute(&mut lanes, &mut self.rng);
+        lanes
+    }
+
+    fn word(&mut self) -> u8 {
+        4 * self.rng.byte_below(self.store.m) + self.rng.byte_below(4)
+    }
+}

@@ -1,0 +1,194 @@
+//! Bytes of lists of calls and of their answers. A list is an opening and
+//! the records up to the next; see README.md.
+
+use crate::held::{self, HeldAnswer, HeldCall, COMPLETION_BYTES, PICTURE_KIND};
+use crate::machine;
+use crate::parts::*;
+use crate::settle::Settled;
+
+pub const RECORD_BYTES: usize = held::CALL_BYTES;
+pub const OPEN_KIND: u8 = 0x00;
+pub const SHOW_KIND: u8 = 0x12;
+
+#[derive(Clone, Copy, PartialEq, Eq, Debug)]
+pub enum Record {
+    Open {
+        n: u8,
+        c: u8,
+        m: u8,
+    },
+    /// Any call but picture.
+    Call(HeldCall),
+    /// Gives the bytes of the store.
+    Show,
+}
+
+impl Record {
+    pub fn bytes(self) -> [u8; RECORD_BYTES] {
+        match self {
+            Record::Open { n, c, m } => [OPEN_KIND, n, c, m, 0, 0, 0, 0],
+            Record::Call(call) => held::encode_call(call),
+            Record::Show => [SHOW_KIND, 0, 0, 0, 0, 0, 0, 0],
+        }
+    }
+
+    /// The bytes of its answer, which has a fixed length.
+    pub fn answer_length(self) -> usize {
+        match self {
+            Record::Open { .. } => held::ANSWER_BYTES,
+            Record::Call(HeldCall::Settle) => held::ANSWER_BYTES + held::COMPLETIONS_BYTES,
+            Record::Call(_) => held::ANSWER_BYTES,
+            Record::Show => held::STORE_BYTES,
+        }
+    }
+}
+
+/// The records of the input; it must end with a whole one.
+pub fn records(input: &[u8]) -> Result<Vec<Record>, String> {
+    let parse = |(index, bytes): (usize, &[u8])| {
+        record(bytes).map_err(|text| format!("record {index}: {text}"))
+    };
+    input.chunks(RECORD_BYTES).enumerate().map(parse).collect()
+}
+
+fn record(bytes: &[u8]) -> Result<Record, String> {
+    if bytes.len() != RECORD_BYTES {
+        return Err(format!("{} bytes, not {RECORD_BYTES}", bytes.len()));
+    }
+    Ok(match bytes[0] {
+        OPEN_KIND => Record::Open { n: bytes[1], c: bytes[2], m: bytes[3] },
+        SHOW_KIND => Record::Show,
+        PICTURE_KIND => return Err("picture in a list".to_string()),
+        _ => Record::Call(held::decode_call(bytes)?),
+    })
+}
+
+/// What a record gives.
+#[derive(Clone, PartialEq, Eq, Debug)]
+pub enum Given {
+    Opened,
+    Answer(HeldAnswer),
+    Store(Box<Store>),
+}
+
+/// One record on the store that the records before it left. Before the first
+/// opening, and after a refused one, that is the blank store.
+pub fn run(store: &mut Store, record: Record) -> Given {
+    match record {
+        Record::Open { n, c, m } => match machine::open(n, c, m) {
+            Ok(opened) => {
+                *store = opened;
+                Given::Opened
+            }
+            Err(number) => {
+                *store = blank();
+                Given::Answer(HeldAnswer::Refused(number))
+            }
+        },
+        Record::Call(call) => {
+            let given = held::run(store, call);
+            *store = given.store;
+            Given::Answer(given.answer)
+        }
+        Record::Show => Given::Store(Box::new(store.clone())),
+    }
+}
+
+pub fn blank() -> Store {
+    Store::fresh(0, 0, 0)
+}
+
+/// The bytes that a record's answer has.
+pub fn answer_bytes(record: Record, given: &Given) -> Vec<u8> {
+    let mut out = match given {
+        Given::Opened => vec![0; held::ANSWER_BYTES],
+        Given::Answer(answer) => held::answer_bytes(answer).to_vec(),
+        Given::Store(store) => held::encode_store(store),
+    };
+    if let (Record::Call(HeldCall::Settle), Given::Answer(answer)) = (record, given) {
+        out.extend(held::completions_bytes(answer));
+    }
+    out
+}
+
+/// The answers to all records of the input.
+pub fn answers(input: &[u8]) -> Result<Vec<u8>, String> {
+    let (mut store, mut out) = (blank(), Vec::new());
+    for record in records(input)? {
+        let given = run(&mut store, record);
+        out.extend(answer_bytes(record, &given));
+    }
+    Ok(out)
+}
+
+/// Reads an answer back; only what a right program can give is read.
+pub fn read_answer(record: Record, bytes: &[u8]) -> Result<Given, String> {
+    if record == Record::Show {
+        return Ok(Given::Store(Box::new(held::decode_store(bytes)?)));
+    }
+    let value = u32::from_le_bytes([bytes[2], bytes[3], bytes[4], bytes[5]]);
+    let given = match (record, bytes[0]) {
+        (Record::Open { .. }, 0) => Given::Opened,
+        (_, 1) => Given::Answer(HeldAnswer::Machine(Answer::Done { lane: bytes[1], value })),
+        (_, 2) => Given::Answer(HeldAnswer::Machine(Answer::Wait)),
+        (_, 3) => Given::Answer(HeldAnswer::Machine(Answer::Step)),
+        (_, 4) => Given::Answer(HeldAnswer::Refused(bytes[1])),
+        (Record::Call(HeldCall::Settle), 6) => {
+            let places = bytes[held::ANSWER_BYTES..].chunks(COMPLETION_BYTES);
+            let completions = places.take(usize::from(bytes[6])).map(completion).collect();
+            Given::Answer(HeldAnswer::Settled(Settled { steps: value, completions }))
+        }
+        (_, tag) => return Err(format!("answer tag {tag}")),
+    };
+    match answer_bytes(record, &given) == bytes {
+        true => Ok(given),
+        false => Err("bytes that the answer leaves free are not 0".to_string()),
+    }
+}
+
+fn completion(bytes: &[u8]) -> Completion {
+    let value = u32::from_le_bytes([bytes[1], bytes[2], bytes[3], bytes[4]]);
+    Completion { lane: bytes[0], value }
+}
+
+/// Records and answers side by side, as read from the bytes.
+pub fn read(input: &[u8], answers: &[u8]) -> Result<Vec<(Record, Given)>, String> {
+    let (mut at, mut out) = (0, Vec::new());
+    for (index, record) in records(input)?.into_iter().enumerate() {
+        let bytes = answers.get(at..at + record.answer_length());
+        at += record.answer_length();
+        let given = bytes.ok_or("the answers end early".to_string());
+        let given = given.and_then(|bytes| read_answer(record, bytes));
+        out.push((record, given.map_err(|text| format!("record {index} {record:?}: {text}"))?));
+    }
+    match at == answers.len() {
+        true => Ok(out),
+        false => Err(format!("{} bytes after the last answer", answers.len() - at)),
+    }
+}
+
+/// Where other answers to the same lists differ; at most `most` lines.
+pub fn differences(input: &[u8], other: &[u8], most: usize) -> Result<Vec<String>, String> {
+    let (mut store, mut at, mut list, mut found) = (blank(), 0, 0, Vec::new());
+    for (index, record) in records(input)?.into_iter().enumerate() {
+        list += usize::from(matches!(record, Record::Open { .. }));
+        let given = run(&mut store, record);
+        let own = answer_bytes(record, &given);
+        let theirs = other.get(at..at + own.len());
+        at += own.len();
+        if theirs == Some(&own[..]) || found.len() == most {
+            continue;
+        }
+        let first = theirs.and_then(|theirs| own.iter().zip(theirs).position(|(a, b)| a != b));
+        let place = match (first, record) {
+            (None, _) => "the answers end early".to_string(),
+            (Some(i), Record::Show) => held::part_name(i),
+            (Some(i), _) => format!("answer byte {i}"),
+        };
+        found.push(format!("opening {list} record {index} {record:?}: {place}"));
+    }
+    if at < other.len() {
+        found.push(format!("{} bytes after the last answer", other.len() - at));
+    }
+    Ok(found)
+}

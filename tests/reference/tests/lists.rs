@@ -1,0 +1,179 @@
+//! Lists of calls: their bytes, what the maker promises, and what the judge
+//! of demand 3 finds.
+
+use reference::cover;
+use reference::held::{HeldAnswer, HeldCall};
+use reference::judge::judge;
+use reference::list_maker::{self, SHAPES};
+use reference::lists::{self, Given, Record};
+use reference::parts::*;
+use reference::settle::Settled;
+use std::collections::BTreeSet;
+
+fn begin(lane: u8, op: Op, word: u8) -> Record {
+    Record::Call(HeldCall::Machine(Call::Begin { lane, op, word }))
+}
+
+const OPEN: Record = Record::Open { n: 2, c: 1, m: 1 };
+const SETTLE: Record = Record::Call(HeldCall::Settle);
+
+/// Document 01's two storing lanes, and the store shown.
+fn two_stores() -> Vec<Record> {
+    vec![OPEN, begin(0, Op::Store(7), 2), begin(1, Op::Store(9), 2), SETTLE, Record::Show]
+}
+
+fn bytes(records: &[Record]) -> Vec<u8> {
+    records.iter().flat_map(|record| record.bytes()).collect()
+}
+
+/// The records with what the reference gives.
+fn answered(records: &[Record]) -> Vec<(Record, Given)> {
+    let answers = lists::answers(&bytes(records)).expect("well formed");
+    lists::read(&bytes(records), &answers).expect("well formed")
+}
+
+fn settled(steps: u32, completions: &[(u8, u32)]) -> Given {
+    let completions = completions.iter().map(|&(lane, value)| Completion { lane, value }).collect();
+    Given::Answer(HeldAnswer::Settled(Settled { steps, completions }))
+}
+
+#[test]
+fn list_bytes() {
+    let input = bytes(&two_stores());
+    assert_eq!(input[..8], [0, 2, 1, 1, 0, 0, 0, 0]);
+    assert_eq!(input[8..16], [2, 0, 2, 7, 0, 0, 0, 0]);
+    assert_eq!(input[24..32], [0x11, 0, 0, 0, 0, 0, 0, 0]);
+    assert_eq!(input[32..], [0x12, 0, 0, 0, 0, 0, 0, 0]);
+    assert_eq!(lists::records(&input), Ok(two_stores()));
+    let answers = lists::answers(&input).expect("well formed");
+    assert_eq!(answers.len(), 8 + 8 + 8 + 48 + 3_545);
+    assert_eq!(answers[..8], [0; 8]);
+    assert_eq!(answers[8..16], [2, 0, 0, 0, 0, 0, 0, 0]);
+    assert_eq!(answers[24..34], [6, 0, 6, 0, 0, 0, 2, 0, 0, 7]);
+    assert_eq!(answers[34..42], [0, 0, 0, 1, 9, 0, 0, 0]);
+    assert_eq!(answers[42..72], [0; 30]);
+    assert_eq!(answers[72..75], [2, 1, 1]);
+    let given = lists::read(&input, &answers).expect("well formed");
+    assert_eq!(given[3].1, settled(6, &[(0, 7), (1, 9)]));
+    assert!(lists::records(&input[..31]).is_err());
+    assert!(lists::records(&[0x10, 0, 0, 0, 0, 0, 0, 0]).is_err());
+    assert!(lists::read(&input, &answers[..answers.len() - 1]).is_err());
+    assert!(lists::read(&input[..32], &answers).is_err());
+}
+
+#[test]
+fn a_refused_opening_leaves_the_blank_store() {
+    let calls = [Record::Open { n: 1, c: 1, m: 1 }, begin(0, Op::Load, 0), SETTLE, OPEN, SETTLE];
+    let given: Vec<Given> = answered(&calls).into_iter().map(|(_, given)| given).collect();
+    let refused = |number| Given::Answer(HeldAnswer::Refused(number));
+    assert_eq!(given[..4], [refused(5), refused(14), refused(14), Given::Opened]);
+    assert_eq!(given[4], settled(0, &[]));
+}
+
+#[test]
+fn differences_are_found() {
+    let input = bytes(&two_stores());
+    let mut answers = lists::answers(&input).expect("well formed");
+    assert_eq!(lists::differences(&input, &answers, 9), Ok(vec![]));
+    answers[26] ^= 1;
+    answers[72 + 1_945] ^= 1;
+    let found = lists::differences(&input, &answers, 9).expect("well formed");
+    assert!(found.len() == 2 && found[0].ends_with("answer byte 2"), "{found:?}");
+    assert!(found[1].ends_with("block 0 word 0 byte 0"), "{found:?}");
+    answers.pop();
+    let found = lists::differences(&input, &answers, 9).expect("well formed");
+    assert!(found[1].ends_with("the answers end early"), "{found:?}");
+}
+
+/// The list judged with one answer changed.
+fn judged_with(index: usize, change: impl Fn(&mut Given)) -> Result<usize, String> {
+    let mut all = answered(&two_stores());
+    change(&mut all[index].1);
+    judge(&all).map(|judged| judged.completions)
+}
+
+#[test]
+fn the_judge_finds_lies() {
+    assert_eq!(judged_with(0, |_| {}), Ok(2));
+    // A wrong value, a completion left out, one too many, one of another lane.
+    for completions in [
+        &[(0, 7), (1, 8)][..],
+        &[(0, 7)],
+        &[(0, 7), (1, 9), (1, 9)],
+        &[(0, 7), (0, 9)],
+        &[(0, 9), (1, 7)],
+    ] {
+        let lie = settled(6, completions);
+        assert!(judged_with(3, |given| *given = lie.clone()).is_err(), "{completions:?}");
+    }
+    // Stores commute as far as their values go, but not in what is left.
+    let swapped = settled(6, &[(1, 9), (0, 7)]);
+    assert!(judged_with(3, |given| *given = swapped.clone()).is_err());
+    let lie = Given::Answer(HeldAnswer::Machine(Answer::Done { lane: 0, value: 8 }));
+    assert!(judged_with(1, |given| *given = lie.clone()).is_err());
+    // A store that is not quiet, or has other words.
+    let change = |given: &mut Given, change: fn(&mut Store)| match given {
+        Given::Store(store) => change(store),
+        _ => panic!("no store"),
+    };
+    let changes: [fn(&mut Store); 4] = [
+        |s| s.lanes[1].lines[0].words[2] = 8,
+        |s| s.lanes[1].lines[0].private = false,
+        |s| s.blocks[0].present[0] = true,
+        |s| s.lanes[0].returns.length = 1,
+    ];
+    for (i, act) in changes.into_iter().enumerate() {
+        assert!(judged_with(4, |given| change(given, act)).is_err(), "change {i}");
+    }
+}
+
+/// A refused call feeds flat memory nothing, and the last begin that waited
+/// is the one that completes.
+#[test]
+fn the_judge_attributes_by_the_last_begin_that_waited() {
+    let calls = [
+        OPEN,
+        begin(0, Op::Add(3), 1),
+        begin(0, Op::Add(50), 1),
+        begin(2, Op::Add(60), 1),
+        SETTLE,
+        begin(0, Op::Add(4), 1),
+        begin(1, Op::Load, 1),
+        SETTLE,
+    ];
+    let all = answered(&calls);
+    assert_eq!(all[7].1, settled(4, &[(1, 7)]));
+    let judged = judge(&all).expect("demand 3");
+    assert_eq!((judged.in_begins, judged.in_delivers, judged.in_settles), (1, 0, 2));
+}
+
+#[test]
+fn made_lists_cover_what_they_must() {
+    let all: Vec<Record> = (0..SHAPES).flat_map(|index| list_maker::make(1, index)).collect();
+    let cover = cover::cover(&all);
+    assert_eq!((cover.never_met(), cover.impossible()), (vec![], vec![]));
+    assert!(cover.calls >= 100_000 && cover.lists == SHAPES, "{} calls", cover.calls);
+    let judged = judge(&answered(&all)).expect("demand 3");
+    assert!(judged.completions >= 100_000, "{} completions", judged.completions);
+    assert!(judged.in_settles >= 50_000 && judged.quiet_stores >= SHAPES / 2);
+}
+
+#[test]
+fn the_maker_is_deterministic_and_has_all_shapes() {
+    assert_eq!(list_maker::make(9, 16), list_maker::make(9, 16));
+    assert_ne!(list_maker::make(9, 16), list_maker::make(10, 16));
+    let shapes: BTreeSet<(u8, u8, u8)> = (0..SHAPES).map(list_maker::shape).collect();
+    assert_eq!(shapes.len(), SHAPES);
+    let inside = |(n, c, m)| (2..=8).contains(&n) && (1..=8).contains(&c) && (1..=64).contains(&m);
+    assert!(shapes.into_iter().all(inside));
+}
+
+#[test]
+fn a_cover_tells_what_is_missing() {
+    let few: Vec<Record> = (0..40).flat_map(|index| list_maker::make(1, index)).collect();
+    let never = cover::cover(&few).never_met();
+    assert!(never.contains(&"shapes: only 40".to_string()), "{never:?}");
+    let none = cover::cover(&two_stores()).never_met();
+    assert!(none.contains(&"settle with 1 completions".to_string()), "{none:?}");
+    assert!(!none.contains(&"settle with 2 completions".to_string()));
+}
