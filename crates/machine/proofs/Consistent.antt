@@ -20,7 +20,7 @@ use Rattle.machine.specs.Settle.{doneIn}
 use Rattle.machine.specs.Flat.{flatBlock}
 use Rattle.machine.proofs.Sets.{pick}
 use Rattle.machine.proofs.Owes.{Pending, Rests, Completes}
-use Rattle.machine.proofs.Sized.{Sized}
+use Rattle.machine.specs.Sized.{Sized}
 use Rattle.machine.proofs.BlockState.{Status, project}
 use Rattle.machine.proofs.Invariant.{Inv}
 use Rattle.machine.proofs.Searches.{Unique}

@@ -16,7 +16,7 @@ use Rattle.machine.proofs.Sets.{same?, set-cases}
 use Rattle.machine.proofs.Sound.{sound}
 use Rattle.machine.proofs.Owes.{Pending, Rests, upd}
 use Rattle.machine.proofs.Updates.{upd-self}
-use Rattle.machine.proofs.Sized.{LaneSized}
+use Rattle.machine.specs.Sized.{LaneSized}
 use Rattle.machine.proofs.BlockState.{Seen, seen, blockNo, project}
 use Rattle.machine.proofs.Moves.{putLane}
 use Rattle.machine.proofs.Searches.{Unique}

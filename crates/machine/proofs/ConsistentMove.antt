@@ -20,7 +20,7 @@ use Rattle.machine.specs.declared.Move.{Move}
 use Rattle.machine.specs.Change.{goesTo, someFull, posted, commitMove}
 use Rattle.machine.specs.Flat.{flatBlock}
 use Rattle.machine.proofs.Sets.{same?, pick}
-use Rattle.machine.proofs.Sized.{LaneSized}
+use Rattle.machine.specs.Sized.{LaneSized}
 use Rattle.machine.proofs.BlockState.{Status, seen, blockNo, project}
 use Rattle.machine.proofs.Invariant.{Inv}
 use Rattle.machine.proofs.Project.{Moves, movedStore, lane-sent, project-there}

@@ -27,13 +27,13 @@ use Rattle.store.specs.Quiet.{laneAt, blockAt}
 use Rattle.machine.specs.declared.Move.{Move}
 use Rattle.machine.specs.Change.{withReturns, nobody, noMessage, commitMove}
 use Rattle.machine.specs.Serve.{close}
-use Rattle.machine.specs.Return.{takenBy, isAnswer, quietly, answered, returnMove, returnOf}
+use Rattle.machine.specs.Return.{takenBy, isAnswer, sendNothing, answered, returnMove, returnOf}
 use Rattle.machine.specs.Flat.{flatBlock}
 use Rattle.machine.proofs.Sets.{pick}
 use Rattle.machine.proofs.Sound.{sound}
 use Rattle.machine.proofs.KeepsLane.{clash}
 use Rattle.machine.proofs.Owes.{upd}
-use Rattle.machine.proofs.Sized.{LaneSized}
+use Rattle.machine.specs.Sized.{LaneSized}
 use Rattle.machine.proofs.BlockState.{Status, Seen, keepIf, returnAbout, seen, blockNo, project}
 use Rattle.machine.proofs.Queued.{returnsIn, take-returns, keep-head, keep-tail}
 use Rattle.machine.proofs.Invariant.{Inv}
@@ -123,7 +123,7 @@ module _ (s : Store) (f : List ℕ) (i : Consistent s f) (k : LaneNo) (h : k .0 
 
   -- the head is taken and nothing is sent; y is the control after it, d the block's service in it
   pub quiet-shows : (y : Control) → ((c : ℕ) → c ≢ a .0 → serviceOf y (blockNo c) ≡ serviceOf (s .control) (blockNo c)) →
-      ((v : (ℕ → Status)) × Inv v (returnState k x rest (serviceOf y a) (project s (a .0))) (flatBlock f (a .0))) → Shows s f k a (quietly t u y)
+      ((v : (ℕ → Status)) × Inv v (returnState k x rest (serviceOf y a) (project s (a .0))) (flatBlock f (a .0))) → Shows s f k a (sendNothing t u y)
   quiet-shows y c p =
       record {
         answer = refl;
@@ -157,9 +157,9 @@ module _ (s : Store) (f : List ℕ) (i : Consistent s f) (k : LaneNo) (h : k .0 
       }
 
   -- a message that is no answer
-  pub eject-consistent : isAnswer (x .kind) ≡ false → StaysConsistent s f (commitMove s k a (quietly t u (s .control)))
+  pub eject-consistent : isAnswer (x .kind) ≡ false → StaysConsistent s f (commitMove s k a (sendNothing t u (s .control)))
   eject-consistent e =
-      commit-consistent s f i k lane-below a (quietly t u (s .control))
+      commit-consistent s f i k lane-below a (sendNothing t u (s .control))
       (quiet-shows (s .control) (λ c n. refl) (eject-returns (before .0) (project s (a .0)) (flatBlock f (a .0)) k x rest (before .1) lane-below has-head e))
 
   -- an answer, by what the control says to it
@@ -181,7 +181,7 @@ module _ (s : Store) (f : List ℕ) (i : Consistent s f) (k : LaneNo) (h : k .0 
           let n = eqb-true _ _ y in
           commit-consistent s f i k lane-below a (close v t u Free) (close-shows v (c .0) (c .1) (after (eqb-false _ _ z)) n)
       go false z false y =
-          commit-consistent s f i k lane-below a (quietly t u (Busy (lowered v)))
+          commit-consistent s f i k lane-below a (sendNothing t u (Busy (lowered v)))
           (quiet-shows (Busy (lowered v)) (λ j n. rw (c .0, ne-eqb (v .block .0) j (λ r. n (sym r ∙ c .1)))) (rw (eq-eqb _ _ (c .1)) (after (eqb-false _ _ z))))
 
   pub head-consistent : StaysConsistent s f (commitMove s k a (returnMove k x l b (s .control)))

@@ -35,7 +35,7 @@ use Rattle.machine.proofs.Sets.{pick}
 use Rattle.machine.proofs.Counts.{step-most}
 use Rattle.machine.proofs.Sums.{count-sum, sum-most}
 use Rattle.machine.proofs.Sound.{sound}
-use Rattle.machine.proofs.Sized.{Sized}
+use Rattle.machine.specs.Sized.{Sized}
 use Rattle.machine.proofs.SizedKeeps.{serve-move-lane, return-move-lane}
 use Rattle.machine.proofs.FallsLane.{weight, weight-most, deliver-lane-takes}
 use Rattle.machine.proofs.FallsStore.{bound-sum, Advancing, commit-lane-advances, commit-move-advances}

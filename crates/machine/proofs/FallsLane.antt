@@ -44,7 +44,7 @@ use Rattle.machine.specs.Deliver.{reply, withLine, shared, updateAt, pur
 use Rattle.machine.specs.Settle.{isOrder, downsOf, doneIn}
 use Rattle.machine.proofs.Tests.{on}
 use Rattle.machine.proofs.Sets.{pick}
-use Rattle.machine.proofs.Sized.{LaneSized}
+use Rattle.machine.specs.Sized.{LaneSized}
 
 -- what a down message adds: an order is answered, a grant is not
 abbrev pub price : DownKind → ℕ

@@ -31,7 +31,7 @@ use Rattle.store.specs.Control.{busyOf, lowered, countedOf, answerOf}
 use Rattle.machine.specs.declared.Move.{Move}
 use Rattle.machine.specs.Change.{withWaiting, withReturns, nobody, only, goesTo}
 use Rattle.machine.specs.Serve.{orderOf, ordered, countOf, grantOf, close, serviceFor, serveMove}
-use Rattle.machine.specs.Return.{takenBy, isAnswer, quietly, answered, returnMove}
+use Rattle.machine.specs.Return.{takenBy, isAnswer, sendNothing, answered, returnMove}
 use Rattle.machine.proofs.Sums.{count-zero, count-one, count-mono}
 use Rattle.machine.proofs.Sound.{BlockSound}
 use Rattle.machine.proofs.KeepsServe.{ordered-fewer}
@@ -70,8 +70,8 @@ module _ (n u : ℕ) (h : n ≤ 8) (l : Lane) (x : Control) where
       record { lighter = rw (grant-price b v) (omega arith); waits-on = q; completes-none = refl }
 
   -- nothing is sent
-  quietly-lowers : (t : Lane) (b : Block) (y : Control) → weight u t + service y < weight u l + service x → waits t ≡ waits l → Lowers n u l x (quietly t b y)
-  quietly-lowers t b y p q = let c = nobody-none n h in record { lighter = omega arith; waits-on = q; completes-none = refl }
+  sendNothing-lowers : (t : Lane) (b : Block) (y : Control) → weight u t + service y < weight u l + service x → waits t ≡ waits l → Lowers n u l x (sendNothing t b y)
+  sendNothing-lowers t b y p q = let c = nobody-none n h in record { lighter = omega arith; waits-on = q; completes-none = refl }
 
 -- the orders sent are fewer than the lanes
 orders-fewer : (n : ℕ) (b : Block) (k : LaneNo) (x : Command) → n ≤ 8 → k .0 < n → BlockSound n b → countTo (goesTo (ordered b k x)) n < n
@@ -102,7 +102,7 @@ answered-lowers n u h (Busy v) a l b t c p q =
     (by-cond (λ (r : Counted). Lowering n u l (Busy v) (answered r l b (Busy v) t c)) (eqb (v .awaited) 0) NotAwaited _ (λ e. absurd (true≢false e))
     (by-cond (λ (r : Counted). Lowering n u l (Busy v) (answered r l b (Busy v) t c)) (eqb (v .awaited) 1) (Closes v Free) (Awaits (Busy (lowered v)))
     (λ _. close-lowers n u h l (Busy v) v t c Free (omega arith) q)
-    (λ _. quietly-lowers n u h l (Busy v) t c (Busy (lowered v)) (omega arith) q)))
+    (λ _. sendNothing-lowers n u h l (Busy v) t c (Busy (lowered v)) (omega arith) q)))
     (λ e. absurd (true≢false e))
 
 -- memory's part of return
@@ -113,4 +113,4 @@ return-move-lowers n u k x l b y h e =
     let a = returned-weight u l e in
     by-cond (Lowering n u l y) (isAnswer (x .kind)) _ _
     (answered-lowers n u h y (x .block) l b (withReturns (takeReturn (l .returns) .queue) l) (takenBy (x .kind) (x .words) k b) a refl)
-    (λ _. quietly-lowers n u h l y (withReturns (takeReturn (l .returns) .queue) l) (takenBy (x .kind) (x .words) k b) y (omega arith) refl)
+    (λ _. sendNothing-lowers n u h l y (withReturns (takeReturn (l .returns) .queue) l) (takenBy (x .kind) (x .words) k b) y (omega arith) refl)

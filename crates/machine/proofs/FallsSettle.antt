@@ -21,7 +21,7 @@ use Rattle.machine.proofs.Sets.{pick}
 use Rattle.machine.proofs.Sound.{sound}
 use Rattle.machine.proofs.KeepsLane.{clash}
 use Rattle.machine.proofs.KeepsRepeat.{settle-step-keeps}
-use Rattle.machine.proofs.Sized.{Sized}
+use Rattle.machine.specs.Sized.{Sized}
 use Rattle.machine.proofs.SizedKeeps.{settle-step-sized, sized-whole}
 use Rattle.machine.proofs.Falls.{waitingIn, waiting-most, settle-falls, settle-completes}
 

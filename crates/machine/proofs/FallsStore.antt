@@ -30,7 +30,7 @@ use Rattle.machine.proofs.Tests.{and-right}
 use Rattle.machine.proofs.Sets.{pick}
 use Rattle.machine.proofs.Sums.{sum-same, sum-change, sum-grown, sum-weights}
 use Rattle.machine.proofs.Posts.{post-all-at}
-use Rattle.machine.proofs.Sized.{LaneSized, Sized}
+use Rattle.machine.specs.Sized.{LaneSized, Sized}
 use Rattle.machine.proofs.SizedKeeps.{LanesSized, set-lane-sized, lanes-sized}
 use Rattle.machine.proofs.FallsLane.{price, weight, waits, posted-weight, posted-waits, Takes}
 

@@ -26,7 +26,7 @@ use Rattle.store.specs.declared.Outcome.{Outcome}
 use Rattle.store.specs.Control.{lowered, countedOf, answerOf}
 use Rattle.store.specs.Quiet.{laneAt, blockAt}
 use Rattle.machine.specs.Change.{refuse, withReturns}
-use Rattle.machine.specs.Return.{takenBy, isAnswer, quietly, answered, returnMove, returnHead, returnOf}
+use Rattle.machine.specs.Return.{takenBy, isAnswer, sendNothing, answered, returnMove, returnHead, returnOf}
 use Rattle.machine.proofs.Sets.{pick}
 use Rattle.machine.proofs.Sound.{BlockSound, ControlSound}
 use Rattle.machine.proofs.KeepsLane.{LaneFit, returned-keeps, head-inside}
@@ -43,8 +43,8 @@ taken-by-keeps n PurgedWords ws k b g = record { absent = reset-absent n (k .0) 
 taken-by-keeps n Gone ws k b g = record { absent = reset-absent n (k .0) (b .present) (g .absent) }
 
 module _ (h n c m : ℕ) (z : 1 ≤ m) where
-  quietly-keeps : (l : Lane) (b : Block) (x : Control) → LaneFit h c m l → BlockSound n b → ControlSound n m x → MoveFit h n c m (quietly l b x)
-  quietly-keeps l b x f g y = record { lane = f; block = g; control = y; message = z }
+  sendNothing-keeps : (l : Lane) (b : Block) (x : Control) → LaneFit h c m l → BlockSound n b → ControlSound n m x → MoveFit h n c m (sendNothing l b x)
+  sendNothing-keeps l b x f g y = record { lane = f; block = g; control = y; message = z }
 
   -- an answer comes in: it is not awaited, it is counted, or it closes the service
   answered-keeps : (x : Control) (a : BlockNo) (l : Lane) (b : Block) (t : Lane) (u : Block) → ControlSound n m x → LaneFit h c m l → BlockSound n b →
@@ -57,7 +57,7 @@ module _ (h n c m : ℕ) (z : 1 ≤ m) where
       (record { lane = f; block = g; control = y; message = z })
       (by-cond (λ (r : Counted). MoveFit h n c m (answered r l b (Busy v) t u)) (eqb (v .awaited) 1) (Closes v Free) (Awaits (Busy (lowered v)))
       (close-keeps h n c m v t u Free (w .lane) (w .block) p q (free-sound n m))
-      (quietly-keeps t u (Busy (lowered v)) p q
+      (sendNothing-keeps t u (Busy (lowered v)) p q
       (busy-sound n m (lowered v) (record { lane = w .lane; block = w .block; awaited = let d = w .awaited in omega arith })))))
       (record { lane = f; block = g; control = y; message = z })
 
@@ -70,7 +70,7 @@ module _ (h n c m : ℕ) (z : 1 ≤ m) where
       let u = taken-by-keeps n (x .kind) (x .words) k b g in
       by-cond (MoveFit h n c m) (isAnswer (x .kind)) _ _
       (answered-keeps y (x .block) l b (withReturns (takeReturn (l .returns) .queue) l) (takenBy (x .kind) (x .words) k b) w f g t u)
-      (quietly-keeps (withReturns (takeReturn (l .returns) .queue) l) (takenBy (x .kind) (x .words) k b) y t u w)
+      (sendNothing-keeps (withReturns (takeReturn (l .returns) .queue) l) (takenBy (x .kind) (x .words) k b) y t u w)
 
 pub return-fit : (h : ℕ) (s : Store) (k : LaneNo) → Fit h s → Fit h (returnOf s k .store)
 unfolding returnOf

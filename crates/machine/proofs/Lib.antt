@@ -16,7 +16,6 @@ pub mod Keeps
 pub mod KeepsRepeat
 pub mod KeepsShape
 pub mod Owes
-pub mod Sized
 pub mod BlockState
 pub mod Invariant
 pub mod Moves

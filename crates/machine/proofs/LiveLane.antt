@@ -46,7 +46,7 @@ use Rattle.machine.specs.Deliver.{reply, shared, updateAt, purgedOf, pur
 use Rattle.machine.specs.Return.{isAnswer}
 use Rattle.machine.proofs.Tests.{on}
 use Rattle.machine.proofs.Sets.{set-cases, pick}
-use Rattle.machine.proofs.Sized.{LaneSized}
+use Rattle.machine.specs.Sized.{LaneSized}
 use Rattle.machine.proofs.Queued.{returnsIn, push-returns}
 use Rattle.machine.proofs.Searches.{holds-valid, found-holds, vacant-invalid}
 use Rattle.machine.proofs.SeenBegin.{evicted, idle-waiting, push-room}

@@ -28,7 +28,7 @@ use Rattle.store.specs.Quiet.{laneAt, blockAt}
 use Rattle.machine.specs.declared.Move.{Move}
 use Rattle.machine.specs.Change.{withReturns, nobody, only, noMessage, commitMove}
 use Rattle.machine.specs.Serve.{grantOf, close}
-use Rattle.machine.specs.Return.{takenBy, isAnswer, quietly, answered, returnMove, returnOf}
+use Rattle.machine.specs.Return.{takenBy, isAnswer, sendNothing, answered, returnMove, returnOf}
 use Rattle.machine.specs.Settle.{isOrder}
 use Rattle.machine.specs.Flat.{flatBlock}
 use Rattle.machine.proofs.Sets.{pick}
@@ -106,7 +106,7 @@ module _ (s : Store) (f : List ℕ) (i : Consistent s f) (live : Live s) (k : La
       upd-cases (λ (j : ℕ) (y : Seen). owed y ≤ 1) (project s (a .0) .lane) (k .0) (seen (s .c) a t) (omega arith) (λ j _. live .one (a .0) m j)
 
   -- nothing is sent, with the control y after it; or the service closes
-  quiet-live : (y : Control) → ((v : Service) → y ≡ Busy v → v .awaited ≢ 0) → ShowsLive s k a (quietly t u y)
+  quiet-live : (y : Control) → ((v : Service) → y ≡ Busy v → v .awaited ≢ 0) → ShowsLive s k a (sendNothing t u y)
   quiet-live y c = record {
     lane = taken-live;
     one = λ j. let p = ap (λ (g : ℕ → Seen). owed (g j)) (send-none nobody noMessage lanes nobody-none) in let q = one-owed j in omega arith;
@@ -122,7 +122,7 @@ module _ (s : Store) (f : List ℕ) (i : Consistent s f) (live : Live s) (k : La
   }
 
   -- a message that is no answer
-  eject-live : isAnswer (x .kind) ≡ false → Live (commitMove s k a (quietly t u (s .control)) .store)
+  eject-live : isAnswer (x .kind) ≡ false → Live (commitMove s k a (sendNothing t u (s .control)) .store)
   eject-live e =
       let p = before s f i k h filled in
       commit-live s f i live k (lane-below s f i (k .0) h) a _

@@ -27,7 +27,7 @@ use Rattle.machine.proofs.Sets.{same?}
 use Rattle.machine.proofs.KeepsLane.{clash}
 use Rattle.machine.proofs.Owes.{upd}
 use Rattle.machine.proofs.Updates.{upd-self}
-use Rattle.machine.proofs.Sized.{LaneSized, Sized}
+use Rattle.machine.specs.Sized.{LaneSized, Sized}
 use Rattle.machine.proofs.BlockState.{Seen, BlockState, downAbout, seen, blockNo, project}
 use Rattle.machine.proofs.Moves.{putLane, postSeen, sendAll}
 use Rattle.machine.proofs.Posts.{post-all-at, post-all-length}

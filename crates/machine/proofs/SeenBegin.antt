@@ -43,7 +43,7 @@ use Rattle.machine.proofs.Tests.{on}
 use Rattle.machine.proofs.Sets.{pick}
 use Rattle.machine.proofs.KeepsLane.{clash}
 use Rattle.machine.proofs.KeepsBegin.{all-valid}
-use Rattle.machine.proofs.Sized.{LaneSized}
+use Rattle.machine.specs.Sized.{LaneSized}
 use Rattle.machine.proofs.BlockState.{Status, Invalid, Shared, Modified, held, dirty, Seen, keepIf, returnAbout, downAbout, waitingOn, seen, valueDone}
 use Rattle.machine.proofs.Moves.{hitSeen, waitSeen, evictSeen, ejection}
 use Rattle.machine.proofs.Queued.{returnsIn, downsIn, push-returns, keep-join}

@@ -41,7 +41,7 @@ use Rattle.machine.specs.Deliver.{reply, shared, updateAt, purgedOf, pur
 use Rattle.machine.proofs.Tests.{on}
 use Rattle.machine.proofs.Sets.{pick}
 use Rattle.machine.proofs.KeepsLane.{clash}
-use Rattle.machine.proofs.Sized.{LaneSized}
+use Rattle.machine.specs.Sized.{LaneSized}
 use Rattle.machine.proofs.BlockState.{Status, Invalid, Shared, Modified, held, Seen, keepIf, returnAbout, downAbout, statusAt, wordsAt, waitingOn, seen, wordsDone, valueDone}
 use Rattle.machine.proofs.Moves.{answerSeen, updateSeen, purgeSeen, grantSeen}
 use Rattle.machine.proofs.Queued.{returnsIn, downsIn, take-downs, keep-head, keep-tail}

@@ -65,7 +65,7 @@ use Rattle.machine.proofs.Sets.{set-cases}
 use Rattle.machine.proofs.Orders.{used-length}
 use Rattle.machine.proofs.KeepsStore.{guarded-keeps}
 use Rattle.machine.proofs.Keeps.{Whole}
-use Rattle.machine.proofs.Sized.{LaneSized, Sized}
+use Rattle.machine.specs.Sized.{LaneSized, Sized}
 
 -- a message joins a queue, or the head leaves it: its places stay 2
 push-return-sized : (q : ReturnQueue) (x : ReturnMessage) → length (q .at) ≡ 2 → length (pushReturn q x .queue .at) ≡ 2

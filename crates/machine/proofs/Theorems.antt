@@ -2,20 +2,25 @@
 --
 -- The supply contract's sentence: a lane reads the last word stored, in every order in which the lanes' messages reach the
 -- controller. Assumes nothing.
-use Prim.Native.Nat.{ℕ, _≤_}
+use Prim.Native.Nat.{ℕ, suc, _<_, _≤_}
+use native.Mathlib.Omega.{arith}
 use mathlib.Core.Path.{_≡_}
-use mathlib.Core.List.{List, [], _∷_, _++_, List·Memᴰ}
+use mathlib.Core.Bool.{true, false}
+use mathlib.Core.List.{List, [], _∷_, _++_, map, List·Memᴰ}
 use Rattle.answers.specs.declared.Answer.the-variants.{Opened}
 use Rattle.store.specs.declared.Store.{Store}
 use Rattle.store.specs.Opening.{openOf}
 use Rattle.machine.specs.declared.Settled.the-variants.{Steps}
-use Rattle.machine.specs.Settle.{boundOf, settleOf}
+use Rattle.machine.specs.Corruption.{corruptOf}
+use Rattle.machine.specs.Settle.{boundOf, ended, repeatStep, settleOf}
 use Rattle.machine.specs.Calls.{Call, Settle, run}
 use Rattle.machine.specs.Attribution.{Begun}
 use Rattle.machine.specs.Demand3.{Coherent, begun, operations}
 use Rattle.machine.specs.Completion.{Settles}
-use Rattle.machine.proofs.Sized.{Sized}
-use Rattle.machine.proofs.FallsSettle.{settle-count}
+use Rattle.machine.specs.Sized.{Sized}
+use Rattle.machine.specs.Table.{Row, rows}
+use Rattle.machine.proofs.Table.{table}
+use Rattle.machine.proofs.FallsSettle.{startAt, settle-count, repeat-ends, repeat-same}
 use Rattle.machine.proofs.OrderOfMemory.{order-of-memory}
 use Rattle.machine.proofs.LiveSettle.{always-settles, all-complete}
 
@@ -56,3 +61,15 @@ begun-completes = all-complete
 -- store, be it one that no opening gives; its arrays have their declared lengths, as every store of the program has.
 pub settle-bound : (s : Store) → Sized s → (count : ℕ) → settleOf s .answer ≡ Steps count → count ≤ boundOf s
 settle-bound = settle-count
+
+-- "Settle repeats .. it ends when the store is quiet": the definition repeats boundOf + 1 times at most, and that cuts nothing off. So
+-- many repetitions have ended, with a quiet store or a refused step, and any more give the same.
+pub settle-ends : (s : Store) → corruptOf s ≡ false → Sized s → ended (repeatStep (suc (boundOf s)) (startAt s)) ≡ true
+settle-ends = repeat-ends
+
+pub settle-not-cut : (more : ℕ) (s : Store) → corruptOf s ≡ false → Sized s → boundOf s < more → repeatStep more (startAt s) ≡ repeatStep (suc (boundOf s)) (startAt s)
+settle-not-cut more s e z h = repeat-same more (suc (boundOf s)) (startAt s) e z h (omega arith)
+
+-- Document 01's cases: what the definitions give is what 01 wants, row by row (specs/Table.antt).
+pub cases : map (λ (r : Row). r .given) rows ≡ map (λ (r : Row). r .wanted) rows
+cases = table

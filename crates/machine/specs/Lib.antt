@@ -6,6 +6,7 @@ pub mod Serve
 pub mod Return
 pub mod Deliver
 pub mod Settle
+pub mod Sized
 pub mod Picture
 pub mod Tape
 pub mod Text

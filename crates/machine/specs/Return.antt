@@ -50,13 +50,13 @@ isAnswer PurgedWords = true
 isAnswer Gone = true
 
 -- memory's part where nothing is sent: lane, block and control after it
-abbrev pub quietly : Lane → Block → Control → Move
-quietly l b x = record { answer = Step; lane = l; block = b; control = x; to = nobody; message = noMessage }
+abbrev pub sendNothing : Lane → Block → Control → Move
+sendNothing l b x = record { answer = Step; lane = l; block = b; control = x; to = nobody; message = noMessage }
 
 -- Each answer lowers the awaited count, and at 0 the service closes; 16 for an answer that is not awaited. The lane and the block are those before the message is taken, then those after it
 abbrev pub answered : Counted → Lane → Block → Control → Lane → Block → Move
 answered NotAwaited l b x t u = refuseMove Unexpected l b x
-answered (Awaits y) l b x t u = quietly t u y
+answered (Awaits y) l b x t u = sendNothing t u y
 answered (Closes v y) l b x t u = close v t u y
 
 -- Memory takes the head of k's return queue
@@ -64,7 +64,7 @@ unfoldable pub returnMove : LaneNo → ReturnMessage → Lane → Block → Cont
 returnMove k x l b y =
     let t = withReturns (takeReturn (l .returns) .queue) l in
     let u = takenBy (x .kind) (x .words) k b in
-    cond (isAnswer (x .kind)) (answered (answerOf y (x .block)) l b y t u) (quietly t u y)
+    cond (isAnswer (x .kind)) (answered (answerOf y (x .block)) l b y t u) (sendNothing t u y)
 
 -- 9, then memory's part
 abbrev pub returnHead : Store → LaneNo → Lane → Outcome

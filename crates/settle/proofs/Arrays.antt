@@ -16,7 +16,7 @@ use Rattle.lanes.proofs.Lane as L
 use Rattle.store.proofs.Block as B
 use Rattle.store.specs.declared.Store.{Store}
 use Rattle.store.specs.Quiet.{noLane, noBlock, laneAt, blockAt}
-use Rattle.machine.proofs.Sized.{LaneSized, Sized}
+use Rattle.machine.specs.Sized.{LaneSized, Sized}
 
 -- what owning an array tells of its element at i
 each-at : (d : Type 0) (own : d → List Val → Fml) (xs : List d) (us : List Val) (i : ℕ) (z : d) → i < length xs → shadow (each d own xs us) →

@@ -16,7 +16,7 @@ use Rattle.machine.specs.declared.Settled.the-variants.{Steps}
 use Rattle.machine.specs.Corruption.{corruptOf}
 use Rattle.machine.specs.Settle.{settleStep, boundOf, doneIn, Progress, ended, advance, repeatStep, Settlement, refuseSettle, reached, unlessRefused, settleOf}
 use Rattle.machine.proofs.Sound.{sound}
-use Rattle.machine.proofs.Sized.{Sized}
+use Rattle.machine.specs.Sized.{Sized}
 use Rattle.machine.proofs.SizedKeeps.{settle-step-sized, sized-whole}
 use Rattle.machine.proofs.KeepsRepeat.{settle-step-keeps}
 use Rattle.machine.proofs.Falls.{waitingIn, settle-falls, settle-completes, waiting-most}
