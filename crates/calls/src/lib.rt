@@ -1,5 +1,5 @@
 // The calls: load, store, exchange, add, serve, return, deliver, each an equation with document 01's machine, refusals too.
-// load_word to deliver are open to others and have no requires. The functions that end in _sound are for the crates above: they ask
+// load to deliver are open to others and have no requires. The functions that end in _sound are for the crates above: they ask
 // for a store that is not corrupt and leave out the check of 14, which a tape and settle pay once.
 ghost use mathlib.Core.Path.{_≡_};
 ghost use mathlib.Core.Bool.{false};

@@ -13,7 +13,7 @@ use words::LineNo;
 use words::Op;
 use words::WordNo;
 
-// What a waiting operation asks of memory.
+// The command of a waiting operation: READ, shared or exclusive, or EXCLUDE (an upgrade of a copy that the lane has).
 pub enum Command {
     ReadShared,
     ReadExclusive,

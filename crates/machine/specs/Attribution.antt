@@ -45,7 +45,8 @@ waitsAfter i last (Return k) waited = last
 waitsAfter i last (Deliver k) waited = last
 waitsAfter i last Settle waited = last
 
--- A completion in a begin call's answer is of the operation that call began. Any other is of the operation begun by the last begin call before it, on the lane it carries, that was answered with a wait
+-- A completion in a begin call's answer is of the operation that call began. Any other is of the operation begun by the last begin
+-- call before it, on the lane it carries, that was answered with a wait
 unfoldable pub originOf : ℕ → Waits → Call → Completion → Origin
 originOf i last (Begin k op w) x = Of (begunAt i k op w)
 originOf i last (Serve k) x = last (x .lane .0)

@@ -1,5 +1,5 @@
--- What every call shares: a refusal leaves the store as it was; a lane, or a lane with a block, the control and a message to some
--- lanes, is put back in one place. Assumes nothing.
+-- What every call shares: a refusal leaves the store as it was; what a call changes is put back in one place (a lane's part by
+-- commitLane, memory's part by commitMove). Assumes nothing.
 use Prim.Native.Nat.{ℕ}
 use mathlib.Core.Bool.{Bool, false, true, cond, _&&_}
 use mathlib.Core.List.{List}

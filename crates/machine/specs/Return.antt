@@ -31,7 +31,8 @@ absent k b = record { words = b .words; present = set (b .present) (k .0) false;
 abbrev pub written : List ℕ → Block → Block
 written ws b = record { words = ws; present = b .present; modified = false }
 
--- what a message makes of its block. EJECT resets k's PRESENT; WRITE-EJECT also writes the words and resets MODIFIED; UPDATED writes its words and resets MODIFIED; PURGED resets PRESENT and, if it has words, writes them and resets MODIFIED; GONE resets PRESENT
+-- what a message makes of its block: EJECT resets k's PRESENT, WRITE-EJECT also writes the words and resets MODIFIED; UPDATED writes its
+-- words and resets MODIFIED; PURGED resets PRESENT, and if it has words writes them and resets MODIFIED; GONE resets PRESENT
 abbrev pub takenBy : ReturnKind → List ℕ → LaneNo → Block → Block
 takenBy Eject ws k b = absent k b
 takenBy WriteEject ws k b = written ws (absent k b)
@@ -53,7 +54,8 @@ isAnswer Gone = true
 abbrev pub sendNothing : Lane → Block → Control → Move
 sendNothing l b x = record { answer = Step; lane = l; block = b; control = x; to = nobody; message = noMessage }
 
--- Each answer lowers the awaited count, and at 0 the service closes; 16 for an answer that is not awaited. The lane and the block are those before the message is taken, then those after it
+-- Each answer lowers the awaited count, and at 0 the service closes; 16 for an answer that is not awaited. l and b are lane and block
+-- before the message is taken, t and u after it
 abbrev pub answered : Counted → Lane → Block → Control → Lane → Block → Move
 answered NotAwaited l b x t u = refuseMove Unexpected l b x
 answered (Awaits y) l b x t u = sendNothing t u y

@@ -74,7 +74,7 @@ servicesIn s = cond (busyOf (s .control)) 1 0
 abbrev pub unservedIn : Store → ℕ
 unservedIn s = countTo (λ k. unservedOf (laneAt s k .waiting)) (s .n)
 
--- The count is at most R + G + 2 × Q + S + 2 × n × U: the bound, here of a store
+-- The count is at most R + G + 2 × Q + S + 2 × n × U
 unfoldable pub boundOf : Store → ℕ
 boundOf s = returnsIn s + grantsIn s + 2 * ordersIn s + servicesIn s + 2 * s .n * unservedIn s
 
@@ -118,7 +118,7 @@ pub record Settlement : Type 0 where
 abbrev pub refuseSettle : Refusal → Store → Settlement
 refuseSettle r s = record { answer = Settled.Refused r; completions = []; store = s }
 
--- the store that was reached is quiet; the last case is never met (proofs/FallsSettle.antt, `last-quiet`)
+-- the store that was reached is quiet; the last case is never met where the arrays have their lengths (proofs/Theorems.antt, `settle-ends`)
 abbrev pub reached : Store → Progress → Settlement
 reached s p =
     cond (quietOf (p .store)) (record { answer = Steps (p .count); completions = p .completions; store = p .store })

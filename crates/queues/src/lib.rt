@@ -35,7 +35,7 @@ pub struct ReturnMessage {
     pub words: [u32; 4],
 }
 
-// A queue of at most two messages from a lane to memory, first in, first out: the first len of at, head first.
+// The return queue: at most two messages from a lane to memory, first in, first out: the first len of at, head first.
 pub struct ReturnQueue {
     pub len: u8,
     pub at: [ReturnMessage; PLACES],
@@ -107,7 +107,7 @@ pub struct DownMessage {
     pub words: [u32; 4],
 }
 
-// A queue of at most two messages from memory to a lane, first in, first out: the first len of at, head first.
+// The down queue: at most two messages from memory to a lane, first in, first out: the first len of at, head first.
 pub struct DownQueue {
     pub len: u8,
     pub at: [DownMessage; PLACES],

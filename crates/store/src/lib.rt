@@ -20,7 +20,7 @@ use words::LaneNo;
 use words::Line;
 use words::LineNo;
 
-// A block of main memory with its directory entry: a presence flag for each lane, and MODIFIED.
+// A block of main memory with its directory entry: PRESENT, a presence flag for each lane, and MODIFIED.
 pub struct Block {
     pub words: [u32; 4],
     pub present: [bool; 8],

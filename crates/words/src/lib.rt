@@ -65,7 +65,7 @@ impl Op {
     }
 }
 
-// A line of a lane's cache.
+// A line of a lane's cache: VALID, PRIVATE (the line is modified, and no other lane has the block), the block and its words.
 pub struct Line {
     pub valid: bool,
     pub private: bool,
