@@ -34,18 +34,31 @@ pub fn begin_sound(s: Store, k: LaneNo, op: Op, w: WordNo) -> Outcome
     requires { ⌜ corruptOf s ≡ false ⌝ }
     ensures { λ r. ⌜ r ≡ beginOf s k op w ⌝ }
 {
-    let n = s.n;
+    let mut t = s;
+    let n = t.n;
     if n <= k.0 {
-        return refused(Refusal::NoSuchLane, s);
+        return refused(Refusal::NoSuchLane, t);
     }
-    let m = s.m;
+    let m = t.m;
     if m <= w.0 / 4 {
-        return refused(Refusal::NoSuchWord, s);
+        return refused(Refusal::NoSuchWord, t);
     }
     let i = k.0 as usize;
-    let l = s.lanes[i];
-    let r = lanestep::begin_lane(l, s.c, k, op, w);
-    memory::commit_lane(s, k, r)
+    let l = t.lanes[i];
+    let r = lanestep::begin_lane(l, t.c, k, op, w);
+    let e = r.answer;
+    if e.refused() {
+        return Outcome {
+            answer: e,
+            store: t,
+        };
+    }
+    let u = r.lane;
+    t.lanes[i] = u;
+    Outcome {
+        answer: e,
+        store: t,
+    }
 }
 
 // Serve on a store that is not corrupt.
@@ -67,7 +80,7 @@ pub fn serve_sound(s: Store, k: LaneNo) -> Outcome
             let j = a.0 as usize;
             let b = s.blocks[j];
             let v = memory::serve_move(l, b, x, k, o);
-            memory::commit_move(s, k, a, v)
+            commit::commit_move(s, k, a, v)
         }
     }
 }
@@ -93,7 +106,7 @@ pub fn return_sound(s: Store, k: LaneNo) -> Outcome
     let b = s.blocks[j];
     let x = s.control;
     let v = memory::return_move(l, b, x, k, y);
-    memory::commit_move(s, k, a, v)
+    commit::commit_move(s, k, a, v)
 }
 
 // Deliver on a store that is not corrupt.
@@ -101,14 +114,27 @@ pub fn deliver_sound(s: Store, k: LaneNo) -> Outcome
     requires { ⌜ corruptOf s ≡ false ⌝ }
     ensures { λ r. ⌜ r ≡ deliverOf s k ⌝ }
 {
-    let n = s.n;
+    let mut t = s;
+    let n = t.n;
     if n <= k.0 {
-        return refused(Refusal::NoSuchLane, s);
+        return refused(Refusal::NoSuchLane, t);
     }
     let i = k.0 as usize;
-    let l = s.lanes[i];
-    let r = lanestep::deliver_lane(l, s.c, k);
-    memory::commit_lane(s, k, r)
+    let l = t.lanes[i];
+    let r = lanestep::deliver_lane(l, t.c, k);
+    let e = r.answer;
+    if e.refused() {
+        return Outcome {
+            answer: e,
+            store: t,
+        };
+    }
+    let u = r.lane;
+    t.lanes[i] = u;
+    Outcome {
+        answer: e,
+        store: t,
+    }
 }
 
 // A begin call on any store.

@@ -63,8 +63,11 @@ pub fn replay(tape: &[u8], lines: &mut [u64]) -> Replayed
 {
     let mut s = store::fresh(0, 0, 0);
     let mut at: usize = 0;
+    let mut last: usize = 0;
     let mut i: usize = 0;
-    while i < lines.len() {
+    let mut ended = false;
+    while i < lines.len() && !ended {
+        at += last;
         if tape.len() <= at {
             return Replayed { count: i, store: s };
         }
@@ -74,11 +77,8 @@ pub fn replay(tape: &[u8], lines: &mut [u64]) -> Replayed
         s = t;
         lines[i] = code;
         i += 1;
-        if ends(code) {
-            return Replayed { count: i, store: s };
-        }
-        let n = size(tape[at]);
-        at += n;
+        last = size(tape[at]);
+        ended = ends(code);
     }
     Replayed { count: i, store: s }
 }

@@ -1,6 +1,7 @@
 -- `calls::deliver_sound` meets its contract. Assumes nothing.
 use borrow.Author.Tests.{le-leb, lt-leb}
 use Rattle.calls.proofs.Bounds.{lane-bound, lines-bound}
+use Rattle.machine.specs.Change.{commitLane}
 use Rattle.machine.specs.Deliver.{deliverOf}
 use borrow.Author.Needs.{needs}
 use Rattle.calls.proofs.deliver_sound.Statement.{statement}
@@ -25,12 +26,22 @@ element-copy-out-l c = lane-bound _ _ (c .before .before .before .pre) (c .befor
 deliver-lane-requires : tie.Need-deliver-lane-requires
 deliver-lane-requires c κs = lines-bound _ _ (c .before .before .before .before .pre) (c .before .before .if1 .left)
 
-commit-lane-requires : tie.Need-commit-lane-requires
-commit-lane-requires c κs = lane-bound _ _ (c .before .before .before .before .before .pre) (c .before .before .before .if1 .left)
+refused-requires-2 : tie.Need-refused-requires-2
+refused-requires-2 c κs = search needs
 
 returns-2 : tie.Need-returns-2
-unfolding deliverOf
-returns-2 c = rw (deliverOf, c .before .before .before .before .before .before .pre, lt-leb _ _ (c .before .before .before .before .if1 .left), ← c .before .deliver-lane .ensures, c .commit-lane .ensures)
+unfolding deliverOf commitLane
+returns-2 c = rw (deliverOf, c .before .before .before .before .before .before .before .pre, lt-leb _ _ (c .before .before .before .before .before .if1 .left), ← c .before .before .deliver-lane .ensures, commitLane, ← c .before .refused2 .ensures, c .if2 .taken)
+
+mul-u : tie.Need-mul-u
+mul-u c = search needs
+
+element-set-from-u : tie.Need-element-set-from-u
+element-set-from-u c = lane-bound _ _ (c .before .before .before .before .before .before .before .before .pre) (c .before .before .before .before .before .before .if1 .left)
+
+returns-3 : tie.Need-returns-3
+unfolding deliverOf commitLane
+returns-3 c = rw (deliverOf, c .before .before .before .before .before .before .before .before .pre, lt-leb _ _ (c .before .before .before .before .before .before .if1 .left), ← c .before .before .before .deliver-lane .ensures, commitLane, ← c .before .before .refused2 .ensures, c .before .if2 .left)
 
 pub deliver-sound-spec : {M : Type 1} → statement M
 deliver-sound-spec =
@@ -42,5 +53,8 @@ deliver-sound-spec =
     mul-l
     element-copy-out-l
     deliver-lane-requires
-    commit-lane-requires
-    returns-2)
+    refused-requires-2
+    returns-2
+    mul-u
+    element-set-from-u
+    returns-3)

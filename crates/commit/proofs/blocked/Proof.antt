@@ -1,7 +1,7 @@
--- `memory::blocked` meets its contract. Assumes nothing.
+-- `commit::blocked` meets its contract. Assumes nothing.
 use borrow.Author.Needs.{needs}
-use Rattle.memory.proofs.blocked.Statement.{statement}
-use Rattle.memory.proofs.blocked.Tie as tie
+use Rattle.commit.proofs.blocked.Statement.{statement}
+use Rattle.commit.proofs.blocked.Tie as tie
 
 returns : tie.Need-returns
 returns c = rw (c .if1 .taken)

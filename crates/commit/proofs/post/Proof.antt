@@ -1,7 +1,7 @@
--- `memory::post` meets its contract. Assumes nothing.
+-- `commit::post` meets its contract. Assumes nothing.
 use borrow.Author.Needs.{needs}
-use Rattle.memory.proofs.post.Statement.{statement}
-use Rattle.memory.proofs.post.Tie as tie
+use Rattle.commit.proofs.post.Statement.{statement}
+use Rattle.commit.proofs.post.Tie as tie
 
 push-requires : tie.Need-push-requires
 push-requires c κs = search needs
