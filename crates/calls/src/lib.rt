@@ -121,18 +121,18 @@ pub fn deliver_sound(s: Store, k: LaneNo) -> Outcome
     }
     let i = k.0 as usize;
     let l = t.lanes[i];
-    let r = lanestep::deliver_lane(l, t.c, k);
-    let e = r.answer;
-    if e.refused() {
+    let r = lanedeliver::deliver_lane(l, t.c, k);
+    let a = r.answer;
+    if a.refused() {
         return Outcome {
-            answer: e,
+            answer: a,
             store: t,
         };
     }
     let u = r.lane;
     t.lanes[i] = u;
     Outcome {
-        answer: e,
+        answer: a,
         store: t,
     }
 }
