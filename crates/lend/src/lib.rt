@@ -57,7 +57,8 @@ pub struct Replayed {
     pub store: Store,
 }
 
-// A whole tape: one store, lent from record to record; a number for each line goes into the lent list.
+// A whole tape: one store, lent from record to record; a number for each line goes into the lent list. The last record's bytes are
+// passed over, and its end of the tape is seen, at the next turn: docs/PERFORMANCE.md says why.
 pub fn replay(tape: &[u8], lines: &mut [u64]) -> Replayed
     ensures { λ r. ⌜ IsReplay (now (tape .entry)) (now (lines .entry)) (now (lines .exit)) r ⌝ }
 {

@@ -4,7 +4,7 @@ ghost use mathlib.Core.Path.{_≡_};
 ghost use mathlib.Core.Bool.{cond};
 ghost use Prim.Native.Nat.{_<_};
 ghost use Rattle.store.specs.Control.{answerOf};
-ghost use Rattle.machine.specs.Change.{withWaiting, withReturns, nobody, only, refuseMove};
+ghost use Rattle.machine.specs.Change.{withWaiting, withReturns, only, refuseMove};
 ghost use Rattle.machine.specs.Serve.{bareDown, sendsOf, orderOf, ordered, countOf, bareOf, exclusively, closedBlock, grantOf, close, readyOf, serviceFor, serveMove};
 ghost use Rattle.machine.specs.Return.{absent, written, takenBy, isAnswer, quietly, answered, returnMove};
 ghost use Rattle.memory.specs.Bounds.{laneBelow};
