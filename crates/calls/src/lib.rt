@@ -1,124 +1,26 @@
-// The calls: load, store, exchange, add, serve, return, deliver, each an equation with document 01's machine, refusals too.
-// load to deliver are open to others and have no requires. The functions that end in _sound are for the crates above: they ask
-// for a store that is not corrupt and leave out the check of 14, which a tape and settle pay once.
+// The calls open to others: load, store, exchange, add, serve, return, deliver. None has a requires; each is an equation with document
+// 01's machine, refusals too.
 ghost use mathlib.Core.Path.{_≡_};
-ghost use mathlib.Core.Bool.{false};
 ghost use Rattle.words.specs.declared.Op.the-variants as Op;
-ghost use Rattle.machine.specs.Corruption.{corruptOf};
-ghost use Rattle.machine.specs.Change.{refuse};
 ghost use Rattle.machine.specs.Begin.{beginOf};
 ghost use Rattle.machine.specs.Serve.{serveOf};
 ghost use Rattle.machine.specs.Return.{returnOf};
 ghost use Rattle.machine.specs.Deliver.{deliverOf};
-use answers::Answer;
 use answers::Refusal;
-use machine::Ready;
 use store::Outcome;
 use store::Store;
 use words::LaneNo;
 use words::Op;
 use words::WordNo;
 
-// A refusal leaves the store as it was.
-pub fn refused(r: Refusal, s: Store) -> Outcome
-    ensures { λ o. ⌜ o ≡ refuse r s ⌝ }
-{
-    Outcome {
-        answer: Answer::Refused(r),
-        store: s,
-    }
-}
-
-// Begin on a store that is not corrupt.
-pub fn begin_sound(s: Store, k: LaneNo, op: Op, w: WordNo) -> Outcome
-    requires { ⌜ corruptOf s ≡ false ⌝ }
-    ensures { λ r. ⌜ r ≡ beginOf s k op w ⌝ }
-{
-    let n = s.n;
-    if n <= k.0 {
-        return refused(Refusal::NoSuchLane, s);
-    }
-    let m = s.m;
-    if m <= w.0 / 4 {
-        return refused(Refusal::NoSuchWord, s);
-    }
-    let i = k.0 as usize;
-    let l = s.lanes[i];
-    let r = lanestep::begin_lane(l, s.c, k, op, w);
-    memory::commit_lane(s, k, r)
-}
-
-// Serve on a store that is not corrupt.
-pub fn serve_sound(s: Store, k: LaneNo) -> Outcome
-    requires { ⌜ corruptOf s ≡ false ⌝ }
-    ensures { λ r. ⌜ r ≡ serveOf s k ⌝ }
-{
-    let n = s.n;
-    if n <= k.0 {
-        return refused(Refusal::NoSuchLane, s);
-    }
-    let i = k.0 as usize;
-    let l = s.lanes[i];
-    let x = s.control;
-    match memory::check_ready(l, x) {
-        Ready::No(r) => refused(r, s),
-        Ready::Go(o) => {
-            let a = o.word.block();
-            let j = a.0 as usize;
-            let b = s.blocks[j];
-            let v = memory::serve_move(l, b, x, k, o);
-            memory::commit_move(s, k, a, v)
-        }
-    }
-}
-
-// Return on a store that is not corrupt.
-pub fn return_sound(s: Store, k: LaneNo) -> Outcome
-    requires { ⌜ corruptOf s ≡ false ⌝ }
-    ensures { λ r. ⌜ r ≡ returnOf s k ⌝ }
-{
-    let n = s.n;
-    if n <= k.0 {
-        return refused(Refusal::NoSuchLane, s);
-    }
-    let i = k.0 as usize;
-    let l = s.lanes[i];
-    let q = l.returns;
-    if q.len == 0 {
-        return refused(Refusal::NothingPending, s);
-    }
-    let y = q.at[0];
-    let a = y.block;
-    let j = a.0 as usize;
-    let b = s.blocks[j];
-    let x = s.control;
-    let v = memory::return_move(l, b, x, k, y);
-    memory::commit_move(s, k, a, v)
-}
-
-// Deliver on a store that is not corrupt.
-pub fn deliver_sound(s: Store, k: LaneNo) -> Outcome
-    requires { ⌜ corruptOf s ≡ false ⌝ }
-    ensures { λ r. ⌜ r ≡ deliverOf s k ⌝ }
-{
-    let n = s.n;
-    if n <= k.0 {
-        return refused(Refusal::NoSuchLane, s);
-    }
-    let i = k.0 as usize;
-    let l = s.lanes[i];
-    let r = lanestep::deliver_lane(l, s.c, k);
-    memory::commit_lane(s, k, r)
-}
-
 // A begin call on any store.
 fn begin(s: Store, k: LaneNo, op: Op, w: WordNo) -> Outcome
     ensures { λ r. ⌜ r ≡ beginOf s k op w ⌝ }
 {
     if checks::corrupt(s) {
-        return refused(Refusal::Corrupt, s);
+        return steps::refused(Refusal::Corrupt, s);
     }
-    begin_sound(s, k, op, w)
+    steps::begin_sound(s, k, op, w)
 }
 
 // Load.
@@ -154,9 +56,9 @@ pub fn serve(s: Store, k: LaneNo) -> Outcome
     ensures { λ r. ⌜ r ≡ serveOf s k ⌝ }
 {
     if checks::corrupt(s) {
-        return refused(Refusal::Corrupt, s);
+        return steps::refused(Refusal::Corrupt, s);
     }
-    serve_sound(s, k)
+    steps::serve_sound(s, k)
 }
 
 // Return k; `return` is a word of the language.
@@ -164,9 +66,9 @@ pub fn return_head(s: Store, k: LaneNo) -> Outcome
     ensures { λ r. ⌜ r ≡ returnOf s k ⌝ }
 {
     if checks::corrupt(s) {
-        return refused(Refusal::Corrupt, s);
+        return steps::refused(Refusal::Corrupt, s);
     }
-    return_sound(s, k)
+    steps::return_sound(s, k)
 }
 
 // Deliver k.
@@ -174,7 +76,7 @@ pub fn deliver(s: Store, k: LaneNo) -> Outcome
     ensures { λ r. ⌜ r ≡ deliverOf s k ⌝ }
 {
     if checks::corrupt(s) {
-        return refused(Refusal::Corrupt, s);
+        return steps::refused(Refusal::Corrupt, s);
     }
-    deliver_sound(s, k)
+    steps::deliver_sound(s, k)
 }

@@ -18,7 +18,8 @@ use Rattle.store.specs.declared.Store.{Store}
 use Rattle.store.specs.declared.Outcome.{Outcome}
 use Rattle.store.specs.Opening.{freshOf}
 use Rattle.machine.specs.Tape.{Replay, field, bodyLength, recordOf, endsTape, replayFrom}
-use Rattle.tape.specs.Codes.{codeOf}
+use Rattle.tape.specs.declared.Coded.{Coded}
+use Rattle.tape.specs.Codes.{codeOf, codedOf}
 use Rattle.lend.specs.declared.Replayed.{Replayed}
 use Rattle.lend.specs.Replays.{replayInto, IsReplay, endsCode}
 use Rattle.lend.proofs.Steady.{Tapes, blank-tapes, record-after}
@@ -173,3 +174,29 @@ module _ (tape room : List ℕ) where
             store = g .store ∙ rw (left, f, d);
             rest = dropped;
           }
+
+  -- what holds at the loop's test: the replay goes on, or its last record is done
+  pub record Turn (lines : List ℕ) (i at : ℕ) (s : Store) (ended : Bool) : Type 0 where
+    pub within : i ≤ length room
+    pub same : length lines ≡ length room
+    pub going : ended ≡ false → Going lines i at s
+    pub over : ended ≡ true → IsReplay tape room lines (record { count = i; store = s })
+
+  pub turn-start : Turn room 0 0 (freshOf 0 0 0) false
+  turn-start = record { within = omega arith; same = refl; going = λ _. going-start; over = λ e. absurd (true≢false (sym e)) }
+
+  -- a turn: the record's number, store and length, and whether it ends the tape
+  pub turn-next : (lines : List ℕ) (i at : ℕ) (s : Store) → Going lines i at s → i < length room → at < length tape → {r : Coded} {n : ℕ} {b : Bool} →
+      r ≡ codedOf (recordOf s (drop at tape)) → n ≡ 1 + bodyLength (getD tape at 0) → b ≡ endsCode (r .code) → Turn (set lines i (r .code)) (i + 1) (at + n) (r .store) b
+  turn-next lines i at s g h l p q e =
+      rw (p, q ∙ ap (λ (k : ℕ). 1 + bodyLength k) (sym (field-at tape at)), e ∙ (ap (λ (x : Coded). endsCode (x .code)) p ∙ sym (code-ends (recordOf s (drop at tape) .answer)))) (record {
+        within = omega arith;
+        same = simp lib.ListN.length-set (g .same);
+        going = going-next lines i at s g h l;
+        over = going-last lines i at s g h l;
+      })
+
+  -- there is no room for another line
+  pub turn-full : (lines : List ℕ) (i at : ℕ) (s : Store) (ended : Bool) → Turn lines i at s ended → length room ≤ i → IsReplay tape room lines (record { count = i; store = s })
+  turn-full lines i at s true g h = g .over refl
+  turn-full lines i at s false g h = going-full lines i at s (g .going refl) h

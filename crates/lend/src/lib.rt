@@ -57,14 +57,18 @@ pub struct Replayed {
     pub store: Store,
 }
 
-// A whole tape: one store, lent from record to record; a number for each line goes into the lent list.
+// A whole tape: one store, lent from record to record; a number for each line goes into the lent list. The last record's bytes are
+// passed over, and its end of the tape is seen, at the next turn: docs/PERFORMANCE.md says why.
 pub fn replay(tape: &[u8], lines: &mut [u64]) -> Replayed
     ensures { λ r. ⌜ IsReplay (now (tape .entry)) (now (lines .entry)) (now (lines .exit)) r ⌝ }
 {
     let mut s = store::fresh(0, 0, 0);
     let mut at: usize = 0;
+    let mut last: usize = 0;
     let mut i: usize = 0;
-    while i < lines.len() {
+    let mut ended = false;
+    while i < lines.len() && !ended {
+        at += last;
         if tape.len() <= at {
             return Replayed { count: i, store: s };
         }
@@ -74,11 +78,8 @@ pub fn replay(tape: &[u8], lines: &mut [u64]) -> Replayed
         s = t;
         lines[i] = code;
         i += 1;
-        if ends(code) {
-            return Replayed { count: i, store: s };
-        }
-        let n = size(tape[at]);
-        at += n;
+        last = size(tape[at]);
+        ended = ends(code);
     }
     Replayed { count: i, store: s }
 }

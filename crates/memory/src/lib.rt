@@ -1,15 +1,12 @@
-// Memory's part of serve and return, and the two places where a store is put back together after a call.
+// Memory's part of serve and return: a lane, a block and the control are handed in by value and come back in a Move.
 // Functions with a requires are for the crates above and not for others.
 ghost use mathlib.Core.Path.{_≡_};
-ghost use mathlib.Core.Bool.{_&&_, cond};
+ghost use mathlib.Core.Bool.{cond};
 ghost use Prim.Native.Nat.{_<_};
-ghost use lib.ListN.{getD};
-ghost use Rattle.queues.specs.Queues.{fullAt};
 ghost use Rattle.store.specs.Control.{answerOf};
-ghost use Rattle.store.specs.Quiet.{noLane};
-ghost use Rattle.machine.specs.Change.{refuse, withWaiting, withReturns, commitLane, nobody, only, goesTo, someFull, posted, postTo, postAll, refuseMove, commitMove};
+ghost use Rattle.machine.specs.Change.{withWaiting, withReturns, only, refuseMove};
 ghost use Rattle.machine.specs.Serve.{bareDown, sendsOf, orderOf, ordered, countOf, bareOf, exclusively, closedBlock, grantOf, close, readyOf, serviceFor, serveMove};
-ghost use Rattle.machine.specs.Return.{absent, written, takenBy, isAnswer, quietly, answered, returnMove};
+ghost use Rattle.machine.specs.Return.{absent, written, takenBy, isAnswer, sendNothing, answered, returnMove};
 ghost use Rattle.memory.specs.Bounds.{laneBelow};
 use answers::Answer;
 use answers::Refusal;
@@ -17,10 +14,8 @@ use lanes::Command;
 use lanes::Lane;
 use lanes::Operation;
 use lanes::Waiting;
-use machine::LaneStep;
 use machine::Move;
 use machine::Ready;
-use queues::CAPACITY;
 use queues::DownKind;
 use queues::DownMessage;
 use queues::ReturnKind;
@@ -29,9 +24,7 @@ use queues::ReturnQueue;
 use store::Block;
 use store::Control;
 use store::Counted;
-use store::Outcome;
 use store::Service;
-use store::Store;
 use words::BlockNo;
 use words::LaneNo;
 
@@ -100,7 +93,7 @@ fn refuse_move(e: Refusal, l: Lane, b: Block, x: Control) -> Move
 
 // Memory's part where nothing is sent.
 fn send_nothing(l: Lane, b: Block, x: Control) -> Move
-    ensures { λ r. ⌜ r ≡ quietly l b x ⌝ }
+    ensures { λ r. ⌜ r ≡ sendNothing l b x ⌝ }
 {
     let m = bare_down(DownKind::Update, BlockNo(0));
     Move {
@@ -399,139 +392,4 @@ pub fn return_move(l: Lane, b: Block, y: Control, k: LaneNo, x: ReturnMessage) -
         return count_answer(y, a, l, b, t, u);
     }
     send_nothing(t, u, y)
-}
-
-// Lane k after its part of a call.
-pub fn commit_lane(s: Store, k: LaneNo, p: LaneStep) -> Outcome
-    requires { ⌜ k .0 < 8 ⌝ }
-    ensures { λ r. ⌜ r ≡ commitLane s k p ⌝ }
-{
-    let e = p.answer;
-    if e.refused() {
-        return Outcome {
-            answer: e,
-            store: s,
-        };
-    }
-    let i = k.0 as usize;
-    let l = p.lane;
-    let mut u = s;
-    u.lanes[i] = l;
-    Outcome {
-        answer: e,
-        store: u,
-    }
-}
-
-// Whether a message goes to a lane whose down queue has len messages and takes no more.
-fn blocked(goes: bool, len: u8) -> bool
-    ensures { λ r. ⌜ r ≡ (goes && fullAt len) ⌝ }
-{
-    if goes {
-        return CAPACITY <= len;
-    }
-    false
-}
-
-// 12: whether a queue that the message joins is full.
-fn some_full(to: [bool; 8], ls: [Lane; 8]) -> bool
-    ensures { λ r. ⌜ r ≡ someFull to ls ⌝ }
-{
-    let mut i: usize = 0;
-    while i < 8 {
-        let len = ls[i].downs.len;
-        if blocked(to[i], len) {
-            return true;
-        }
-        i += 1;
-    }
-    false
-}
-
-// The message joins the lane's down queue.
-fn post(x: DownMessage, l: Lane) -> Lane
-    ensures { λ r. ⌜ r ≡ posted x l ⌝ }
-{
-    let q = l.downs;
-    let p = q.push(x);
-    let d = p.queue;
-    let mut t = l;
-    t.downs = d;
-    t
-}
-
-// .. if it goes there.
-fn post_if(goes: bool, x: DownMessage, l: Lane) -> Lane
-    ensures { λ r. ⌜ r ≡ cond goes (posted x l) l ⌝ }
-{
-    if goes {
-        return post(x, l);
-    }
-    l
-}
-
-// .. of each lane that it goes to, in a copy of the lanes that is changed in place.
-fn post_all(to: [bool; 8], x: DownMessage, lanes: [Lane; 8]) -> [Lane; 8]
-    ensures { λ r. ⌜ r ≡ postAll to x lanes ⌝ }
-{
-    let mut ls = lanes;
-    let mut j: usize = 0;
-    while j < 8 {
-        let l = ls[j];
-        let t = post_if(to[j], x, l);
-        ls[j] = t;
-        j += 1;
-    }
-    ls
-}
-
-// A refusal of a call.
-fn refuse_call(e: Refusal, s: Store) -> Outcome
-    ensures { λ r. ⌜ r ≡ refuse e s ⌝ }
-{
-    Outcome {
-        answer: Answer::Refused(e),
-        store: s,
-    }
-}
-
-// Lane k, block a, the control and the down queues after memory's part of a call.
-pub fn commit_move(s: Store, k: LaneNo, a: BlockNo, v: Move) -> Outcome
-    requires { ⌜ (k .0 < 8) × (a .0 < 64) ⌝ }
-    ensures { λ r. ⌜ r ≡ commitMove s k a v ⌝ }
-{
-    let e = v.answer;
-    if e.refused() {
-        return Outcome {
-            answer: e,
-            store: s,
-        };
-    }
-    let i = k.0 as usize;
-    let l = v.lane;
-    let mut t = s;
-    t.lanes[i] = l;
-    let ls = t.lanes;
-    let to = v.to;
-    if some_full(to, ls) {
-        return refuse_call(Refusal::QueueFull, s);
-    }
-    let m = v.message;
-    let qs = post_all(to, m, ls);
-    let j = a.0 as usize;
-    let b = v.block;
-    let mut bs = s.blocks;
-    bs[j] = b;
-    let x = v.control;
-    Outcome {
-        answer: e,
-        store: Store {
-            n: s.n,
-            c: s.c,
-            m: s.m,
-            control: x,
-            lanes: qs,
-            blocks: bs,
-        },
-    }
 }

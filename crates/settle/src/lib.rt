@@ -130,9 +130,9 @@ fn take_turn(x: Turn, s: Store, k: LaneNo) -> Outcome
     ensures { λ r. ⌜ r ≡ turnOf x s k ⌝ }
 {
     match x {
-        Turn::Deliver => calls::deliver_sound(s, k),
-        Turn::Return => calls::return_sound(s, k),
-        Turn::Serve => calls::serve_sound(s, k),
+        Turn::Deliver => steps::deliver_sound(s, k),
+        Turn::Return => steps::return_sound(s, k),
+        Turn::Serve => steps::serve_sound(s, k),
     }
 }
 
@@ -154,7 +154,7 @@ fn step(s: Store) -> Outcome
     if u < n {
         return take_turn(Turn::Serve, s, LaneNo(u));
     }
-    calls::refused(Refusal::Unexpected, s)
+    steps::refused(Refusal::Unexpected, s)
 }
 
 // Settle of a store that is not corrupt.

@@ -121,7 +121,7 @@ fn open_record(s: Store, body: &[u8]) -> Outcome
         let c = body[1];
         let m = body[2];
         if store::bad_shape(n, c, m) {
-            return calls::refused(Refusal::InvalidShape, s);
+            return steps::refused(Refusal::InvalidShape, s);
         }
         let t = store::fresh(n, c, m);
         return Outcome {
@@ -129,7 +129,7 @@ fn open_record(s: Store, body: &[u8]) -> Outcome
             store: t,
         };
     }
-    calls::refused(Refusal::AlreadyOpen, s)
+    steps::refused(Refusal::AlreadyOpen, s)
 }
 
 // A record of kinds 01 to 04.
@@ -140,11 +140,11 @@ fn begin_record(s: Store, kind: u8, body: &[u8]) -> Outcome
     let k = LaneNo(body[0]);
     let w = WordNo(body[1]);
     if kind == LOAD {
-        return calls::begin_sound(s, k, Op::Load, w);
+        return steps::begin_sound(s, k, Op::Load, w);
     }
     let v = value(&body[2..]);
     let op = op_of(kind, v);
-    calls::begin_sound(s, k, op, w)
+    steps::begin_sound(s, k, op, w)
 }
 
 // What the kind picked, on a body of its length.
@@ -154,30 +154,30 @@ fn step_record(s: Store, a: Action, kind: u8, body: &[u8]) -> Outcome
 {
     match a {
         Action::Open => open_record(s, body),
-        Action::Unknown => calls::refused(Refusal::UnknownKind, s),
+        Action::Unknown => steps::refused(Refusal::UnknownKind, s),
         Action::Begin => {
             if s.n == 0 {
-                return calls::refused(Refusal::NotOpen, s);
+                return steps::refused(Refusal::NotOpen, s);
             }
             begin_record(s, kind, body)
         }
         Action::Serve => {
             if s.n == 0 {
-                return calls::refused(Refusal::NotOpen, s);
+                return steps::refused(Refusal::NotOpen, s);
             }
-            calls::serve_sound(s, LaneNo(body[0]))
+            steps::serve_sound(s, LaneNo(body[0]))
         }
         Action::Return => {
             if s.n == 0 {
-                return calls::refused(Refusal::NotOpen, s);
+                return steps::refused(Refusal::NotOpen, s);
             }
-            calls::return_sound(s, LaneNo(body[0]))
+            steps::return_sound(s, LaneNo(body[0]))
         }
         Action::Deliver => {
             if s.n == 0 {
-                return calls::refused(Refusal::NotOpen, s);
+                return steps::refused(Refusal::NotOpen, s);
             }
-            calls::deliver_sound(s, LaneNo(body[0]))
+            steps::deliver_sound(s, LaneNo(body[0]))
         }
     }
 }
@@ -188,7 +188,7 @@ pub fn record_sound(s: Store, tape: &[u8]) -> Outcome
     ensures { λ r. ⌜ r ≡ recordOf s (now (tape .entry)) ⌝ }
 {
     if tape.len() == 0 {
-        return calls::refused(Refusal::Truncated, s);
+        return steps::refused(Refusal::Truncated, s);
     }
     let kind = tape[0];
     let f = form_of(kind);
@@ -196,7 +196,7 @@ pub fn record_sound(s: Store, tape: &[u8]) -> Outcome
     let a = f.action;
     let body = &tape[1..];
     if body.len() < least {
-        return calls::refused(Refusal::Truncated, s);
+        return steps::refused(Refusal::Truncated, s);
     }
     step_record(s, a, kind, body)
 }

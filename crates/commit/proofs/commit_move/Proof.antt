@@ -1,0 +1,108 @@
+-- `commit::commit_move` meets its contract. Assumes nothing.
+use borrow.Author.Needs.{needs}
+use Prim.Native.Nat.{_≤_, _-_}
+use native.Mathlib.Omega.{arith}
+use mathlib.Core.Logic.{⊎-elim}
+use mathlib.Core.Path.{_≡_, sym, _∙_}
+use Rattle.words.specs.Folds.{upTo}
+use Rattle.machine.specs.Change.{postTo}
+use Rattle.commit.proofs.Posting.{withLanes, turns-none, turn-posts, turn-passes, turns-all, commit-refused, commit-done}
+use Rattle.commit.proofs.commit_move.Statement.{statement}
+use Rattle.commit.proofs.commit_move.Tie as tie
+
+abbrev Inv-loop : tie.InvT-loop
+Inv-loop v t₀ e i j to m h₀ t h = (h ≤ 8) × (t ≡ withLanes t₀ (upTo (postTo to m) h (t₀ .lanes)))
+
+abbrev μ-loop : tie.MeasureT-loop
+μ-loop v t₀ e i j to m h₀ t h = 8 - h
+
+move-answer-requires : tie.Need-move-answer-requires Inv-loop μ-loop
+move-answer-requires c κs = search needs
+
+refused-requires : tie.Need-refused-requires Inv-loop μ-loop
+refused-requires c κs = search needs
+
+returns : tie.Need-returns Inv-loop μ-loop
+returns c = rw (c .before .before .move-answer .ensures) (commit-refused (c .before .before .before .before .args .s) (c .before .before .before .before .args .k) (c .before .before .before .before .args .a) (c .before .before .before .before .args .v) (rw (← c .before .before .move-answer .ensures) (sym (c .before .refused .ensures) ∙ c .if1 .taken)))
+
+cast-i : tie.Need-cast-i Inv-loop μ-loop
+cast-i c = search needs
+
+mul-l : tie.Need-mul-l Inv-loop μ-loop
+mul-l c = search needs
+
+element-set-from-l : tie.Need-element-set-from-l Inv-loop μ-loop
+element-set-from-l c = search needs
+
+cast-j : tie.Need-cast-j Inv-loop μ-loop
+cast-j c = search needs
+
+mul-b : tie.Need-mul-b Inv-loop μ-loop
+mul-b c = search needs
+
+element-set-from-b : tie.Need-element-set-from-b Inv-loop μ-loop
+element-set-from-b c = search needs
+
+loop-holds : tie.Need-loop-holds Inv-loop μ-loop
+loop-holds c = (omega arith, turns-none _ _ _)
+
+array-read-if2 : tie.Need-array-read-if2 Inv-loop μ-loop
+array-read-if2 c = search needs
+
+mul-old : tie.Need-mul-old Inv-loop μ-loop
+mul-old c = search needs
+
+element-copy-out-old : tie.Need-element-copy-out-old Inv-loop μ-loop
+element-copy-out-old c = search needs
+
+post-requires : tie.Need-post-requires Inv-loop μ-loop
+post-requires c κs = search needs
+
+mul-new : tie.Need-mul-new Inv-loop μ-loop
+mul-new c = search needs
+
+element-set-from-new : tie.Need-element-set-from-new Inv-loop μ-loop
+element-set-from-new c = search needs
+
+add-h : tie.Need-add-h Inv-loop μ-loop
+add-h c = omega arith
+
+loop-less : tie.Need-loop-less Inv-loop μ-loop
+loop-less c = omega arith
+
+loop-again : tie.Need-loop-again Inv-loop μ-loop
+loop-again c = (omega arith, ⊎-elim (λ w. w .3 ∙ turn-posts (c .before .before .before .before .before .before .before .before .before .before .before .before .before .args .v .to) (c .before .before .before .before .before .before .before .before .before .before .before .before .before .args .v .message) _ (c .before .before .loop .t) (c .before .before .loop .h) (c .before .before .loop .inv .1) (w .0 .taken) (w .2 .ensures)) (λ w. w .1 ∙ turn-passes (c .before .before .before .before .before .before .before .before .before .before .before .before .before .args .v .to) (c .before .before .before .before .before .before .before .before .before .before .before .before .before .args .v .message) _ (c .before .before .loop .t) (c .before .before .loop .h) (c .before .before .loop .inv .1) (w .0 .left)) (c .if2 .came))
+
+returns-2 : tie.Need-returns-2 Inv-loop μ-loop
+returns-2 c =
+    let e : c .before .before .before .loop .h ≡ 8 = omega arith in
+    commit-done (c .before .before .before .before .before .before .before .before .before .before .before .before .before .before .args .s) (c .before .before .before .before .before .before .before .before .before .before .before .before .before .before .args .k) (c .before .before .before .before .before .before .before .before .before .before .before .before .before .before .args .a) (c .before .before .before .before .before .before .before .before .before .before .before .before .before .before .args .v) _ _ (c .before .before .before .before .before .before .before .before .before .before .before .before .move-answer .ensures)
+    (turns-all (c .before .before .before .before .before .before .before .before .before .before .before .before .before .before .args .v .to) (c .before .before .before .before .before .before .before .before .before .before .before .before .before .before .args .v .message) (c .before .before .before .before .before .before .before .before .before .before .before .before .before .before .args .v .control) _ (c .before .before .before .loop .t) (c .before .before .before .loop .h) (c .before .before .before .loop .inv .1) e)
+    (sym (c .before .before .before .before .before .before .before .before .before .before .before .refused .ensures) ∙ c .before .before .before .before .before .before .before .before .before .before .if1 .left)
+
+pub commit-move-spec : {M : Type 1} → statement M
+commit-move-spec =
+    tie.close
+    (tie.spec
+    Inv-loop
+    μ-loop
+    move-answer-requires
+    refused-requires
+    returns
+    cast-i
+    mul-l
+    element-set-from-l
+    cast-j
+    mul-b
+    element-set-from-b
+    loop-holds
+    array-read-if2
+    mul-old
+    element-copy-out-old
+    post-requires
+    mul-new
+    element-set-from-new
+    add-h
+    loop-less
+    loop-again
+    returns-2)

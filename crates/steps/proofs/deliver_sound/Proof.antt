@@ -1,0 +1,60 @@
+-- `steps::deliver_sound` meets its contract. Assumes nothing.
+use borrow.Author.Tests.{le-leb, lt-leb}
+use Rattle.steps.proofs.Bounds.{lane-bound, lines-bound}
+use Rattle.machine.specs.Change.{commitLane}
+use Rattle.machine.specs.Deliver.{deliverOf}
+use borrow.Author.Needs.{needs}
+use Rattle.steps.proofs.deliver_sound.Statement.{statement}
+use Rattle.steps.proofs.deliver_sound.Tie as tie
+
+refused-requires : tie.Need-refused-requires
+refused-requires c κs = search needs
+
+returns : tie.Need-returns
+unfolding deliverOf
+returns c = rw (deliverOf, c .before .before .before .pre, le-leb _ _ (c .before .if1 .taken), c .refused .ensures)
+
+cast-i : tie.Need-cast-i
+cast-i c = search needs
+
+mul-l : tie.Need-mul-l
+mul-l c = search needs
+
+element-copy-out-l : tie.Need-element-copy-out-l
+element-copy-out-l c = lane-bound _ _ (c .before .before .before .pre) (c .before .if1 .left)
+
+deliver-lane-requires : tie.Need-deliver-lane-requires
+deliver-lane-requires c κs = lines-bound _ _ (c .before .before .before .before .pre) (c .before .before .if1 .left)
+
+refused-requires-2 : tie.Need-refused-requires-2
+refused-requires-2 c κs = search needs
+
+returns-2 : tie.Need-returns-2
+unfolding deliverOf commitLane
+returns-2 c = rw (deliverOf, c .before .before .before .before .before .before .before .pre, lt-leb _ _ (c .before .before .before .before .before .if1 .left), ← c .before .before .deliver-lane .ensures, commitLane, ← c .before .refused2 .ensures, c .if2 .taken)
+
+mul-u : tie.Need-mul-u
+mul-u c = search needs
+
+element-set-from-u : tie.Need-element-set-from-u
+element-set-from-u c = lane-bound _ _ (c .before .before .before .before .before .before .before .before .pre) (c .before .before .before .before .before .before .if1 .left)
+
+returns-3 : tie.Need-returns-3
+unfolding deliverOf commitLane
+returns-3 c = rw (deliverOf, c .before .before .before .before .before .before .before .before .pre, lt-leb _ _ (c .before .before .before .before .before .before .if1 .left), ← c .before .before .before .deliver-lane .ensures, commitLane, ← c .before .before .refused2 .ensures, c .before .if2 .left)
+
+pub deliver-sound-spec : {M : Type 1} → statement M
+deliver-sound-spec =
+    tie.close
+    (tie.spec
+    refused-requires
+    returns
+    cast-i
+    mul-l
+    element-copy-out-l
+    deliver-lane-requires
+    refused-requires-2
+    returns-2
+    mul-u
+    element-set-from-u
+    returns-3)

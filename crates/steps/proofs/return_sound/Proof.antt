@@ -1,0 +1,71 @@
+-- `steps::return_sound` meets its contract. Assumes nothing.
+use borrow.Author.Tests.{le-leb, lt-leb, eq-eqb, ne-eqb}
+use Rattle.steps.proofs.Bounds.{lane-bound, head-bound, service-bound}
+use Rattle.machine.specs.Return.{returnOf}
+use borrow.Author.Needs.{needs}
+use Rattle.steps.proofs.return_sound.Statement.{statement}
+use Rattle.steps.proofs.return_sound.Tie as tie
+
+refused-requires : tie.Need-refused-requires
+refused-requires c κs = search needs
+
+returns : tie.Need-returns
+unfolding returnOf
+returns c = rw (returnOf, c .before .before .before .pre, le-leb _ _ (c .before .if1 .taken), c .refused .ensures)
+
+cast-i : tie.Need-cast-i
+cast-i c = search needs
+
+mul-l : tie.Need-mul-l
+mul-l c = search needs
+
+element-copy-out-l : tie.Need-element-copy-out-l
+element-copy-out-l c = lane-bound _ _ (c .before .before .before .pre) (c .before .if1 .left)
+
+refused-requires-2 : tie.Need-refused-requires-2
+refused-requires-2 c κs = search needs
+
+returns-2 : tie.Need-returns-2
+unfolding returnOf
+returns-2 c = rw (returnOf, c .before .before .before .before .before .before .before .pre, lt-leb _ _ (c .before .before .before .before .before .if1 .left), eq-eqb _ _ (c .before .if2 .taken), c .refused2 .ensures)
+
+element-copy-out-y : tie.Need-element-copy-out-y
+element-copy-out-y c = search needs
+
+cast-j : tie.Need-cast-j
+cast-j c = search needs
+
+mul-b : tie.Need-mul-b
+mul-b c = search needs
+
+element-copy-out-b : tie.Need-element-copy-out-b
+element-copy-out-b c = head-bound _ _ (c .before .before .before .before .before .before .before .before .before .pre) (c .before .before .before .before .before .before .before .if1 .left) (c .before .before .before .if2 .left)
+
+return-move-requires : tie.Need-return-move-requires
+return-move-requires c κs = (lane-bound _ _ (c .before .before .before .before .before .before .before .before .before .before .pre) (c .before .before .before .before .before .before .before .before .if1 .left), service-bound _ _ (c .before .before .before .before .before .before .before .before .before .before .pre) (c .before .before .before .before .before .before .before .before .if1 .left))
+
+commit-move-requires : tie.Need-commit-move-requires
+commit-move-requires c κs = (lane-bound _ _ (c .before .before .before .before .before .before .before .before .before .before .before .pre) (c .before .before .before .before .before .before .before .before .before .if1 .left), head-bound _ _ (c .before .before .before .before .before .before .before .before .before .before .before .pre) (c .before .before .before .before .before .before .before .before .before .if1 .left) (c .before .before .before .before .before .if2 .left))
+
+returns-3 : tie.Need-returns-3
+unfolding returnOf
+returns-3 c = rw (returnOf, c .before .before .before .before .before .before .before .before .before .before .before .before .pre, lt-leb _ _ (c .before .before .before .before .before .before .before .before .before .before .if1 .left), ne-eqb _ _ (c .before .before .before .before .before .before .if2 .left), ← c .before .return-move .ensures, c .commit-move .ensures)
+
+pub return-sound-spec : {M : Type 1} → statement M
+return-sound-spec =
+    tie.close
+    (tie.spec
+    refused-requires
+    returns
+    cast-i
+    mul-l
+    element-copy-out-l
+    refused-requires-2
+    returns-2
+    element-copy-out-y
+    cast-j
+    mul-b
+    element-copy-out-b
+    return-move-requires
+    commit-move-requires
+    returns-3)
