@@ -1,14 +1,15 @@
-// Settle: 01's steps again and again until the store is quiet, as one call; each call ends.
+// Settle: 01's steps again and again until the store is quiet, as one call.
 // settle is open to others and has no requires.
 ghost use mathlib.Core.Path.{_≡_};
 ghost use mathlib.Core.Bool.{false};
+ghost use mathlib.Core.List.{[]};
 ghost use Prim.Native.Nat.{_+_, _≤_};
 ghost use lib.ListN.{length};
 ghost use Rattle.words.specs.Folds.{lowestTo};
 ghost use Rattle.store.specs.Quiet.{laneAt};
 ghost use Rattle.machine.specs.Corruption.{corruptOf};
 ghost use Rattle.machine.specs.Settle.{settleStep, settleOf, boundOf, doneIn, refuseSettle};
-ghost use Rattle.settle.specs.Settles.{noCompletions, settlementOf, CountWithin, dueOf, turnOf, listedOf, refusalOf};
+ghost use Rattle.settle.specs.Settles.{arrayOf, outcomeOf, CountWithin, dueOf, turnOf, listedOf, refusalOf};
 use answers::Answer;
 use answers::Completion;
 use answers::Refusal;
@@ -18,7 +19,7 @@ use store::Outcome;
 use store::Store;
 use words::LaneNo;
 
-// The completions of a settle in order: those before len. An operation that completes waits no more and settle begins none, so there
+// The completions of a settle in order: those before len; the places from len on are not used. An operation that completes waits no more and settle begins none, so there
 // are at most as many as lanes.
 pub struct Completions {
     pub len: u8,
@@ -41,7 +42,7 @@ enum Turn {
 
 // No completion so far.
 fn none() -> Completions
-    ensures { λ r. ⌜ r ≡ noCompletions ⌝ }
+    ensures { λ r. ⌜ r ≡ arrayOf [] ⌝ }
 {
     let x = answers::completed(LaneNo(0), 0);
     Completions { len: 0, at: [x; 8] }
@@ -67,7 +68,7 @@ fn list(d: Completions, a: Answer) -> Completions
     }
 }
 
-// Why an answer is a refusal; of another answer it is not asked.
+// Why an answer is a refusal; for an answer that is no refusal the value is not used.
 fn refusal(a: Answer) -> Refusal
     ensures { λ r. ⌜ r ≡ refusalOf a ⌝ }
 {
@@ -82,7 +83,7 @@ fn refusal(a: Answer) -> Refusal
 
 // A refused settle gives its number alone; the store is the one before the call.
 fn refuse(r: Refusal, s: Store) -> SettleOutcome
-    ensures { λ o. ⌜ (settlementOf o ≡ refuseSettle r s) × CountWithin (boundOf s) (o .answer) ⌝ }
+    ensures { λ o. ⌜ (o ≡ outcomeOf (refuseSettle r s)) × CountWithin (boundOf s) (o .answer) ⌝ }
 {
     let d = none();
     SettleOutcome {
@@ -160,7 +161,7 @@ fn step(s: Store) -> Outcome
 // Settle of a store that is not corrupt.
 fn settle_sound(first: Store) -> SettleOutcome
     requires { ⌜ corruptOf first ≡ false ⌝ }
-    ensures { λ r. ⌜ (settlementOf r ≡ settleOf first) × CountWithin (boundOf first) (r .answer) ⌝ }
+    ensures { λ r. ⌜ (r ≡ outcomeOf (settleOf first)) × CountWithin (boundOf first) (r .answer) ⌝ }
 {
     let mut s = first;
     let mut done = none();
@@ -185,10 +186,10 @@ fn settle_sound(first: Store) -> SettleOutcome
     }
 }
 
-// Settle: the step count, at most the bound of the store before it, and the completions in order; or the number of the step that
-// was refused.
+// Settle: the step count, at most the bound of the store before it, and the completions in order; or why it was refused: 14, or the
+// number of the step that was.
 pub fn settle(s: Store) -> SettleOutcome
-    ensures { λ r. ⌜ (settlementOf r ≡ settleOf s) × CountWithin (boundOf s) (r .answer) ⌝ }
+    ensures { λ r. ⌜ (r ≡ outcomeOf (settleOf s)) × CountWithin (boundOf s) (r .answer) ⌝ }
 {
     if checks::corrupt(s) {
         return refuse(Refusal::Corrupt, s);
