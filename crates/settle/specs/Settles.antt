@@ -23,8 +23,8 @@ use Rattle.machine.specs.Deliver.{deliverOf}
 use Rattle.machine.specs.Settle.{Settlement}
 use Rattle.settle.specs.declared.Completions.{Completions}
 use Rattle.settle.specs.declared.SettleOutcome.{SettleOutcome}
-use Rattle.settle.specs.declared.Turn.{Turn}
-use Rattle.settle.specs.declared.Turn.the-variants.{Deliver, Return, Serve}
+use Rattle.settle.specs.declared.StepKind.{StepKind}
+use Rattle.settle.specs.declared.StepKind.the-variants.{Deliver, Return, Serve}
 
 -- the 8 places of the completions: the completions in order, then that of lane 0 with value 0 in each place that is not used
 abbrev pub padded : List Completion → List Completion
@@ -44,16 +44,16 @@ CountWithin most (Steps count) = count ≤ most
 CountWithin most (Settled.Refused r) = Unit {0}
 
 -- whether a lane has something for the step: a filled down queue, a filled return queue, an unserved operation
-abbrev pub dueOf : Turn → Lane → Bool
-dueOf Deliver l = ltb 0 (l .downs .len)
-dueOf Return l = ltb 0 (l .returns .len)
-dueOf Serve l = unservedOf (l .waiting)
+abbrev pub enabledOf : StepKind → Lane → Bool
+enabledOf Deliver l = ltb 0 (l .downs .len)
+enabledOf Return l = ltb 0 (l .returns .len)
+enabledOf Serve l = unservedOf (l .waiting)
 
 -- the step on lane k
-abbrev pub turnOf : Turn → Store → LaneNo → Outcome
-turnOf Deliver s k = deliverOf s k
-turnOf Return s k = returnOf s k
-turnOf Serve s k = serveOf s k
+abbrev pub stepOf : StepKind → Store → LaneNo → Outcome
+stepOf Deliver s k = deliverOf s k
+stepOf Return s k = returnOf s k
+stepOf Serve s k = serveOf s k
 
 -- the completion of an answer, if it has one, behind the others
 abbrev pub listedOf : Completions → Answer → Completions

@@ -9,7 +9,7 @@ ghost use Rattle.words.specs.Folds.{lowestTo};
 ghost use Rattle.store.specs.Quiet.{laneAt};
 ghost use Rattle.machine.specs.Corruption.{corruptOf};
 ghost use Rattle.machine.specs.Settle.{settleStep, settleOf, boundOf, doneIn, refuseSettle};
-ghost use Rattle.settle.specs.Settles.{arrayOf, outcomeOf, CountWithin, dueOf, turnOf, listedOf, refusalOf};
+ghost use Rattle.settle.specs.Settles.{arrayOf, outcomeOf, CountWithin, enabledOf, stepOf, listedOf, refusalOf};
 use answers::Answer;
 use answers::Completion;
 use answers::Refusal;
@@ -19,8 +19,8 @@ use store::Outcome;
 use store::Store;
 use words::LaneNo;
 
-// The completions of a settle in order: those before len; the places from len on are not used. An operation that completes waits no more and settle begins none, so there
-// are at most as many as lanes.
+// The completions of a settle in order: those before len; the places from len on are not used. An operation that completes waits no
+// more and settle begins none, so there are at most as many as lanes.
 pub struct Completions {
     pub len: u8,
     pub at: [Completion; 8],
@@ -33,8 +33,8 @@ pub struct SettleOutcome {
     pub store: Store,
 }
 
-// The three steps that settle repeats, in the order in which they have their turn.
-enum Turn {
+// The three steps that settle repeats, in the order in which it tries them.
+enum StepKind {
     Deliver,
     Return,
     Serve,
@@ -94,13 +94,13 @@ fn refuse(r: Refusal, s: Store) -> SettleOutcome
 }
 
 // Whether a lane has something for the step.
-fn due(x: Turn, l: Lane) -> bool
-    ensures { λ r. ⌜ r ≡ dueOf x l ⌝ }
+fn enabled(x: StepKind, l: Lane) -> bool
+    ensures { λ r. ⌜ r ≡ enabledOf x l ⌝ }
 {
     match x {
-        Turn::Deliver => 0 < l.downs.len,
-        Turn::Return => 0 < l.returns.len,
-        Turn::Serve => {
+        StepKind::Deliver => 0 < l.downs.len,
+        StepKind::Return => 0 < l.returns.len,
+        StepKind::Serve => {
             let w = l.waiting;
             w.unserved()
         }
@@ -108,16 +108,16 @@ fn due(x: Turn, l: Lane) -> bool
 }
 
 // The lowest lane that has something for the step, or n.
-fn lowest(x: Turn, s: Store) -> u8
+fn lowest(x: StepKind, s: Store) -> u8
     requires { ⌜ s .n ≤ 8 ⌝ }
-    ensures { λ r. ⌜ r ≡ lowestTo (λ k. dueOf x (laneAt s k)) (s .n) ⌝ }
+    ensures { λ r. ⌜ r ≡ lowestTo (λ k. enabledOf x (laneAt s k)) (s .n) ⌝ }
 {
     let n = s.n;
     let mut k: u8 = 0;
     while k < n {
         let i = k as usize;
         let l = s.lanes[i];
-        if due(x, l) {
+        if enabled(x, l) {
             return k;
         }
         k += 1;
@@ -126,14 +126,14 @@ fn lowest(x: Turn, s: Store) -> u8
 }
 
 // The step on lane k.
-fn take_turn(x: Turn, s: Store, k: LaneNo) -> Outcome
+fn take_step(x: StepKind, s: Store, k: LaneNo) -> Outcome
     requires { ⌜ corruptOf s ≡ false ⌝ }
-    ensures { λ r. ⌜ r ≡ turnOf x s k ⌝ }
+    ensures { λ r. ⌜ r ≡ stepOf x s k ⌝ }
 {
     match x {
-        Turn::Deliver => calls::deliver_sound(s, k),
-        Turn::Return => calls::return_sound(s, k),
-        Turn::Serve => calls::serve_sound(s, k),
+        StepKind::Deliver => calls::deliver_sound(s, k),
+        StepKind::Return => calls::return_sound(s, k),
+        StepKind::Serve => calls::serve_sound(s, k),
     }
 }
 
@@ -143,17 +143,17 @@ fn step(s: Store) -> Outcome
     ensures { λ r. ⌜ r ≡ settleStep s ⌝ }
 {
     let n = s.n;
-    let d = lowest(Turn::Deliver, s);
+    let d = lowest(StepKind::Deliver, s);
     if d < n {
-        return take_turn(Turn::Deliver, s, LaneNo(d));
+        return take_step(StepKind::Deliver, s, LaneNo(d));
     }
-    let r = lowest(Turn::Return, s);
+    let r = lowest(StepKind::Return, s);
     if r < n {
-        return take_turn(Turn::Return, s, LaneNo(r));
+        return take_step(StepKind::Return, s, LaneNo(r));
     }
-    let u = lowest(Turn::Serve, s);
+    let u = lowest(StepKind::Serve, s);
     if u < n {
-        return take_turn(Turn::Serve, s, LaneNo(u));
+        return take_step(StepKind::Serve, s, LaneNo(u));
     }
     calls::refused(Refusal::Unexpected, s)
 }
