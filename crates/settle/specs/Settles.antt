@@ -1,9 +1,9 @@
 -- How settle's code gives what 01 says of it, and what its parts compute. Assumes nothing.
-use Prim.Native.Nat.{ℕ, _+_, _≤_}
+use Prim.Native.Nat.{ℕ, _+_, _-_, _≤_}
 use mathlib.Core.Bool.{Bool}
-use mathlib.Core.List.{List}
+use mathlib.Core.List.{List, _++_}
 use lib.Dec.{ltb}
-use lib.ListN.{take, set, replicate}
+use lib.ListN.{length, set, replicate}
 use Rattle.words.specs.declared.LaneNo.{LaneNo}
 use Rattle.lanes.specs.declared.Lane.{Lane}
 use Rattle.lanes.specs.Waits.{unservedOf}
@@ -23,20 +23,20 @@ use Rattle.machine.specs.Deliver.{deliverOf}
 use Rattle.machine.specs.Settle.{Settlement}
 use Rattle.settle.specs.declared.Completions.{Completions}
 use Rattle.settle.specs.declared.SettleOutcome.{SettleOutcome}
-use Rattle.settle.specs.declared.Turn.{Turn}
-use Rattle.settle.specs.declared.Turn.the-variants.{Deliver, Return, Serve}
+use Rattle.settle.specs.declared.StepKind.{StepKind}
+use Rattle.settle.specs.declared.StepKind.the-variants.{Deliver, Return, Serve}
 
--- the completions in order
-abbrev pub listOf : Completions → List Completion
-listOf d = take (d .len) (d .at)
+-- the 8 places of the completions: the completions in order, then that of lane 0 with value 0 in each place that is not used
+abbrev pub padded : List Completion → List Completion
+padded cs = cs ++ replicate (8 - length cs) (completionOf (record { 0 = 0 }) 0)
 
--- no completion so far
-unfoldable pub noCompletions : Completions
-noCompletions = record { len = 0; at = replicate 8 (completionOf (record { 0 = 0 }) 0) }
+-- the completions in order, counted and in their places
+abbrev pub arrayOf : List Completion → Completions
+arrayOf cs = record { len = length cs; at = padded cs }
 
--- what a settle gives, the completions as a list
-abbrev pub settlementOf : SettleOutcome → Settlement
-settlementOf r = record { answer = r .answer; completions = listOf (r .completions); store = r .store }
+-- what a settle gives, the completions in an array
+abbrev pub outcomeOf : Settlement → SettleOutcome
+outcomeOf r = record { answer = r .answer; completions = arrayOf (r .completions); store = r .store }
 
 -- a step count is at most the bound; a refusal has none
 abbrev pub CountWithin : ℕ → Settled → Type 0
@@ -44,16 +44,16 @@ CountWithin most (Steps count) = count ≤ most
 CountWithin most (Settled.Refused r) = Unit {0}
 
 -- whether a lane has something for the step: a filled down queue, a filled return queue, an unserved operation
-abbrev pub dueOf : Turn → Lane → Bool
-dueOf Deliver l = ltb 0 (l .downs .len)
-dueOf Return l = ltb 0 (l .returns .len)
-dueOf Serve l = unservedOf (l .waiting)
+abbrev pub enabledOf : StepKind → Lane → Bool
+enabledOf Deliver l = ltb 0 (l .downs .len)
+enabledOf Return l = ltb 0 (l .returns .len)
+enabledOf Serve l = unservedOf (l .waiting)
 
 -- the step on lane k
-abbrev pub turnOf : Turn → Store → LaneNo → Outcome
-turnOf Deliver s k = deliverOf s k
-turnOf Return s k = returnOf s k
-turnOf Serve s k = serveOf s k
+abbrev pub stepOf : StepKind → Store → LaneNo → Outcome
+stepOf Deliver s k = deliverOf s k
+stepOf Return s k = returnOf s k
+stepOf Serve s k = serveOf s k
 
 -- the completion of an answer, if it has one, behind the others
 abbrev pub listedOf : Completions → Answer → Completions

@@ -1,14 +1,15 @@
-// Settle: 01's steps again and again until the store is quiet, as one call; each call ends.
+// Settle: 01's steps again and again until the store is quiet, as one call.
 // settle is open to others and has no requires.
 ghost use mathlib.Core.Path.{_≡_};
 ghost use mathlib.Core.Bool.{false};
+ghost use mathlib.Core.List.{[]};
 ghost use Prim.Native.Nat.{_+_, _≤_};
 ghost use lib.ListN.{length};
 ghost use Rattle.words.specs.Folds.{lowestTo};
 ghost use Rattle.store.specs.Quiet.{laneAt};
 ghost use Rattle.machine.specs.Corruption.{corruptOf};
 ghost use Rattle.machine.specs.Settle.{settleStep, settleOf, boundOf, doneIn, refuseSettle};
-ghost use Rattle.settle.specs.Settles.{noCompletions, settlementOf, CountWithin, dueOf, turnOf, listedOf, refusalOf};
+ghost use Rattle.settle.specs.Settles.{arrayOf, outcomeOf, CountWithin, enabledOf, stepOf, listedOf, refusalOf};
 use answers::Answer;
 use answers::Completion;
 use answers::Refusal;
@@ -18,8 +19,8 @@ use store::Outcome;
 use store::Store;
 use words::LaneNo;
 
-// The completions of a settle in order: those before len. An operation that completes waits no more and settle begins none, so there
-// are at most as many as lanes.
+// The completions of a settle in order: those before len; the places from len on are not used. An operation that completes waits no
+// more and settle begins none, so there are at most as many as lanes.
 pub struct Completions {
     pub len: u8,
     pub at: [Completion; 8],
@@ -32,8 +33,8 @@ pub struct SettleOutcome {
     pub store: Store,
 }
 
-// The three steps that settle repeats, in the order in which they have their turn.
-enum Turn {
+// The three steps that settle repeats, in the order in which it tries them.
+enum StepKind {
     Deliver,
     Return,
     Serve,
@@ -41,7 +42,7 @@ enum Turn {
 
 // No completion so far.
 fn none() -> Completions
-    ensures { λ r. ⌜ r ≡ noCompletions ⌝ }
+    ensures { λ r. ⌜ r ≡ arrayOf [] ⌝ }
 {
     let x = answers::completed(LaneNo(0), 0);
     Completions { len: 0, at: [x; 8] }
@@ -67,7 +68,7 @@ fn list(d: Completions, a: Answer) -> Completions
     }
 }
 
-// Why an answer is a refusal; of another answer it is not asked.
+// Why an answer is a refusal; for an answer that is no refusal the value is not used.
 fn refusal(a: Answer) -> Refusal
     ensures { λ r. ⌜ r ≡ refusalOf a ⌝ }
 {
@@ -82,7 +83,7 @@ fn refusal(a: Answer) -> Refusal
 
 // A refused settle gives its number alone; the store is the one before the call.
 fn refuse(r: Refusal, s: Store) -> SettleOutcome
-    ensures { λ o. ⌜ (settlementOf o ≡ refuseSettle r s) × CountWithin (boundOf s) (o .answer) ⌝ }
+    ensures { λ o. ⌜ (o ≡ outcomeOf (refuseSettle r s)) × CountWithin (boundOf s) (o .answer) ⌝ }
 {
     let d = none();
     SettleOutcome {
@@ -93,13 +94,13 @@ fn refuse(r: Refusal, s: Store) -> SettleOutcome
 }
 
 // Whether a lane has something for the step.
-fn due(x: Turn, l: Lane) -> bool
-    ensures { λ r. ⌜ r ≡ dueOf x l ⌝ }
+fn enabled(x: StepKind, l: Lane) -> bool
+    ensures { λ r. ⌜ r ≡ enabledOf x l ⌝ }
 {
     match x {
-        Turn::Deliver => 0 < l.downs.len,
-        Turn::Return => 0 < l.returns.len,
-        Turn::Serve => {
+        StepKind::Deliver => 0 < l.downs.len,
+        StepKind::Return => 0 < l.returns.len,
+        StepKind::Serve => {
             let w = l.waiting;
             w.unserved()
         }
@@ -107,16 +108,16 @@ fn due(x: Turn, l: Lane) -> bool
 }
 
 // The lowest lane that has something for the step, or n.
-fn lowest(x: Turn, s: Store) -> u8
+fn lowest(x: StepKind, s: Store) -> u8
     requires { ⌜ s .n ≤ 8 ⌝ }
-    ensures { λ r. ⌜ r ≡ lowestTo (λ k. dueOf x (laneAt s k)) (s .n) ⌝ }
+    ensures { λ r. ⌜ r ≡ lowestTo (λ k. enabledOf x (laneAt s k)) (s .n) ⌝ }
 {
     let n = s.n;
     let mut k: u8 = 0;
     while k < n {
         let i = k as usize;
         let l = s.lanes[i];
-        if due(x, l) {
+        if enabled(x, l) {
             return k;
         }
         k += 1;
@@ -125,14 +126,14 @@ fn lowest(x: Turn, s: Store) -> u8
 }
 
 // The step on lane k.
-fn take_turn(x: Turn, s: Store, k: LaneNo) -> Outcome
+fn take_step(x: StepKind, s: Store, k: LaneNo) -> Outcome
     requires { ⌜ corruptOf s ≡ false ⌝ }
-    ensures { λ r. ⌜ r ≡ turnOf x s k ⌝ }
+    ensures { λ r. ⌜ r ≡ stepOf x s k ⌝ }
 {
     match x {
-        Turn::Deliver => steps::deliver_sound(s, k),
-        Turn::Return => steps::return_sound(s, k),
-        Turn::Serve => steps::serve_sound(s, k),
+        StepKind::Deliver => steps::deliver_sound(s, k),
+        StepKind::Return => steps::return_sound(s, k),
+        StepKind::Serve => steps::serve_sound(s, k),
     }
 }
 
@@ -142,17 +143,17 @@ fn step(s: Store) -> Outcome
     ensures { λ r. ⌜ r ≡ settleStep s ⌝ }
 {
     let n = s.n;
-    let d = lowest(Turn::Deliver, s);
+    let d = lowest(StepKind::Deliver, s);
     if d < n {
-        return take_turn(Turn::Deliver, s, LaneNo(d));
+        return take_step(StepKind::Deliver, s, LaneNo(d));
     }
-    let r = lowest(Turn::Return, s);
+    let r = lowest(StepKind::Return, s);
     if r < n {
-        return take_turn(Turn::Return, s, LaneNo(r));
+        return take_step(StepKind::Return, s, LaneNo(r));
     }
-    let u = lowest(Turn::Serve, s);
+    let u = lowest(StepKind::Serve, s);
     if u < n {
-        return take_turn(Turn::Serve, s, LaneNo(u));
+        return take_step(StepKind::Serve, s, LaneNo(u));
     }
     steps::refused(Refusal::Unexpected, s)
 }
@@ -160,7 +161,7 @@ fn step(s: Store) -> Outcome
 // Settle of a store that is not corrupt.
 fn settle_sound(first: Store) -> SettleOutcome
     requires { ⌜ corruptOf first ≡ false ⌝ }
-    ensures { λ r. ⌜ (settlementOf r ≡ settleOf first) × CountWithin (boundOf first) (r .answer) ⌝ }
+    ensures { λ r. ⌜ (r ≡ outcomeOf (settleOf first)) × CountWithin (boundOf first) (r .answer) ⌝ }
 {
     let mut s = first;
     let mut done = none();
@@ -185,10 +186,10 @@ fn settle_sound(first: Store) -> SettleOutcome
     }
 }
 
-// Settle: the step count, at most the bound of the store before it, and the completions in order; or the number of the step that
-// was refused.
+// Settle: the step count, at most the bound of the store before it, and the completions in order; or why it was refused: 14, or the
+// number of the step that was.
 pub fn settle(s: Store) -> SettleOutcome
-    ensures { λ r. ⌜ (settlementOf r ≡ settleOf s) × CountWithin (boundOf s) (r .answer) ⌝ }
+    ensures { λ r. ⌜ (r ≡ outcomeOf (settleOf s)) × CountWithin (boundOf s) (r .answer) ⌝ }
 {
     if checks::corrupt(s) {
         return refuse(Refusal::Corrupt, s);

@@ -5,13 +5,13 @@ use native.Mathlib.Omega.{arith}
 use mathlib.Core.Path.{_≡_, sym, _∙_}
 use Rattle.words.specs.Folds.{lowestTo}
 use Rattle.store.specs.Quiet.{laneAt}
-use Rattle.settle.specs.Settles.{dueOf}
+use Rattle.settle.specs.Settles.{enabledOf}
 use Rattle.settle.proofs.Searches.{lowest-none, lowest-more, lowest-at}
 use Rattle.settle.proofs.lowest.Statement.{statement}
 use Rattle.settle.proofs.lowest.Tie as tie
 
 abbrev Inv-loop : tie.InvT-loop
-Inv-loop x s n k₀ k = (k ≤ n) × (lowestTo (λ i. dueOf x (laneAt s i)) k ≡ k)
+Inv-loop x s n k₀ k = (k ≤ n) × (lowestTo (λ i. enabledOf x (laneAt s i)) k ≡ k)
 
 abbrev μ-loop : tie.MeasureT-loop
 μ-loop x s n k₀ k = n - k
@@ -28,11 +28,11 @@ mul-l c = search needs
 element-copy-out-l : tie.Need-element-copy-out-l Inv-loop μ-loop
 element-copy-out-l c = search needs
 
-due-requires : tie.Need-due-requires Inv-loop μ-loop
-due-requires c κs = search needs
+enabled-requires : tie.Need-enabled-requires Inv-loop μ-loop
+enabled-requires c κs = search needs
 
 returns : tie.Need-returns Inv-loop μ-loop
-returns c = sym (lowest-at _ _ (c .before .before .before .before .loop .k) (c .before .before .before .before .loop .inv .1) (sym (c .before .due .ensures) ∙ c .if1 .taken) (omega arith))
+returns c = sym (lowest-at _ _ (c .before .before .before .before .loop .k) (c .before .before .before .before .loop .inv .1) (sym (c .before .enabled .ensures) ∙ c .if1 .taken) (omega arith))
 
 add-k : tie.Need-add-k Inv-loop μ-loop
 add-k c = search needs
@@ -41,7 +41,7 @@ loop-less : tie.Need-loop-less Inv-loop μ-loop
 loop-less c = search needs
 
 loop-again : tie.Need-loop-again Inv-loop μ-loop
-loop-again c = (omega arith, lowest-more _ _ (c .before .before .before .before .loop .inv .1) (sym (c .before .due .ensures) ∙ c .if1 .left))
+loop-again c = (omega arith, lowest-more _ _ (c .before .before .before .before .loop .inv .1) (sym (c .before .enabled .ensures) ∙ c .if1 .left))
 
 returns-2 : tie.Need-returns-2 Inv-loop μ-loop
 returns-2 c = let e : c .before .loop .k ≡ c .before .before .args .t2 .n = omega arith in sym (rw e at (c .before .loop .inv .1))
@@ -56,7 +56,7 @@ lowest-spec =
     cast-i
     mul-l
     element-copy-out-l
-    due-requires
+    enabled-requires
     returns
     add-k
     loop-less

@@ -1,5 +1,4 @@
 -- `settle::none` meets its contract. Assumes nothing.
-use Rattle.settle.specs.Settles.{noCompletions}
 use borrow.Author.Needs.{needs}
 use Rattle.settle.proofs.none.Statement.{statement}
 use Rattle.settle.proofs.none.Tie as tie
@@ -8,8 +7,7 @@ completed-requires : tie.Need-completed-requires
 completed-requires c κs = search needs
 
 returns : tie.Need-returns
-unfolding noCompletions
-returns c = rw (noCompletions, c .completed .ensures)
+returns c = rw (c .completed .ensures)
 
 pub none-spec : {M : Type 1} → statement M
 none-spec = tie.close (tie.spec completed-requires returns)

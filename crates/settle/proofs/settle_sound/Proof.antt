@@ -41,7 +41,7 @@ refuse-requires c κs = search needs
 
 returns : tie.Need-returns Inv-loop μ-loop
 returns c = let g = going-refused _ _ _ _ (c .before .before .before .before .before .before .before .loop .inv) (sym (c .before .before .before .before .before .before .quiet .ensures) ∙ not-true (c .before .before .before .before .before .before .quiet .result) (c .before .before .before .before .before .if1 .taken)) (ap (λ (x : Outcome). refusedOf (x .answer)) (sym (c .before .before .before .before .step .ensures)) ∙ (sym (c .before .before .before .refused .ensures) ∙ c .before .before .if2 .taken)) in
-    (c .refuse .ensures .0 ∙ rw (c .before .refusal .ensures, c .before .before .before .before .step .ensures) g, c .refuse .ensures .1)
+    (c .refuse .ensures .0 ∙ rw (c .before .refusal .ensures, c .before .before .before .before .step .ensures, g), c .refuse .ensures .1)
 
 list-requires : tie.Need-list-requires Inv-loop μ-loop
 list-requires c κs = rw (c .before .before .step .ensures) (going-fits _ _ _ _ (c .before .before .before .before .before .loop .inv) (ap (λ (x : Outcome). refusedOf (x .answer)) (sym (c .before .before .step .ensures)) ∙ (sym (c .before .refused .ensures) ∙ c .if2 .left)))

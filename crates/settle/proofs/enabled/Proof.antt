@@ -1,7 +1,7 @@
--- `settle::due` meets its contract. Assumes nothing.
+-- `settle::enabled` meets its contract. Assumes nothing.
 use borrow.Author.Needs.{needs}
-use Rattle.settle.proofs.due.Statement.{statement}
-use Rattle.settle.proofs.due.Tie as tie
+use Rattle.settle.proofs.enabled.Statement.{statement}
+use Rattle.settle.proofs.enabled.Tie as tie
 
 enum-told : tie.Need-enum-told
 enum-told c = search needs
@@ -24,7 +24,7 @@ returns-2 c = simp (c .before .enum-told2 .given .1)
 returns-3 : tie.Need-returns-3
 returns-3 c = search needs
 
-pub due-spec : {M : Type 1} → statement M
-due-spec =
+pub enabled-spec : {M : Type 1} → statement M
+enabled-spec =
     tie.close
     (tie.spec enum-told enum-told-2 enum-told-3 unserved-requires returns returns-2 returns-3)

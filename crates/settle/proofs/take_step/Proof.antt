@@ -1,7 +1,7 @@
--- `settle::take_turn` meets its contract. Assumes nothing.
+-- `settle::take_step` meets its contract. Assumes nothing.
 use borrow.Author.Needs.{needs}
-use Rattle.settle.proofs.take_turn.Statement.{statement}
-use Rattle.settle.proofs.take_turn.Tie as tie
+use Rattle.settle.proofs.take_step.Statement.{statement}
+use Rattle.settle.proofs.take_step.Tie as tie
 
 enum-told : tie.Need-enum-told
 enum-told c = search needs
@@ -30,8 +30,8 @@ returns-2 c = rw (c .before .enum-told2 .given .1, c .return-sound .ensures)
 returns-3 : tie.Need-returns-3
 returns-3 c = rw (c .before .enum-told3 .given .1, c .serve-sound .ensures)
 
-pub take-turn-spec : {M : Type 1} → statement M
-take-turn-spec =
+pub take-step-spec : {M : Type 1} → statement M
+take-step-spec =
     tie.close
     (tie.spec
     enum-told
