@@ -94,7 +94,7 @@ module _ (first s : Store) (d : Completions) (count : ℕ) (g : Going first s d 
       let p = after count (g .completed) (g .answer) s in
       let e : ended p ≡ true = rw (g .passed, q) in
       let f : settleOf first ≡ record { answer = Steps count; completions = g .completed; store = s } =
-          g .same ∙ rw (repeat-ended (suc (boundOf first - count)) p e, passes (g .answer) first (reached first p) (g .passed), q) in
+      g .same ∙ rw (repeat-ended (suc (boundOf first - count)) p e, passes (g .answer) first (reached first p) (g .passed), q) in
       rw (f, g .listed)
 
   -- there is room for the completion of a step
