@@ -1,12 +1,11 @@
 -- The bounds that a call's parts ask for, from a store that is not corrupt. Assumes nothing.
 use Prim.Native.Nat.{ℕ, _<_, _≤_}
 use native.Mathlib.Omega.{arith}
-use mathlib.Core.Bool.{Bool, true, false, cond}
-use mathlib.Core.Path.{_≡_, refl, ap, sym, _∙_}
+use mathlib.Core.Bool.{false}
+use mathlib.Core.Path.{_≡_, refl}
 use lib.Dec.{ltb}
 use lib.ListN.{getD}
 use Rattle.words.specs.declared.LaneNo.{LaneNo}
-use Rattle.words.specs.declared.BlockNo.{BlockNo}
 use Rattle.words.specs.Units.{blockOf}
 use Rattle.words.proofs.Folds.{skip}
 use Rattle.queues.specs.Queues.{noReturn}
@@ -17,17 +16,15 @@ use Rattle.lanes.specs.declared.Waiting.the-variants.{Idle, Unserved, Served}
 use Rattle.lanes.specs.UseOrder.{placeAt}
 use Rattle.answers.specs.declared.Refusal.{Refusal}
 use Rattle.store.specs.declared.Store.{Store}
-use Rattle.store.specs.declared.Service.{Service}
 use Rattle.store.specs.declared.Control.{Control}
 use Rattle.store.specs.declared.Control.the-variants.{Free, Busy}
 use Rattle.store.specs.Control.{busyOf}
 use Rattle.store.specs.Quiet.{laneAt}
-use Rattle.machine.specs.declared.Ready.{Ready}
 use Rattle.machine.specs.declared.Ready.the-variants.{Go, No}
 use Rattle.machine.specs.Corruption.{corruptOf}
 use Rattle.machine.specs.Serve.{readyWith, readyOf}
 use Rattle.memory.specs.Bounds.{laneBelow}
-use Rattle.machine.proofs.Sound.{Sound, ControlSound, sound}
+use Rattle.machine.proofs.Sound.{ControlSound, sound}
 
 no-go : {r : Refusal} {o : Operation} → No r ≡ Go o → ⊥
 no-go e = let z : _≡_ {A = ℕ} 0 1 = cc in omega arith
