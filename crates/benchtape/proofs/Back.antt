@@ -1,10 +1,7 @@
 -- A line's number tells the line: what is printed is the text of the very line that the replay gave. Assumes nothing.
 use Prim.Native.Nat.{ℕ, _+_, _*_, _/_, _%_, _<_}
 use native.Mathlib.Omega.{arith}
-use mathlib.Core.Path.{_≡_, refl, ap, sym, _∙_}
-use borrow.Author.Tests.{eq-eqb, ne-eqb}
-use Rattle.words.specs.declared.LaneNo.{LaneNo}
-use Rattle.answers.specs.declared.Completion.{Completion}
+use mathlib.Core.Path.{_≡_, refl}
 use Rattle.answers.specs.declared.Answer.{Answer}
 use Rattle.answers.specs.declared.Answer.the-variants.{Opened, Done, Wait, Step, Refused}
 use Rattle.answers.specs.declared.Refusal.{Refusal}

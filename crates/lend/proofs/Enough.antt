@@ -1,15 +1,13 @@
 -- A list with a place for each byte of the tape is room enough: the replay into it is the replay of the whole tape. Assumes nothing.
-use Prim.Native.Nat.{ℕ, zero, suc, _+_, _-_, _<_, _≤_}
+use Prim.Native.Nat.{ℕ, zero, suc, _+_, _-_, _≤_}
 use native.Mathlib.Omega.{arith}
 use native.Mathlib.Decide.{ℕ-discrete}
-use mathlib.Core.Path.{_≡_, refl, sym, ap, _∙_}
-use mathlib.Core.List.{List, map, _++_}
-use borrow.Author.Tests.{ne-eqb}
+use mathlib.Core.Path.{_≡_, sym, ap, _∙_}
+use mathlib.Core.List.{List}
 use lib.ListN.{length, drop, length-drop, length-append, length-map}
 use Rattle.store.specs.declared.Store.{Store}
 use Rattle.store.specs.Opening.{freshOf}
 use Rattle.machine.specs.Tape.{field, bodyLength, recordOf, replayFrom, replayOf}
-use Rattle.tape.specs.Codes.{codeOf}
 use Rattle.lend.specs.declared.Replayed.{Replayed}
 use Rattle.lend.specs.Replays.{replayInto, IsReplay}
 use Rattle.lend.proofs.Going.{replay-end}

@@ -1,5 +1,5 @@
 -- The replay's loop: what holds at its test, and what a turn and an end make of it. Assumes nothing.
-use Prim.Native.Nat.{ℕ, zero, suc, _+_, _-_, _*_, _<_, _≤_}
+use Prim.Native.Nat.{ℕ, zero, suc, _+_, _-_, _<_, _≤_}
 use native.Mathlib.Nat.{add-zero}
 use native.Mathlib.Numerals.{add-one}
 use native.Mathlib.Omega.{arith}
@@ -17,10 +17,9 @@ use Rattle.answers.specs.declared.Refusal.the-variants.{Truncated, UnknownKind,
 use Rattle.store.specs.declared.Store.{Store}
 use Rattle.store.specs.declared.Outcome.{Outcome}
 use Rattle.store.specs.Opening.{freshOf}
-use Rattle.machine.specs.Tape.{Replay, field, bodyLength, recordOf, endsTape, replayFrom}
+use Rattle.machine.specs.Tape.{field, bodyLength, recordOf, endsTape, replayFrom}
 use Rattle.tape.specs.declared.Coded.{Coded}
 use Rattle.tape.specs.Codes.{codeOf, codedOf}
-use Rattle.lend.specs.declared.Replayed.{Replayed}
 use Rattle.lend.specs.Replays.{replayInto, IsReplay, endsCode}
 use Rattle.lend.proofs.Steady.{Tapes, blank-tapes, record-after}
 

@@ -1,22 +1,18 @@
 -- A record leaves a store that a tape can have such a store, so that the check of 14 is never wanted on a tape. Assumes nothing.
-use Prim.Native.Nat.{ℕ, _-_, _<_}
+use Prim.Native.Nat.{ℕ, _-_}
 use native.Mathlib.Omega.{arith}
-use mathlib.Core.Logic.{_⊎_, inl, inr}
+use mathlib.Core.Logic.{inl, inr}
 use mathlib.Core.Bool.{Bool, true, false, not, cond, true≢false}
 use mathlib.Core.Path.{_≡_, refl, sym, ap, _∙_}
 use mathlib.Core.List.{List}
-use borrow.Author.Tests.{eqb-false, not-true, eq-eqb}
+use borrow.Author.Tests.{eq-eqb}
 use lib.Dec.{eqb, ltb}
 use lib.ListN.{length, drop}
-use Rattle.answers.specs.declared.Refusal.{Refusal}
-use Rattle.answers.specs.declared.Refusal.the-variants.{Truncated, UnknownKind, NotOpen, AlreadyOpen, InvalidShape}
-use Rattle.answers.specs.declared.Answer.the-variants.{Opened}
 use Rattle.store.specs.declared.Store.{Store}
 use Rattle.store.specs.declared.Outcome.{Outcome}
 use Rattle.store.specs.Opening.{badShape, freshOf}
-use Rattle.machine.specs.Change.{refuse}
 use Rattle.machine.specs.Corruption.{corruptOf}
-use Rattle.machine.specs.Tape.{field, bodyLength, isOpen, callRecord, openRecord, wholeRecord, recordOf}
+use Rattle.machine.specs.Tape.{field, bodyLength, isOpen, callRecord, openRecord, recordOf}
 use Rattle.machine.proofs.Keeps.{Whole, open-keeps, open-whole}
 use Rattle.machine.proofs.KeepsRepeat.{call-keeps, call-whole}
 use Rattle.tape.specs.Codes.{Steady}

@@ -1,4 +1,5 @@
-// One store serves a whole tape: it is lent from record to record and changed there.
+// One store serves a whole tape: it is lent from record to record and changed there. replay is open to others; apply and lend_store,
+// which ask for a store that a tape can have, are for it.
 ghost use mathlib.Core.Path.{_≡_};
 ghost use Prim.Native.Nat.{_+_};
 ghost use Rattle.machine.specs.Tape.{recordOf, bodyLength};
@@ -57,8 +58,8 @@ pub struct Replayed {
     pub store: Store,
 }
 
-// A whole tape: one store, lent from record to record; a number for each line goes into the lent list. The last record's bytes are
-// passed over, and its end of the tape is seen, at the next turn: docs/PERFORMANCE.md says why.
+// A whole tape: one store, lent from record to record; a number for each line goes into the lent list. A record's bytes are passed over
+// at the next turn, and refusals 1 and 2 end the loop by its test: docs/PERFORMANCE.md says why.
 pub fn replay(tape: &[u8], lines: &mut [u64]) -> Replayed
     ensures { λ r. ⌜ IsReplay (now (tape .entry)) (now (lines .entry)) (now (lines .exit)) r ⌝ }
 {

@@ -23,7 +23,7 @@ use Rattle.machine.proofs.KeepsLane.{clash}
 use Rattle.machine.proofs.KeepsRepeat.{settle-step-keeps}
 use Rattle.machine.specs.Sized.{Sized}
 use Rattle.machine.proofs.SizedKeeps.{settle-step-sized, sized-whole}
-use Rattle.machine.proofs.Falls.{waitingIn, waiting-most, settle-falls, settle-completes}
+use Rattle.machine.proofs.Falls.{waitingIn, settle-falls, settle-completes}
 
 -- where settle starts
 abbrev pub startAt : Store → Progress
@@ -170,22 +170,3 @@ settle-count s g =
     let a = repeat-onward (suc (boundOf s)) (startAt s) c g h .within in
     let b : _≡_ {A = ℕ} (lastOf s .count) count = cc in
     omega arith)
-
--- the completions that settle lists are at most the operations that wait
-pub settle-listed : (s : Store) → Sized s → length (settleOf s .completions) ≤ waitingIn s
-settle-listed s g =
-    settle-rule (λ (r : Settlement). length (r .completions) ≤ waitingIn s) s (λ r. omega arith)
-    (λ c h _. let a = repeat-onward (suc (boundOf s)) (startAt s) c g h .listed in omega arith)
-
--- .. so at most 8
-pub settle-listed-most : (s : Store) → Sized s → corruptOf s ≡ false → length (settleOf s .completions) ≤ 8
-settle-listed-most s g e = let a = settle-listed s g in let b = waiting-most s e in omega arith
-
--- settle, refused or not, keeps the lengths of a store, and that it is not corrupt
-pub settle-sized : (s : Store) → Sized s → Sized (settleOf s .store)
-settle-sized s g =
-    settle-rule (λ (r : Settlement). Sized (r .store)) s (λ r. g) (λ c h _. repeat-onward (suc (boundOf s)) (startAt s) c g h .sized)
-
-pub settle-keeps : (s : Store) → corruptOf s ≡ false → Sized s → corruptOf (settleOf s .store) ≡ false
-settle-keeps s e g =
-    settle-rule (λ (r : Settlement). corruptOf (r .store) ≡ false) s (λ r. e) (λ c h _. repeat-onward (suc (boundOf s)) (startAt s) c g h .not-corrupt)

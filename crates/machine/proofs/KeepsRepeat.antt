@@ -19,13 +19,6 @@ settle-step-keeps s e h =
     (by-cond (λ (r : Outcome). corruptOf (r .store) ≡ false) (ltb _ (s .n)) _ _ (return-keeps s _ e)
     (by-cond (λ (r : Outcome). corruptOf (r .store) ≡ false) (ltb _ (s .n)) _ _ (serve-keeps s _ e) e))
 
-pub settle-step-whole : (s : Store) → Whole s → Whole (settleStep s .store)
-unfolding settleStep
-settle-step-whole s h =
-    by-cond (λ (r : Outcome). Whole (r .store)) (ltb _ (s .n)) _ _ (deliver-whole s _ h)
-    (by-cond (λ (r : Outcome). Whole (r .store)) (ltb _ (s .n)) _ _ (return-whole s _ h)
-    (by-cond (λ (r : Outcome). Whole (r .store)) (ltb _ (s .n)) _ _ (serve-whole s _ h) h))
-
 pub call-keeps : (s : Store) (kind : ℕ) (body : List ℕ) → corruptOf s ≡ false → Whole s → corruptOf (callRecord s kind body .store) ≡ false
 unfolding callRecord
 call-keeps s kind body e h =

@@ -371,11 +371,3 @@ begin-case c k op w l z b u h t = rw t (go (searchOf l c (blockOf w)) refl)
     go : (f : Found) → searchOf l c (blockOf w) ≡ f → BeginCase c k op w l (beginAt f c k op w l)
     go (At i) e = at-case c k op w l z b u idle i e
     go Nothing e = miss-case c k op w l z b u idle e h (vacantOf l c) refl
-
--- the valid lines still have different blocks, whatever the case
-pub begin-unique : (c : ℕ) (k : LaneNo) (op : Op) (w : WordNo) (l : Lane) (r : LaneStep) → Unique c l → BeginCase c k op w l r → Unique c (r .lane)
-begin-unique c k op w l r u (Hits h) = h .unique
-begin-unique c k op w l r u (Excludes h) = h .wait .unique
-begin-unique c k op w l r u (Reads h) = h .wait .unique
-begin-unique c k op w l r u (Evicts h) = h .wait .unique
-begin-unique c k op w l r u (Refuses h) = rw (h .same) u

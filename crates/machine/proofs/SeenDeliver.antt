@@ -364,11 +364,3 @@ unfolding deliverLane
 deliver-case c k l z b u h =
     pick (DeliverCase c k l) (emptyAt (l .downs .len)) (refuseLane NothingPending l) _ (λ t. Refuses (record { reason = NothingPending; answer = refl; same = refl }))
     (λ t. kind-case c k l z b u (eqb-false (l .downs .len) 0 t) h (headDown (l .downs) .kind) refl)
-
--- the valid lines still have different blocks, whatever the case
-pub deliver-unique : (c : ℕ) (k : LaneNo) (l : Lane) (r : LaneStep) → Unique c l → DeliverCase c k l r → Unique c (r .lane)
-deliver-unique c k l r u (Updates h) = h .taken .unique
-deliver-unique c k l r u (Purges h) = h .taken .unique
-deliver-unique c k l r u (Grants e h) = h .taken .unique
-deliver-unique c k l r u (BareGrants e h) = h .taken .unique
-deliver-unique c k l r u (Refuses h) = rw (h .same) u

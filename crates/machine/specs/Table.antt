@@ -155,5 +155,7 @@ rows =
     record { given = Lines (replayOf wholeTape .lines); wanted = Lines wholeLines } ∷
     record { given = Bytes (printed wholeTape); wanted = Bytes wholeText } ∷
     record { given = Word (applyOf (Op.Add 1) 4294967295 .word); wanted = Word 0 } ∷
+    record { given = Word (applyOf (Op.Exchange 9) 7 .word); wanted = Word 9 } ∷
+    record { given = Word (applyOf (Op.Exchange 9) 7 .value); wanted = Word 7 } ∷
     record { given = settles twoStores; wanted = Settles (Steps 6) (of 0 7 ∷ of 1 9 ∷ []) } ∷
     []

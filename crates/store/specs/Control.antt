@@ -1,5 +1,5 @@
 -- 01, "Parts of a store": the control has at most one service. Assumes nothing.
-use Prim.Native.Nat.{ℕ, _-_}
+use Prim.Native.Nat.{_-_}
 use mathlib.Core.Bool.{Bool, true, false, cond}
 use lib.Dec.{eqb}
 use Rattle.words.specs.declared.BlockNo.{BlockNo}

@@ -4,7 +4,7 @@ use native.Mathlib.Omega.{arith}
 use native.Mathlib.Decide.{ℕ-discrete}
 use mathlib.Core.Logic.{_⊎_, inl, inr}
 use mathlib.Core.Bool.{false, cond}
-use mathlib.Core.Path.{_≡_, refl, sym, _∙_}
+use mathlib.Core.Path.{_≡_, refl, _∙_}
 use mathlib.Core.List.{List, [], _∷_}
 use borrow.Author.Tests.{lt-ltb, le-ltb, le-leb, lt-leb, eq-eqb, ne-eqb}
 use lib.Dec.{ltb, eqb}
@@ -16,9 +16,8 @@ use Rattle.store.specs.declared.Store.{Store}
 use Rattle.machine.specs.Change.{refuse}
 use Rattle.machine.specs.Corruption.{corruptOf}
 use Rattle.tape.specs.declared.Action.the-variants.{Begin}
-use Rattle.machine.specs.Tape.{field, bodyLength, callRecord, recordOf}
-use Rattle.tape.specs.declared.Form.{Form}
-use Rattle.tape.specs.Codes.{actionOf, formOf, leastOf, Steady}
+use Rattle.machine.specs.Tape.{field, callRecord, recordOf}
+use Rattle.tape.specs.Codes.{formOf, leastOf, Steady}
 use Rattle.tape.specs.Steps.{stepOf}
 
 -- the part of a slice from a place on is the rest of the list
@@ -27,10 +26,6 @@ rest-is n l = take-all (length l - n) (drop n l) (simp length-drop (omega arith)
 
 pub rest-length : (n : ℕ) (l : List ℕ) → length (take (length l - n) (drop n l)) ≡ length l - n
 rest-length n l = rw (rest-is n l) (length-drop n l)
-
--- a kind that is none of the named ones
-pub past-seven : (k : ℕ) → 4 < k → (k ≡ 5 → ⊥) → (k ≡ 6 → ⊥) → (k ≡ 7 → ⊥) → 7 < k
-past-seven k l n5 n6 n7 = omega (arith, n5, n6, n7)
 
 -- a store that a tape can have and that is open is not corrupt
 pub steady-open : (s : Store) → Steady s → (s .n ≡ 0 → ⊥) → corruptOf s ≡ false
