@@ -6,11 +6,11 @@ use reference::parts::*;
 
 const LOAD: Call = Call::Begin { lane: 0, op: Op::Load, word: 0 };
 
-/// The call is refused with the number, and the store is as before.
+/// The call is refused with the number, and the bytes of the store are as
+/// before.
 fn refused(s: &Store, call: Call, number: u8) {
     let given = held::run(s, HeldCall::Machine(call));
     assert_eq!(given.answer, HeldAnswer::Refused(number), "{call:?}");
-    assert!(given.store == *s);
     let mut want = vec![4, number, 0, 0, 0, 0, 0, 0];
     want.extend(held::encode_store(s));
     assert_eq!(given.bytes(), want);
