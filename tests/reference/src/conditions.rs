@@ -1,6 +1,6 @@
 //! Every refusal condition that holds for a store and a call, each taken on
-//! its own. Written apart from the steps: the first in the law's order must
-//! be the number that the call gives.
+//! its own. Written apart from the steps: the first in document 01's order
+//! must be the number that the call gives.
 
 use crate::held::{HeldCall, SETTLE_KIND};
 use crate::machine;

@@ -10,14 +10,15 @@ use crate::walk::{self, Style};
 #[derive(Clone, Copy, PartialEq, Eq, Debug)]
 pub enum Role {
     Empty,
-    Law,
-    /// Exactly so many bytes, the last record whole or cut.
+    /// Document 01's own.
+    Sample,
+    /// Exactly so many bytes, the last record whole or truncated.
     Sized {
         bytes: usize,
-        cut: bool,
+        truncated: bool,
     },
     /// Ends in a record of the kind with only so much of its body.
-    Cut {
+    Truncated {
         kind: u8,
         kept: usize,
         opened: bool,
@@ -33,7 +34,7 @@ pub enum Role {
     /// Many records and refused opens before the open.
     NotOpen,
     /// Random small bytes.
-    Soup,
+    RandomBytes,
     /// Eight lanes share a few blocks.
     Sharing,
     General,
@@ -44,15 +45,15 @@ pub const CYCLE: usize = 300;
 
 /// The roles of one cycle that are not General; the rest are.
 fn special_roles() -> Vec<Role> {
-    let mut roles = vec![Role::Empty, Role::Law];
+    let mut roles = vec![Role::Empty, Role::Sample];
     for bytes in [LONGEST - 1, LONGEST, LONGEST + 1] {
-        roles.extend([false, true].map(|cut| Role::Sized { bytes, cut }));
+        roles.extend([false, true].map(|truncated| Role::Sized { bytes, truncated }));
     }
-    roles.push(Role::Sized { bytes: 100_000, cut: false });
+    roles.push(Role::Sized { bytes: 100_000, truncated: false });
     for opened in [true, false] {
         for kind in 0..=7 {
             let lengths = 0..body_length(kind).expect("known kind");
-            roles.extend(lengths.map(|kept| Role::Cut { kind, kept, opened }));
+            roles.extend(lengths.map(|kept| Role::Truncated { kind, kept, opened }));
         }
     }
     for kind in [0x08, 0x09, 0x0f, 0x10, 0x11, 0x80, 0xff] {
@@ -62,7 +63,7 @@ fn special_roles() -> Vec<Role> {
     }
     roles.extend([Role::Damaged; 24]);
     roles.extend([Role::NotOpen; 8]);
-    roles.extend([Role::Soup; 8]);
+    roles.extend([Role::RandomBytes; 8]);
     roles.extend([Role::Sharing; 8]);
     roles
 }
@@ -76,20 +77,24 @@ fn role(index: usize) -> (Role, usize) {
 }
 
 pub fn make(seed: u64, index: usize) -> Vec<u8> {
-    let mut rng = Rng::stream(seed, index as u64);
+    let rng = Rng::stream(seed, index as u64);
     let (role, rank) = role(index);
     match role {
         Role::Empty => Vec::new(),
-        Role::Law => tape::LAW_TAPE.to_vec(),
-        Role::Sized { bytes, cut } => sized(rng, bytes, cut),
-        Role::Cut { kind, kept, opened } => cut(rng, kind, kept, opened),
+        Role::Sample => tape::SAMPLE_TAPE.to_vec(),
+        Role::Sized { bytes, truncated } => sized(rng, bytes, truncated),
+        Role::Truncated { kind, kept, opened } => truncated(rng, kind, kept, opened),
         Role::Unknown { kind, followed, opened } => unknown(rng, kind, followed, opened),
         Role::Damaged => damaged(rng),
         Role::NotOpen => not_open(rng),
-        Role::Soup => (0..rng.between(2_000, 8_000)).map(|_| rng.byte_below(8)).collect(),
+        Role::RandomBytes => random_bytes(rng),
         Role::Sharing => sharing(rng),
         Role::General => general(rng, rank),
     }
+}
+
+fn random_bytes(mut rng: Rng) -> Vec<u8> {
+    (0..rng.between(2_000, 8_000)).map(|_| rng.byte_below(8)).collect()
 }
 
 type Shape = (u8, u8, u8);
@@ -272,11 +277,11 @@ fn sharing(mut rng: Rng) -> Vec<u8> {
     tape.bytes
 }
 
-fn sized(mut rng: Rng, bytes: usize, cut: bool) -> Vec<u8> {
+fn sized(mut rng: Rng, bytes: usize, truncated: bool) -> Vec<u8> {
     let shape = small_shape(&mut rng);
     let mut tape = Builder::new(rng);
     tape.start(shape);
-    if !cut {
+    if !truncated {
         tape.fill_to(bytes);
         return tape.bytes;
     }
@@ -288,7 +293,7 @@ fn sized(mut rng: Rng, bytes: usize, cut: bool) -> Vec<u8> {
     tape.bytes
 }
 
-/// An opened tape of some length, or a shut one of a few records.
+/// An opened tape of some length, or a few records that open nothing.
 fn beginning(mut rng: Rng, opened: bool) -> Builder {
     let (shape, records) = (small_shape(&mut rng), rng.between(200, 1_200));
     let mut tape = Builder::new(rng);
@@ -302,7 +307,7 @@ fn beginning(mut rng: Rng, opened: bool) -> Builder {
     tape
 }
 
-fn cut(rng: Rng, kind: u8, kept: usize, opened: bool) -> Vec<u8> {
+fn truncated(rng: Rng, kind: u8, kept: usize, opened: bool) -> Vec<u8> {
     let mut tape = beginning(rng, opened);
     tape.bytes.push(kind);
     for _ in 0..kept {
