@@ -1,6 +1,6 @@
 //! Every refusal condition that holds for a store and a call, each taken on
-//! its own. Written apart from the steps: the first in the law's order must
-//! be the number that the call gives.
+//! its own. Written apart from the steps: the first in document 01's order
+//! must be the number that the call gives.
 
 use crate::held::{HeldCall, SETTLE_KIND};
 use crate::machine;
@@ -250,25 +250,31 @@ pub const REASONS: [&str; 21] = [
 /// The reasons for which the store is corrupt; none if it is not.
 pub fn corrupt_reasons(s: &Store) -> Vec<&'static str> {
     let outside = [s.n < 2, s.n > 8, s.c < 1, s.c > 8, s.m < 1, s.m > 64];
-    let mut found: Vec<&str> = (0..6).filter(|&i| outside[i]).map(|i| REASONS[i]).collect();
-    if !found.is_empty() {
-        return found;
+    if outside.contains(&true) {
+        return reasons_from(0, &outside);
     }
-    for lane in s.lanes.iter().take(usize::from(s.n)) {
-        let holds = lane_reasons(s, lane);
-        found.extend((0..holds.len()).filter(|&i| holds[i]).map(|i| REASONS[6 + i]));
-    }
+    let lanes = s.lanes.iter().take(usize::from(s.n));
+    let mut found: Vec<&str> =
+        lanes.flat_map(|lane| reasons_from(6, &lane_reasons(s, lane))).collect();
     if let Some(service) = s.service {
         let holds = [service.lane >= s.n, service.block >= s.m, service.awaited >= s.n];
-        found.extend((0..3).filter(|&i| holds[i]).map(|i| REASONS[17 + i]));
+        found.extend(reasons_from(17, &holds));
     }
-    for block in s.blocks.iter().take(usize::from(s.m)) {
-        let beyond = usize::from(s.n)..LANES;
-        found.extend(beyond.filter(|&k| block.present[k]).map(|_| REASONS[20]));
-    }
+    found.extend(reasons_from(20, &[present_beyond(s)]));
     found.sort_unstable();
     found.dedup();
     found
+}
+
+/// The reasons that hold, the first of them at a place of `REASONS`.
+fn reasons_from(first: usize, holds: &[bool]) -> Vec<&'static str> {
+    (0..holds.len()).filter(|&i| holds[i]).map(|i| REASONS[first + i]).collect()
+}
+
+/// Some block has PRESENT for a lane that the store has not.
+fn present_beyond(s: &Store) -> bool {
+    let mut blocks = s.blocks.iter().take(usize::from(s.m));
+    blocks.any(|block| block.present[usize::from(s.n)..].contains(&true))
 }
 
 fn lane_reasons(s: &Store, lane: &Lane) -> [bool; 11] {

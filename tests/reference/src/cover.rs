@@ -5,7 +5,7 @@ use crate::held::{HeldAnswer, HeldCall, SETTLE_KIND};
 use crate::lists::{self, Given, Record, OPEN_KIND};
 use crate::parts::*;
 use crate::settle::{self, Settled};
-use crate::summary::kind_name;
+use crate::summary::{fmt_counts, kind_name};
 use std::collections::{BTreeMap, BTreeSet};
 use std::fmt::{self, Display, Formatter};
 
@@ -129,6 +129,11 @@ impl Cover {
         for (name, _) in SETTLES.iter().zip(met).filter(|(_, met)| *met) {
             *self.settles.entry(name).or_default() += 1;
         }
+        self.see_steps(before);
+    }
+
+    /// The steps of a settle that is not refused.
+    fn see_steps(&mut self, before: &Store) {
         let mut now = before.clone();
         while let Some(step) = settle::next_step(&now) {
             let after = crate::machine::call(&now, step).expect("settle was not refused").0;
@@ -215,24 +220,36 @@ impl Display for Cover {
             self.longest_list,
             self.shown
         )?;
-        for (kind, _) in ANSWERS {
-            let of_kind = self.answers.iter().filter(|((k, _), _)| *k == kind);
-            let parts: Vec<String> = of_kind.map(|((_, name), n)| format!("{name} {n}")).collect();
-            writeln!(f, "{}: {}", kind_name(kind), parts.join(", "))?;
-        }
+        self.fmt_answers(f)?;
         let parts: Vec<String> =
             self.completions.iter().map(|(count, n)| format!("{count}: {n}")).collect();
         writeln!(f, "settles by the count of completions: {}", parts.join(", "))?;
         writeln!(f, "steps inside settles {}, longest settle {} steps", self.steps, self.longest)?;
         writeln!(f, "settles that met")?;
-        for name in SETTLES {
-            writeln!(f, "  {name}: {}", self.settles.get(name).unwrap_or(&0))?;
-        }
+        fmt_counts(f, &SETTLES, &self.settles)?;
         writeln!(f, "events (calls, steps inside settles):")?;
+        self.fmt_events(f)?;
+        writeln!(f, "serves with 0 to 7 orders: {:?}", self.events.orders)?;
+        writeln!(f, "serves with 0 to 7 orders inside settles: {:?}", self.inside.orders)
+    }
+}
+
+impl Cover {
+    /// A line for each kind of call.
+    fn fmt_answers(&self, f: &mut Formatter) -> fmt::Result {
+        for (kind, _) in ANSWERS {
+            let of_kind = self.answers.iter().filter(|((k, _), _)| *k == kind);
+            let parts: Vec<String> = of_kind.map(|((_, name), n)| format!("{name} {n}")).collect();
+            writeln!(f, "{}: {}", kind_name(kind), parts.join(", "))?;
+        }
+        Ok(())
+    }
+
+    /// A line for each event.
+    fn fmt_events(&self, f: &mut Formatter) -> fmt::Result {
         for name in EVENTS {
             writeln!(f, "  {name}: {}, {}", self.events.of(name), self.inside.of(name))?;
         }
-        writeln!(f, "serves with 0 to 7 orders: {:?}", self.events.orders)?;
-        writeln!(f, "serves with 0 to 7 orders inside settles: {:?}", self.inside.orders)
+        Ok(())
     }
 }

@@ -50,7 +50,7 @@ pub fn check_quiet(s: &Store, flat: &Flat) -> Result<(), String> {
     })
 }
 
-fn check_block(s: &Store, a: usize, words: &[u32]) -> Result<(), &'static str> {
+fn check_block(s: &Store, a: usize, words: &[u32]) -> Result<(), String> {
     let (n, entry) = (usize::from(s.n), &s.blocks[a]);
     let held: Vec<Vec<Line>> = (0..n).map(|k| copies(s, k, a)).collect();
     let private = held.iter().flatten().find(|l| l.private);
@@ -70,9 +70,10 @@ fn check_block(s: &Store, a: usize, words: &[u32]) -> Result<(), &'static str> {
     demand(shown == words, "its words are not flat memory's")
 }
 
-fn demand(holds: bool, text: &'static str) -> Result<(), &'static str> {
+/// An error with the text, unless it holds.
+pub fn demand(holds: bool, text: &str) -> Result<(), String> {
     match holds {
         true => Ok(()),
-        false => Err(text),
+        false => Err(text.to_string()),
     }
 }

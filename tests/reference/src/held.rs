@@ -285,21 +285,22 @@ pub fn decode_store(bytes: &[u8]) -> Result<Store, String> {
     let (busy, lane, block) = (r.flag()?, r.byte(), r.byte());
     let (command, awaited, bare) = (r.entry(&COMMANDS)?, r.byte(), r.flag()?);
     s.service = busy.then_some(Service { lane, block, command, awaited, bare });
-    for lane in &mut s.lanes {
-        decode_lane(&mut r, lane)?;
-    }
-    for block in &mut s.blocks {
-        block.words = r.words();
-        for flag in &mut block.present {
-            *flag = r.flag()?;
-        }
-        block.modified = r.flag()?;
-    }
+    s.lanes.iter_mut().try_for_each(|lane| decode_lane(&mut r, lane))?;
+    s.blocks.iter_mut().try_for_each(|block| decode_block(&mut r, block))?;
     // Free and idle have no other content; a load has no v.
     match encode_store(&s) == bytes {
         true => Ok(s),
         false => Err("bytes under a free, idle or load tag are not 0".to_string()),
     }
+}
+
+fn decode_block(r: &mut Reader, block: &mut Block) -> Result<(), String> {
+    block.words = r.words();
+    for flag in &mut block.present {
+        *flag = r.flag()?;
+    }
+    block.modified = r.flag()?;
+    Ok(())
 }
 
 fn decode_lane(r: &mut Reader, lane: &mut Lane) -> Result<(), String> {

@@ -1,7 +1,7 @@
 //! Demand 3 on lists, from the calls and their answers alone: nothing of the
 //! machine enters here, so it judges the answers of any program.
 
-use crate::flat::{check_quiet, Flat};
+use crate::flat::{check_quiet, demand, Flat};
 use crate::held::{HeldAnswer, HeldCall};
 use crate::lists::{Given, Record};
 use crate::parts::*;
@@ -134,13 +134,6 @@ impl Judge {
         demand(usize::from(word) < self.flat.0.len(), "a word that flat memory has not")?;
         let flat = self.flat.feed(op, word);
         demand(flat == value, &format!("{op:?} of word {word} gave {value}, flat memory {flat}"))
-    }
-}
-
-fn demand(holds: bool, text: &str) -> Result<(), String> {
-    match holds {
-        true => Ok(()),
-        false => Err(text.to_string()),
     }
 }
 

@@ -106,25 +106,33 @@ impl Maker {
         self.call(HeldCall::Machine(call));
     }
 
+    fn walk_on(&mut self, calls: usize, style: &Style) {
+        (0..calls).for_each(|_| self.walk(style));
+    }
+
     /// Many lanes begin on the same one to three words, some steps are taken,
     /// then settle.
     fn bursts(&mut self, length: usize) {
         let style = self.style();
         let end = self.records.len() + length;
         while self.records.len() < end {
-            let words: Vec<u8> = (0..self.rng.between(1, 3)).map(|_| self.word()).collect();
-            let share = self.rng.pick(&[40, 80, 100]);
-            for lane in self.lanes() {
-                if self.rng.chance(share) {
-                    let (op, word) = (walk::any_op(&mut self.rng), self.rng.pick(&words));
-                    self.call(HeldCall::Machine(Call::Begin { lane, op, word }));
-                }
-            }
+            self.some_begin();
             let any = self.rng.between(1, 24);
-            for _ in 0..self.rng.pick(&[0, 0, any]) {
-                self.walk(&style);
-            }
+            let steps = self.rng.pick(&[0, 0, any]);
+            self.walk_on(steps, &style);
             self.settle();
+        }
+    }
+
+    /// Lanes, in any order, begin on one to three words.
+    fn some_begin(&mut self) {
+        let words: Vec<u8> = (0..self.rng.between(1, 3)).map(|_| self.word()).collect();
+        let share = self.rng.pick(&[40, 80, 100]);
+        for lane in self.lanes() {
+            if self.rng.chance(share) {
+                let (op, word) = (walk::any_op(&mut self.rng), self.rng.pick(&words));
+                self.call(HeldCall::Machine(Call::Begin { lane, op, word }));
+            }
         }
     }
 
@@ -134,16 +142,22 @@ impl Maker {
         while self.records.len() < end {
             let first = self.rng.byte_below(self.store.m);
             let blocks = self.rng.between(1, usize::from(self.store.c.min(self.store.m))) as u8;
-            for block in 0..blocks {
-                self.all_begin(|_| (first + block, Op::Load));
-                self.settle();
-            }
+            self.all_load(first, blocks);
             let (op, apart) = (walk::write_op(&mut self.rng), self.rng.chance(60));
             self.all_begin(|lane| (first + if apart { lane % blocks } else { 0 }, op));
             if self.rng.chance(40) {
                 let style = self.style();
-                (0..self.rng.between(1, 12)).for_each(|_| self.walk(&style));
+                let calls = self.rng.between(1, 12);
+                self.walk_on(calls, &style);
             }
+            self.settle();
+        }
+    }
+
+    /// All lanes load so many blocks, one after another.
+    fn all_load(&mut self, first: u8, blocks: u8) {
+        for block in 0..blocks {
+            self.all_begin(|_| (first + block, Op::Load));
             self.settle();
         }
     }

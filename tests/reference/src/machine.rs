@@ -63,18 +63,25 @@ pub fn picture(store: &Store, buffer: &mut [u8]) -> Result<usize, u8> {
     if corrupt(store) {
         return Err(CORRUPT);
     }
-    let mut bytes = Vec::new();
-    for (k, lane) in store.lanes[..usize::from(store.n)].iter().enumerate() {
-        for line in lane.lines[..usize::from(store.c)].iter().filter(|l| l.valid) {
-            bytes.extend([0x10, k as u8, line.block]);
-            line.words.iter().for_each(|w| bytes.extend(w.to_le_bytes()));
-        }
-    }
+    let lanes = (0..store.n).zip(&store.lanes);
+    let bytes: Vec<u8> = lanes.flat_map(|(k, lane)| lane_picture(k, lane, store.c)).collect();
     if buffer.len() < bytes.len() {
         return Err(BUFFER_SHORT);
     }
     buffer[..bytes.len()].copy_from_slice(&bytes);
     Ok(bytes.len())
+}
+
+/// The picture's records of one lane.
+fn lane_picture(k: u8, lane: &Lane, c: u8) -> Vec<u8> {
+    let valid = lane.lines[..usize::from(c)].iter().filter(|line| line.valid);
+    valid.flat_map(|line| picture_record(k, line)).collect()
+}
+
+fn picture_record(k: u8, line: &Line) -> Vec<u8> {
+    let mut bytes = vec![0x10, k, line.block];
+    bytes.extend(line.words.iter().flat_map(|word| word.to_le_bytes()));
+    bytes
 }
 
 /// Condition 14.

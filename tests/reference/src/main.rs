@@ -12,7 +12,6 @@ const USAGE: &str = "usage:
   reference tape < TAPE
   reference held < CASES
   reference make-tapes SEED COUNT DIR
-  reference count-tapes DIR
   reference expect-tapes DIR
   reference make-held SEED COUNT FILE
   reference differ-held CASES ANSWERS
@@ -32,7 +31,6 @@ fn main() -> ExitCode {
         ["tape"] => run_tape(),
         ["held"] => run_held(),
         ["make-tapes", seed, count, dir] => make_tapes(seed, count, Path::new(dir)),
-        ["count-tapes", dir] => count_tapes(Path::new(dir)),
         ["expect-tapes", dir] => expect_tapes(Path::new(dir)),
         ["make-held", seed, count, file] => make_held(seed, count, Path::new(file)),
         ["differ-held", cases, answers] => differ_held(cases, answers),
@@ -97,15 +95,6 @@ fn tape_files(dir: &Path) -> Result<Vec<PathBuf>, String> {
     files.retain(|file| file.extension().is_some_and(|x| x == "tape"));
     files.sort();
     Ok(files)
-}
-
-fn count_tapes(dir: &Path) -> Outcome {
-    let mut summary = Tapes::default();
-    for file in tape_files(dir)? {
-        summary.add(&fs::read(file).map_err(text)?);
-    }
-    print!("{summary}");
-    Ok(())
 }
 
 fn expect_tapes(dir: &Path) -> Outcome {

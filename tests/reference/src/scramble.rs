@@ -89,17 +89,17 @@ pub fn store(rng: &mut Rng) -> Store {
     if rng.chance(50) {
         s.service = Some(service(s.n, m, rng));
     }
-    for k in 0..usize::from(s.n) {
-        s.lanes[k] = lane(c, m, &mood, rng);
-    }
-    for block in &mut s.blocks[..usize::from(m)] {
-        block.words = rng.words();
-        block.modified = rng.chance(50);
-        for flag in &mut block.present[..usize::from(s.n)] {
-            *flag = rng.chance(mood.present);
-        }
-    }
+    let n = usize::from(s.n);
+    s.lanes[..n].iter_mut().for_each(|each| *each = lane(c, m, &mood, rng));
+    s.blocks[..usize::from(m)].iter_mut().for_each(|each| *each = block(n, &mood, rng));
     s
+}
+
+/// A block that the first n lanes may have.
+fn block(n: usize, mood: &Mood, rng: &mut Rng) -> Block {
+    let (words, modified, mut present) = (rng.words(), rng.chance(50), [false; LANES]);
+    present[..n].iter_mut().for_each(|flag| *flag = rng.chance(mood.present));
+    Block { words, present, modified }
 }
 
 fn lane(c: u8, m: u8, mood: &Mood, rng: &mut Rng) -> Lane {
@@ -124,21 +124,26 @@ fn lane(c: u8, m: u8, mood: &Mood, rng: &mut Rng) -> Lane {
 /// entries past n, c and m, and places past a queue's length.
 pub fn junk(s: &mut Store, rng: &mut Rng) {
     let (n, c, m) = (usize::from(s.n), usize::from(s.c), usize::from(s.m));
-    for lane in &mut s.lanes[..n] {
-        lane.lines[c..].iter_mut().for_each(|line| *line = junk_line(rng));
-        lane.order[c..].iter_mut().for_each(|name| *name = rng.byte());
-        junk_places(&mut lane.returns, return_places(255, rng));
-        junk_places(&mut lane.down, down_places(255, rng));
-        for line in lane.lines[..c].iter_mut().filter(|line| !line.valid) {
-            *line = Line { valid: false, ..junk_line(rng) };
-        }
-    }
+    s.lanes[..n].iter_mut().for_each(|lane| junk_in_lane(lane, c, rng));
     s.lanes[n..].iter_mut().for_each(|lane| *lane = junk_lane(rng));
-    for block in &mut s.blocks[m..] {
-        block.words = rng.words();
-        block.present = std::array::from_fn(|_| rng.chance(50));
-        block.modified = rng.chance(50);
+    s.blocks[m..].iter_mut().for_each(|block| *block = junk_block(rng));
+}
+
+/// The same for a lane that the store has.
+fn junk_in_lane(lane: &mut Lane, c: usize, rng: &mut Rng) {
+    lane.lines[c..].iter_mut().for_each(|line| *line = junk_line(rng));
+    lane.order[c..].iter_mut().for_each(|name| *name = rng.byte());
+    junk_places(&mut lane.returns, return_places(255, rng));
+    junk_places(&mut lane.down, down_places(255, rng));
+    for line in lane.lines[..c].iter_mut().filter(|line| !line.valid) {
+        *line = Line { valid: false, ..junk_line(rng) };
     }
+}
+
+fn junk_block(rng: &mut Rng) -> Block {
+    let words = rng.words();
+    let present = std::array::from_fn(|_| rng.chance(50));
+    Block { words, present, modified: rng.chance(50) }
 }
 
 fn junk_places<K: Copy>(queue: &mut Queue<K>, places: [Message<K>; PLACES]) {

@@ -130,7 +130,16 @@ impl Cases {
     pub fn add(&mut self, case: &Case, answer: &HeldAnswer) {
         self.cases += 1;
         *self.sources.entry(case.source).or_default() += 1;
-        let kind = case.call.kind();
+        self.add_answer(case, answer);
+        for situation in situations::met(&case.store, case.call, answer) {
+            *self.situations.entry(situation).or_default() += 1;
+        }
+        let reasons = conditions::corrupt_reasons(&case.store);
+        add_reasons(&mut self.reasons, &reasons);
+        self.add_damages(case, reasons.is_empty());
+    }
+
+    fn add_answer(&mut self, case: &Case, answer: &HeldAnswer) {
         let name = match answer {
             HeldAnswer::Machine(Answer::Done { .. }) => "done".to_string(),
             HeldAnswer::Machine(Answer::Wait) => "wait".to_string(),
@@ -146,16 +155,14 @@ impl Cases {
                 number.to_string()
             }
         };
-        *self.given.entry((kind, name)).or_default() += 1;
-        for situation in situations::met(&case.store, case.call, answer) {
-            *self.situations.entry(situation).or_default() += 1;
-        }
-        let reasons = conditions::corrupt_reasons(&case.store);
-        add_reasons(&mut self.reasons, &reasons);
+        *self.given.entry((case.call.kind(), name)).or_default() += 1;
+    }
+
+    fn add_damages(&mut self, case: &Case, sound: bool) {
         for damage in &case.damages {
             let counts = self.damages.entry(damage).or_default();
             counts.0 += 1;
-            counts.1 += usize::from(reasons.is_empty());
+            counts.1 += usize::from(sound);
         }
     }
 
@@ -219,32 +226,63 @@ pub fn kind_name(kind: u8) -> &'static str {
 impl Display for Cases {
     fn fmt(&self, f: &mut Formatter) -> fmt::Result {
         writeln!(f, "cases {}", self.cases)?;
-        for source in SOURCES {
-            writeln!(f, "  {source}: {}", self.sources.get(source).unwrap_or(&0))?;
-        }
-        for number in conditions::ORDER {
-            let total: usize = HELD_KINDS.iter().map(|&kind| self.refused(kind, number)).sum();
-            writeln!(f, "refused {number} in all: {total}")?;
-        }
+        fmt_counts(f, &SOURCES, &self.sources)?;
+        self.fmt_refused(f)?;
         for kind in HELD_KINDS {
-            write!(f, "{}:", kind_name(kind))?;
-            for name in ["done", "wait", "step", "picture", "settled"] {
-                if let Some(count) = self.given.get(&(kind, name.to_string())) {
-                    write!(f, " {name} {count}")?;
-                }
-            }
-            for &number in conditions::applicable(kind) {
-                write!(f, " refused-{number} {}", self.refused(kind, number))?;
-            }
-            writeln!(f)?;
+            writeln!(f, "{}:{}", kind_name(kind), self.answers_of(kind))?;
         }
         self.fmt_details(f)
     }
 }
 
+/// A line for each name: how often it was met.
+pub fn fmt_counts(
+    f: &mut Formatter,
+    names: &[&str],
+    counts: &BTreeMap<&'static str, usize>,
+) -> fmt::Result {
+    for name in names {
+        writeln!(f, "  {name}: {}", counts.get(name).unwrap_or(&0))?;
+    }
+    Ok(())
+}
+
+/// A line for each name: all, and those of a narrower sense.
+fn fmt_pairs(
+    f: &mut Formatter,
+    names: &[&str],
+    counts: &BTreeMap<&'static str, (usize, usize)>,
+) -> fmt::Result {
+    for name in names {
+        let (all, alone) = counts.get(name).copied().unwrap_or_default();
+        writeln!(f, "  {name}: {all}, {alone}")?;
+    }
+    Ok(())
+}
+
 impl Cases {
-    fn fmt_details(&self, f: &mut Formatter) -> fmt::Result {
-        writeln!(f, "number given before another that held too:")?;
+    /// A line for each number, over all kinds of call.
+    fn fmt_refused(&self, f: &mut Formatter) -> fmt::Result {
+        for number in conditions::ORDER {
+            let total: usize = HELD_KINDS.iter().map(|&kind| self.refused(kind, number)).sum();
+            writeln!(f, "refused {number} in all: {total}")?;
+        }
+        Ok(())
+    }
+
+    /// What the calls of a kind were answered, and how often.
+    fn answers_of(&self, kind: u8) -> String {
+        let answer = |name: &&str| {
+            let count = self.given.get(&(kind, name.to_string()))?;
+            Some(format!(" {name} {count}"))
+        };
+        let refusal = |number: &u8| format!(" refused-{number} {}", self.refused(kind, *number));
+        let answers = ["done", "wait", "step", "picture", "settled"].iter().filter_map(answer);
+        answers.chain(conditions::applicable(kind).iter().map(refusal)).collect()
+    }
+
+    /// A line for each kind of call: the numbers passed over.
+    fn fmt_passed_over(&self, f: &mut Formatter) -> fmt::Result {
         for kind in HELD_KINDS {
             let of_kind = self.passed_over.iter().filter(|((k, _, _), _)| *k == kind);
             let parts: Vec<String> = of_kind
@@ -252,32 +290,27 @@ impl Cases {
                 .collect();
             writeln!(f, "  {}: {}", kind_name(kind), parts.join(", "))?;
         }
+        Ok(())
+    }
+
+    fn fmt_details(&self, f: &mut Formatter) -> fmt::Result {
+        writeln!(f, "number given before another that held too:")?;
+        self.fmt_passed_over(f)?;
         writeln!(f, "settled, by the count of completions: {}", pairs(&self.settled))?;
         writeln!(f, "longest settle: {} steps", self.longest)?;
         let (steps, completions) = self.undone;
         writeln!(f, "settles refused after steps: {steps}, after completions: {completions}")?;
         writeln!(f, "reasons of 14 and 16 in refused settles:")?;
-        for reason in REASONS.iter().chain(&UNEXPECTED_REASONS) {
-            writeln!(f, "  {reason}: {}", self.settle_reasons.get(reason).unwrap_or(&0))?;
-        }
+        fmt_counts(f, &REASONS, &self.settle_reasons)?;
+        fmt_counts(f, &UNEXPECTED_REASONS, &self.settle_reasons)?;
         writeln!(f, "situations, not refused:")?;
-        for name in situations::NAMES {
-            writeln!(f, "  {name}: {}", self.situations.get(name).unwrap_or(&0))?;
-        }
+        fmt_counts(f, &situations::NAMES, &self.situations)?;
         writeln!(f, "reasons of 14 (stores, stores with no other reason):")?;
-        for reason in REASONS {
-            let (all, alone) = self.reasons.get(reason).copied().unwrap_or_default();
-            writeln!(f, "  {reason}: {all}, {alone}")?;
-        }
+        fmt_pairs(f, &REASONS, &self.reasons)?;
         writeln!(f, "reasons of 16 where given (cases, cases with no other reason):")?;
-        for reason in UNEXPECTED_REASONS {
-            let (all, alone) = self.unexpected_reasons.get(reason).copied().unwrap_or_default();
-            writeln!(f, "  {reason}: {all}, {alone}")?;
-        }
+        fmt_pairs(f, &UNEXPECTED_REASONS, &self.unexpected_reasons)?;
         writeln!(f, "damage (stores, of these not corrupt):")?;
-        for (name, (all, sound)) in &self.damages {
-            writeln!(f, "  {name}: {all}, {sound}")?;
-        }
-        Ok(())
+        let damages: Vec<&str> = self.damages.keys().copied().collect();
+        fmt_pairs(f, &damages, &self.damages)
     }
 }

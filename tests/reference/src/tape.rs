@@ -6,8 +6,8 @@ use std::fmt::Write;
 
 pub const LONGEST: usize = 65_536;
 
-/// The whole tape of document 01.
-pub const LAW_TAPE: [u8; 52] = [
+/// Document 01's sample tape.
+pub const SAMPLE_TAPE: [u8; 52] = [
     0x00, 0x02, 0x01, 0x02, // open
     0x02, 0x00, 0x05, 0x07, 0x00, 0x00, 0x00, // store
     0x05, 0x00, 0x07, 0x00, // serve, deliver
@@ -95,7 +95,7 @@ pub struct Event<'a> {
     pub after: Option<&'a Store>,
 }
 
-/// One record on the store of the tape, none while the tape is shut.
+/// One record on the store of the tape, none while it is not open.
 pub fn run_record(store: &Option<Store>, record: Record) -> Result<(Store, Outcome), u8> {
     match (record, store) {
         (Record::Open { .. }, Some(_)) => Err(ALREADY_OPEN),

@@ -3,21 +3,22 @@
 
 use crate::parts::*;
 use crate::rng::Rng;
-use crate::tape::{self, body_length, Outcome, Record, LONGEST};
+use crate::tape::{self, body_length, Record, LONGEST};
 use crate::walk::{self, Style};
 
 /// What a tape is for.
 #[derive(Clone, Copy, PartialEq, Eq, Debug)]
 pub enum Role {
     Empty,
-    Law,
-    /// Exactly so many bytes, the last record whole or cut.
+    /// Document 01's own.
+    Sample,
+    /// Exactly so many bytes, the last record whole or truncated.
     Sized {
         bytes: usize,
-        cut: bool,
+        truncated: bool,
     },
     /// Ends in a record of the kind with only so much of its body.
-    Cut {
+    Truncated {
         kind: u8,
         kept: usize,
         opened: bool,
@@ -33,7 +34,7 @@ pub enum Role {
     /// Many records and refused opens before the open.
     NotOpen,
     /// Random small bytes.
-    Soup,
+    RandomBytes,
     /// Eight lanes share a few blocks.
     Sharing,
     General,
@@ -44,27 +45,33 @@ pub const CYCLE: usize = 300;
 
 /// The roles of one cycle that are not General; the rest are.
 fn special_roles() -> Vec<Role> {
-    let mut roles = vec![Role::Empty, Role::Law];
-    for bytes in [LONGEST - 1, LONGEST, LONGEST + 1] {
-        roles.extend([false, true].map(|cut| Role::Sized { bytes, cut }));
-    }
-    roles.push(Role::Sized { bytes: 100_000, cut: false });
-    for opened in [true, false] {
-        for kind in 0..=7 {
-            let lengths = 0..body_length(kind).expect("known kind");
-            roles.extend(lengths.map(|kept| Role::Cut { kind, kept, opened }));
-        }
-    }
-    for kind in [0x08, 0x09, 0x0f, 0x10, 0x11, 0x80, 0xff] {
-        for (followed, opened) in [(false, false), (false, true), (true, true)] {
-            roles.push(Role::Unknown { kind, followed, opened });
-        }
-    }
+    let mut roles = vec![Role::Empty, Role::Sample];
+    roles.extend([LONGEST - 1, LONGEST, LONGEST + 1].into_iter().flat_map(sized_roles));
+    roles.push(Role::Sized { bytes: 100_000, truncated: false });
+    roles.extend([true, false].into_iter().flat_map(truncated_roles));
+    let above = [0x08, 0x09, 0x0f, 0x10, 0x11, 0x80, 0xff];
+    roles.extend(above.into_iter().flat_map(unknown_roles));
     roles.extend([Role::Damaged; 24]);
     roles.extend([Role::NotOpen; 8]);
-    roles.extend([Role::Soup; 8]);
+    roles.extend([Role::RandomBytes; 8]);
     roles.extend([Role::Sharing; 8]);
     roles
+}
+
+fn sized_roles(bytes: usize) -> [Role; 2] {
+    [false, true].map(|truncated| Role::Sized { bytes, truncated })
+}
+
+/// Every kind, with every length that its body is short of.
+fn truncated_roles(opened: bool) -> Vec<Role> {
+    let lengths = |kind| 0..body_length(kind).expect("known kind");
+    let of_kind = |kind| lengths(kind).map(move |kept| Role::Truncated { kind, kept, opened });
+    (0..=7).flat_map(of_kind).collect()
+}
+
+fn unknown_roles(kind: u8) -> [Role; 3] {
+    let ways = [(false, false), (false, true), (true, true)];
+    ways.map(|(followed, opened)| Role::Unknown { kind, followed, opened })
 }
 
 /// The role of a tape, and its rank among the General ones so far.
@@ -76,20 +83,24 @@ fn role(index: usize) -> (Role, usize) {
 }
 
 pub fn make(seed: u64, index: usize) -> Vec<u8> {
-    let mut rng = Rng::stream(seed, index as u64);
+    let rng = Rng::stream(seed, index as u64);
     let (role, rank) = role(index);
     match role {
         Role::Empty => Vec::new(),
-        Role::Law => tape::LAW_TAPE.to_vec(),
-        Role::Sized { bytes, cut } => sized(rng, bytes, cut),
-        Role::Cut { kind, kept, opened } => cut(rng, kind, kept, opened),
+        Role::Sample => tape::SAMPLE_TAPE.to_vec(),
+        Role::Sized { bytes, truncated } => sized(rng, bytes, truncated),
+        Role::Truncated { kind, kept, opened } => truncated(rng, kind, kept, opened),
         Role::Unknown { kind, followed, opened } => unknown(rng, kind, followed, opened),
         Role::Damaged => damaged(rng),
         Role::NotOpen => not_open(rng),
-        Role::Soup => (0..rng.between(2_000, 8_000)).map(|_| rng.byte_below(8)).collect(),
+        Role::RandomBytes => random_bytes(rng),
         Role::Sharing => sharing(rng),
         Role::General => general(rng, rank),
     }
+}
+
+fn random_bytes(mut rng: Rng) -> Vec<u8> {
+    (0..rng.between(2_000, 8_000)).map(|_| rng.byte_below(8)).collect()
 }
 
 type Shape = (u8, u8, u8);
@@ -196,22 +207,30 @@ impl Builder {
 
     /// Records in phases of one style each, some ended by a drain.
     fn run(&mut self, records: usize, sharing: bool) {
-        let (mut left, most) = (records, LONGEST - 600);
+        let mut left = records;
         while left > 0 {
             let style = self.new_style(sharing);
             let phase = self.rng.between(60, 300).min(left);
-            for _ in 0..phase {
-                if self.bytes.len() > most {
-                    return;
-                }
-                let record = self.next_record(&style);
-                self.record(record);
+            if !self.phase(phase, &style) {
+                return;
             }
             left -= phase;
             if self.rng.chance(25) {
                 self.drain();
             }
         }
+    }
+
+    /// Records of one style; false if the tape has no room for them all.
+    fn phase(&mut self, records: usize, style: &Style) -> bool {
+        for _ in 0..records {
+            if self.bytes.len() > LONGEST - 600 {
+                return false;
+            }
+            let record = self.next_record(style);
+            self.record(record);
+        }
+        true
     }
 
     /// Steps until the store is quiet.
@@ -230,8 +249,8 @@ impl Builder {
         }
     }
 
-    /// Whole records up to exactly so many bytes.
-    fn fill_to(&mut self, bytes: usize) {
+    /// Records of any kind up to 16 bytes before so many, or a little past.
+    fn fill_near(&mut self, bytes: usize) {
         let mut style = self.new_style(false);
         while self.bytes.len() + 16 < bytes {
             if self.rng.below(200) == 0 {
@@ -240,6 +259,11 @@ impl Builder {
             let record = self.next_record(&style);
             self.record(record);
         }
+    }
+
+    /// Whole records up to exactly so many bytes.
+    fn fill_to(&mut self, bytes: usize) {
+        self.fill_near(bytes);
         while self.bytes.len() + 3 < bytes {
             let lane = self.rng.byte_below(2);
             let call = self.rng.pick(&[Call::Serve(lane), Call::Return(lane), Call::Deliver(lane)]);
@@ -272,11 +296,11 @@ fn sharing(mut rng: Rng) -> Vec<u8> {
     tape.bytes
 }
 
-fn sized(mut rng: Rng, bytes: usize, cut: bool) -> Vec<u8> {
+fn sized(mut rng: Rng, bytes: usize, truncated: bool) -> Vec<u8> {
     let shape = small_shape(&mut rng);
     let mut tape = Builder::new(rng);
     tape.start(shape);
-    if !cut {
+    if !truncated {
         tape.fill_to(bytes);
         return tape.bytes;
     }
@@ -288,7 +312,7 @@ fn sized(mut rng: Rng, bytes: usize, cut: bool) -> Vec<u8> {
     tape.bytes
 }
 
-/// An opened tape of some length, or a shut one of a few records.
+/// An opened tape of some length, or a few records that open nothing.
 fn beginning(mut rng: Rng, opened: bool) -> Builder {
     let (shape, records) = (small_shape(&mut rng), rng.between(200, 1_200));
     let mut tape = Builder::new(rng);
@@ -302,7 +326,7 @@ fn beginning(mut rng: Rng, opened: bool) -> Builder {
     tape
 }
 
-fn cut(rng: Rng, kind: u8, kept: usize, opened: bool) -> Vec<u8> {
+fn truncated(rng: Rng, kind: u8, kept: usize, opened: bool) -> Vec<u8> {
     let mut tape = beginning(rng, opened);
     tape.bytes.push(kind);
     for _ in 0..kept {
@@ -339,15 +363,4 @@ fn not_open(mut rng: Rng) -> Vec<u8> {
         tape.run(600, false);
     }
     tape.bytes
-}
-
-/// The shapes that a tape opens (one at most).
-pub fn shape_opened(bytes: &[u8]) -> Option<Shape> {
-    let mut shape = None;
-    let _ = tape::replay(bytes, &mut |event| {
-        if event.outcome == Outcome::Open {
-            shape = event.after.map(|s| (s.n, s.c, s.m));
-        }
-    });
-    shape
 }

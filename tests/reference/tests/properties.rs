@@ -22,11 +22,9 @@ impl Run {
     }
 
     fn call(&mut self, call: Call) -> Result<Answer, u8> {
-        let before = self.store.clone();
         let (after, answer) = match machine::call(&self.store, call) {
             Ok(given) => given,
             Err(number) => {
-                assert!(self.store == before, "a refusal changed the store");
                 assert!([6, 7, 8, 9, 10, 11].contains(&number), "refused {number}");
                 self.refused += 1;
                 return Err(number);

@@ -2,6 +2,7 @@
 //! and the bound on the steps over random stores.
 
 use reference::damage::FAIR;
+use reference::held::{self, HeldCall};
 use reference::machine;
 use reference::parts::*;
 use reference::rng::Rng;
@@ -186,7 +187,7 @@ fn refused_inside_gives_that_steps_number() {
     assert_eq!(settle(&s), Err(16));
 }
 
-/// A refusal after completions lists none of them and gives no store.
+/// A refusal after completions lists none of them and undoes their steps.
 #[test]
 fn a_refusal_after_a_completion_gives_its_number_alone() {
     let mut s = open(3, 1, 2);
@@ -194,9 +195,12 @@ fn a_refusal_after_a_completion_gives_its_number_alone() {
     s.lanes[0].down = queue(1, DownKind::Grant, 0);
     settles(&s, 1, &[done(0, 4)]);
     s.lanes[2].returns = queue(1, ReturnKind::Gone, 0);
-    let before = s.clone();
     assert_eq!(settle(&s), Err(16));
-    assert!(s == before);
+    let case = held::encode_case(&s, HeldCall::Settle);
+    let mut want = vec![4, 16, 0, 0, 0, 0, 0, 0];
+    want.extend(&case[..held::STORE_BYTES]);
+    want.extend([0; held::COMPLETIONS_BYTES]);
+    assert_eq!(held::answers(&case), Ok(want));
 }
 
 /// Settle is its steps, each as a call of its own; the steps before the end

@@ -1,10 +1,10 @@
-//! Document 01's own examples and the tape reader.
+//! Document 01's sample tape, its other examples and the tape reader.
 
 use reference::machine;
 use reference::parts::*;
-use reference::tape::{self, LAW_TAPE};
+use reference::tape::{self, SAMPLE_TAPE};
 
-const LAW_LINES: &str = "0 open
+const SAMPLE_LINES: &str = "0 open
 1 wait
 2 step
 3 done 0 7
@@ -36,12 +36,12 @@ fn prints(tape: &str, lines: &str) {
 }
 
 #[test]
-fn the_whole_tape() {
+fn the_sample_tape() {
     let text = "00 02 01 02 / 02 00 05 07 00 00 00 / 05 00 / 07 00 / 01 01 05 / 05 01 / 07 00 / \
                 06 00 / 07 01 / 04 01 05 01 00 00 00 / 01 00 00 / 05 00 / 05 01 / 07 00 / 06 00 / \
                 06 00 / 07 01 / 05 00 / 07 00";
-    assert_eq!(hex(text), LAW_TAPE);
-    assert_eq!(tape::print(&LAW_TAPE), LAW_LINES);
+    assert_eq!(hex(text), SAMPLE_TAPE);
+    assert_eq!(tape::print(&SAMPLE_TAPE), SAMPLE_LINES);
 }
 
 #[test]
@@ -97,7 +97,7 @@ fn exchange_gives_the_former_word() {
 }
 
 #[test]
-fn shut_and_open_already() {
+fn not_open_and_already_open() {
     prints("05 00 / 01 09 ff", "0 refused 3\n1 refused 3\nend 2\n");
     prints(
         "00 01 01 01 / 05 00 / 00 02 00 01 / 00 02 01 41 / 00 02 01 01 / 00 02 01 01 / 00 00 00 00 / 05 00",
@@ -106,14 +106,14 @@ fn shut_and_open_already() {
 }
 
 #[test]
-fn cut_records() {
+fn truncated_records() {
     for (kind, length) in [(0u8, 3usize), (1, 2), (2, 6), (3, 6), (4, 6), (5, 1), (6, 1), (7, 1)] {
         assert_eq!(tape::body_length(kind), Some(length));
         for kept in 0..length {
-            let mut shut = vec![kind];
-            shut.resize(1 + kept, 0);
-            assert_eq!(tape::print(&shut), "0 refused 1\nend 1\n", "kind {kind} kept {kept}");
-            let opened = [vec![0, 2, 1, 1], shut].concat();
+            let mut truncated = vec![kind];
+            truncated.resize(1 + kept, 0);
+            assert_eq!(tape::print(&truncated), "0 refused 1\nend 1\n", "kind {kind} kept {kept}");
+            let opened = [vec![0, 2, 1, 1], truncated].concat();
             assert_eq!(tape::print(&opened), "0 open\n1 refused 1\nend 2\n");
         }
     }
