@@ -1,128 +1,87 @@
-// benchtape: reads a tape from standard input and prints one line a record. The replay is proved in crates/lend, the text of each
-// line in crates/text; here are the way from a line's number to its text, reading and writing.
+// benchtape: one read of a tape from standard input, `replay::print`, one write of its text to standard output. All that is printed is
+// proved there; no contract can speak of what is read or written.
 ghost use mathlib.Core.Path.{_≡_};
-ghost use Prim.Native.Nat.{_+_, _≤_};
+ghost use Prim.Native.Nat.{_≤_};
 ghost use lib.ListN.{length};
-ghost use Rattle.benchtape.specs.Lines.{refusalOf, answerOf};
-use answers::Answer;
-use answers::Refusal;
+ghost use Rattle.machine.specs.Text.{printed};
+ghost use Rattle.text.specs.Written.{written};
+ghost use Rattle.benchtape.specs.Reading.{bytesOf};
 use libc::STDIN_FILENO;
 use libc::STDOUT_FILENO;
-use words::LaneNo;
+use machine::Filled;
 
-// The refusal that document 01 numbers n.
-fn refusal_of(n: u64) -> Refusal
-    ensures { λ r. ⌜ r ≡ refusalOf n ⌝ }
-{
-    match n {
-        1 => Refusal::Truncated,
-        2 => Refusal::UnknownKind,
-        3 => Refusal::NotOpen,
-        4 => Refusal::AlreadyOpen,
-        5 => Refusal::InvalidShape,
-        6 => Refusal::NoSuchLane,
-        7 => Refusal::NoSuchWord,
-        8 => Refusal::LaneBusy,
-        9 => Refusal::NothingPending,
-        10 => Refusal::ControlBusy,
-        11 => Refusal::ReturnsPending,
-        12 => Refusal::QueueFull,
-        13 => Refusal::TapeTooLong,
-        14 => Refusal::Corrupt,
-        15 => Refusal::BufferTooShort,
-        _ => Refusal::Unexpected,
-    }
+// What reading gives: how many bytes there are, or that a read failed.
+enum Reading {
+    Bytes(usize),
+    Failed,
 }
 
-// The line of a number.
-fn answer_of(code: u64) -> Answer
-    ensures { λ r. ⌜ r ≡ answerOf code ⌝ }
+// Reads until the buffer is full, the input ends or a read fails.
+fn read_tape(buf: &mut [u8]) -> Reading
+    ensures { λ r. ⌜ bytesOf r ≤ length (now (buf .exit)) ⌝ }
 {
-    let tag = code % 8;
-    match tag {
-        0 => Answer::Opened,
-        1 => {
-            let k = LaneNo((code / 8 % 256) as u8);
-            let v = (code / 4096 % 4294967296) as u32;
-            Answer::Done(answers::completed(k, v))
+    let mut done: usize = 0;
+    while done < buf.len() {
+        let part = &mut buf[done..];
+        let got = libc::read(STDIN_FILENO, part);
+        if got < 0 {
+            return Reading::Failed;
         }
-        2 => Answer::Wait,
-        3 => Answer::Step,
-        _ => Answer::Refused(refusal_of(code / 8)),
+        let more = io::count(got, part);
+        if more == 0 {
+            return Reading::Bytes(done);
+        }
+        done += more;
+    }
+    Reading::Bytes(done)
+}
+
+// Room for the longest text.
+fn room() -> [u8; 1310720]
+    ensures { λ r. ⌜ 1310720 ≡ length r ⌝ }
+{
+    [0; 1310720]
+}
+
+// The tape's text, at the start of a buffer with room for it; its length.
+fn text_of(tape: &[u8], out: &mut [u8]) -> usize
+    requires { ⌜ 1310720 ≤ length (now out) ⌝ }
+    ensures { λ r. ⌜ (r ≡ length (printed (now (tape .entry)))) × (now (out .exit) ≡ written (now (out .entry)) 0 (printed (now (tape .entry)))) × (r ≤ length (now (out .exit))) ⌝ }
+{
+    let answer = replay::print(tape, out);
+    match answer {
+        Filled::Length(n) => n,
+        Filled::Refused(_) => 0,
     }
 }
 
-// Writes the filled part of the buffer once it is nearly full; gives how much of it is filled then.
-fn flushed(out: &[u8], filled: usize) -> usize
-    requires { ⌜ filled ≤ length (now out) ⌝ }
-    ensures { λ r. ⌜ (r ≤ 65000) × (r ≤ filled) ⌝ }
+// One read, the text, one write. A read or a write that fails is told on standard error, and nothing more is written.
+fn bench(tape: &mut [u8], out: &mut [u8])
+    requires { ⌜ 1310720 ≤ length (now out) ⌝ }
 {
-    if 65000 < filled {
-        let part = &out[0..filled];
-        io::write_all(STDOUT_FILENO, part);
-        return 0;
-    }
-    filled
-}
-
-// One line joins the buffer.
-fn add_line(out: &mut [u8], filled: usize, index: usize, code: u64) -> usize
-    requires { ⌜ (length (now out) ≡ 65536) × (filled ≤ 65064) × (index ≤ 65536) ⌝ }
-    ensures { λ r. ⌜ r ≤ 65064 ⌝ }
-{
-    let at = flushed(out, filled);
-    let a = answer_of(code);
-    text::line_into(out, at, index as u32, a)
-}
-
-// The last line, and what is left of the buffer.
-fn add_end(out: &mut [u8], filled: usize, count: usize)
-    requires { ⌜ (length (now out) ≡ 65536) × (filled ≤ 65064) × (count ≤ 65536) ⌝ }
-{
-    let at = flushed(out, filled);
-    let n = text::end_into(out, at, count as u32);
-    let part = &out[0..n];
-    io::write_all(STDOUT_FILENO, part);
-}
-
-// The lines' text, then `end` and their number.
-fn print(lines: &[u64], count: usize, out: &mut [u8])
-    requires { ⌜ (count ≤ length (now lines)) × (count ≤ 65536) × (length (now out) ≡ 65536) ⌝ }
-{
-    let mut filled: usize = 0;
-    let mut i: usize = 0;
-    while i < count {
-        filled = add_line(out, filled, i, lines[i]);
-        i += 1;
-    }
-    add_end(out, filled, count);
-}
-
-// `refused 13` alone.
-fn print_too_long(out: &mut [u8])
-    requires { ⌜ length (now out) ≡ 65536 ⌝ }
-{
-    let n = text::too_long_into(out, 0);
-    let part = &out[0..n];
-    io::write_all(STDOUT_FILENO, part);
-}
-
-// A tape over 65,536 bytes prints only `refused 13`.
-fn bench(tape: &[u8], lines: &mut [u64], out: &mut [u8])
-    requires { ⌜ (length (now lines) ≡ 65536) × (length (now out) ≡ 65536) ⌝ }
-{
-    if 65536 < tape.len() {
-        print_too_long(out);
+    let reading = read_tape(tape);
+    let Reading::Bytes(n) = reading else {
+        unread();
+        return;
+    };
+    let size = text_of(&tape[..n], out);
+    if io::write_all(STDOUT_FILENO, &out[..size]) {
         return;
     }
-    let r = lend::replay(tape, lines);
-    print(lines, r.count, out);
+    unwritten();
 }
 
+fn unread() {
+    os::fail(b"benchtape: the tape can't be read");
+}
+
+fn unwritten() {
+    os::fail(b"benchtape: the text can't be written");
+}
+
+// A byte more than a tape may have is read, so that a longer one is known.
 fn main() {
-    let mut buf = [0u8; 65537];
-    let mut lines = [0u64; 65536];
-    let mut out = [0u8; 65536];
-    let n = io::read_full(STDIN_FILENO, &mut buf);
-    bench(&buf[..n], &mut lines, &mut out);
+    let mut tape = [0u8; 65537];
+    let mut text = room();
+    bench(&mut tape, &mut text);
 }

@@ -4,7 +4,7 @@ ghost use Prim.Native.Nat.{_≤_};
 ghost use lib.ListN.{length};
 use libc::STDIN_FILENO;
 use libc::STDOUT_FILENO;
-use machine::Pictured;
+use machine::Filled;
 use store::Store;
 use storebytes::Reply;
 use words::LaneNo;
@@ -26,10 +26,10 @@ const PICTURE: u8 = 16;
 
 const SETTLE: u8 = 17;
 
-fn picture_reply(p: Pictured) -> Reply {
+fn picture_reply(p: Filled) -> Reply {
     match p {
-        Pictured::Length(n) => storebytes::reply_of(5, 0, (n % 65536) as u32),
-        Pictured::Refused(r) => storebytes::refused(r),
+        Filled::Length(n) => storebytes::reply_of(5, 0, (n % 65536) as u32),
+        Filled::Refused(r) => storebytes::refused(r),
     }
 }
 
@@ -48,7 +48,7 @@ fn put_after(out: &mut [u8], r: Reply, s: Store)
 }
 
 // A picture into the first bytes of the buffer.
-fn pictured(s: Store, buffer: &mut [u8], lent: usize) -> Pictured {
+fn pictured(s: Store, buffer: &mut [u8], lent: usize) -> Filled {
     if lent <= buffer.len() {
         return picture::picture(s, &mut buffer[..lent]);
     }

@@ -6,6 +6,7 @@ use mathlib.Core.Bool.{false, cond}
 use mathlib.Core.List.{List}
 use borrow.Author.Tests.{leb-false}
 use lib.Dec.{leb, ltb}
+use Rattle.words.proofs.Folds.{pick}
 use Rattle.words.specs.declared.LaneNo.{LaneNo}
 use Rattle.lanes.specs.declared.Waiting.{Waiting}
 use Rattle.lanes.specs.declared.Waiting.the-variants.{Idle, Unserved, Served}
@@ -18,7 +19,6 @@ use Rattle.machine.specs.Corruption.{corruptOf}
 use Rattle.machine.specs.Change.{refuse, guarded}
 use Rattle.machine.specs.Settle.{doneIn}
 use Rattle.machine.specs.Flat.{flatBlock}
-use Rattle.machine.proofs.Sets.{pick}
 use Rattle.machine.proofs.Owes.{Pending, Rests, Completes}
 use Rattle.machine.specs.Sized.{Sized}
 use Rattle.machine.proofs.BlockState.{Status, project}

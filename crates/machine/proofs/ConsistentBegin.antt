@@ -7,6 +7,7 @@ use mathlib.Core.Bool.{Bool, true, false, cond}
 use mathlib.Core.List.{List}
 use borrow.Author.Tests.{leb-false}
 use lib.Dec.{leb}
+use Rattle.words.proofs.Folds.{pick}
 use Rattle.words.specs.declared.LaneNo.{LaneNo}
 use Rattle.words.specs.declared.WordNo.{WordNo}
 use Rattle.words.specs.declared.Op.{Op}
@@ -26,7 +27,7 @@ use Rattle.machine.specs.Change.{refuse, withLane, commitLane}
 use Rattle.machine.specs.Begin.{isLoad, readOf, beginLane, beginOf}
 use Rattle.machine.specs.Flat.{flatAfter, flatBlock}
 use Rattle.machine.proofs.Tests.{on}
-use Rattle.machine.proofs.Sets.{same?, pick}
+use Rattle.machine.proofs.Sets.{same?}
 use Rattle.machine.proofs.Sound.{sound}
 use Rattle.machine.proofs.Owes.{Pending, Rests, upd, fed, BeginOwes}
 use Rattle.machine.proofs.BlockState.{Status, Invalid, Shared, seen, blockNo, project, valueDone}

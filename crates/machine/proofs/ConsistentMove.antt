@@ -7,6 +7,7 @@ use mathlib.Core.List.{List}
 use borrow.Author.Tests.{eq-eqb, ne-eqb}
 use lib.Dec.{eqb}
 use lib.ListN.{length, set}
+use Rattle.words.proofs.Folds.{pick}
 use Rattle.words.specs.declared.LaneNo.{LaneNo}
 use Rattle.words.specs.declared.BlockNo.{BlockNo}
 use Rattle.queues.specs.declared.DownMessage.{DownMessage}
@@ -19,7 +20,7 @@ use Rattle.store.specs.Quiet.{laneAt}
 use Rattle.machine.specs.declared.Move.{Move}
 use Rattle.machine.specs.Change.{goesTo, someFull, posted, commitMove}
 use Rattle.machine.specs.Flat.{flatBlock}
-use Rattle.machine.proofs.Sets.{same?, pick}
+use Rattle.machine.proofs.Sets.{same?}
 use Rattle.machine.specs.Sized.{LaneSized}
 use Rattle.machine.proofs.BlockState.{Status, seen, blockNo, project}
 use Rattle.machine.proofs.Invariant.{Inv}

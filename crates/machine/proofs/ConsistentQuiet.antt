@@ -12,7 +12,7 @@ use lib.Dec.{ltb}
 use lib.ListN.{length, List·getD-eq-default}
 use Rattle.words.specs.Lines.{holdsOf}
 use Rattle.words.specs.Folds.{upTo, anyTo}
-use Rattle.words.proofs.Folds.{below?, any-false, any-true, any-never, or-left, or-right}
+use Rattle.words.proofs.Folds.{below?, any-false, any-true, any-never, or-left, or-right, pick}
 use Rattle.lanes.specs.declared.Lane.{Lane}
 use Rattle.lanes.specs.declared.Waiting.the-variants.{Idle}
 use Rattle.lanes.specs.declared.Found.{Found}
@@ -25,7 +25,7 @@ use Rattle.store.specs.Quiet.{laneAt, blockAt, activeOf, quietOf}
 use Rattle.machine.specs.Flat.{flatBlock}
 use Rattle.machine.specs.Flags.{lineIn, presentIn, hasCopy, owns, shownOf, Flags}
 use Rattle.machine.proofs.Tests.{on}
-use Rattle.machine.proofs.Sets.{same?, pick}
+use Rattle.machine.proofs.Sets.{same?}
 use Rattle.machine.proofs.Sound.{sound}
 use Rattle.machine.proofs.KeepsLane.{clash}
 use Rattle.machine.proofs.Owes.{Rests}

@@ -8,6 +8,7 @@ use mathlib.Core.List.{List, _∷_}
 use borrow.Author.Tests.{eq-eqb, ne-eqb, eqb-true, eqb-false}
 use lib.Dec.{eqb}
 use lib.ListN.{length-set}
+use Rattle.words.proofs.Folds.{pick}
 use Rattle.words.specs.declared.LaneNo.{LaneNo}
 use Rattle.words.specs.declared.BlockNo.{BlockNo}
 use Rattle.queues.specs.declared.ReturnMessage.{ReturnMessage}
@@ -29,7 +30,6 @@ use Rattle.machine.specs.Change.{withReturns, nobody, noMessage, commitM
 use Rattle.machine.specs.Serve.{close}
 use Rattle.machine.specs.Return.{takenBy, isAnswer, sendNothing, answered, returnMove, returnOf}
 use Rattle.machine.specs.Flat.{flatBlock}
-use Rattle.machine.proofs.Sets.{pick}
 use Rattle.machine.proofs.Sound.{sound}
 use Rattle.machine.proofs.KeepsLane.{clash}
 use Rattle.machine.proofs.Owes.{upd}

@@ -12,7 +12,7 @@ use Rattle.words.specs.declared.LaneNo.{LaneNo}
 use Rattle.words.specs.declared.BlockNo.{BlockNo}
 use Rattle.words.specs.Folds.{countTo}
 use Rattle.words.specs.Units.{blockOf}
-use Rattle.words.proofs.Folds.{below?, by-cond}
+use Rattle.words.proofs.Folds.{below?, by-cond, pick}
 use Rattle.queues.specs.declared.DownMessage.{DownMessage}
 use Rattle.lanes.specs.declared.Lane.{Lane}
 use Rattle.lanes.specs.declared.Command.{Command}
@@ -33,7 +33,6 @@ use Rattle.machine.specs.declared.Ready.{Ready}
 use Rattle.machine.specs.Change.{withWaiting, nobody, only, goesTo}
 use Rattle.machine.specs.Serve.{bareDown, orderOf, sendsOf, ordered, countOf, closedBlock, grantOf, close, readyWith, readyOf, serviceFor, serveMove, serveReady, serveOf}
 use Rattle.machine.specs.Flat.{flatBlock}
-use Rattle.machine.proofs.Sets.{pick}
 use Rattle.machine.proofs.Sound.{sound}
 use Rattle.machine.proofs.KeepsLane.{clash}
 use Rattle.machine.proofs.Sums.{sum-zero, count-sum}

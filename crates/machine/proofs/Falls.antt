@@ -10,7 +10,7 @@ use lib.ListN.{length}
 use Rattle.words.specs.declared.LaneNo.{LaneNo}
 use Rattle.words.specs.Units.{blockOf}
 use Rattle.words.specs.Folds.{countTo}
-use Rattle.words.proofs.Folds.{by-cond, count-most}
+use Rattle.words.proofs.Folds.{by-cond, count-most, pick}
 use Rattle.queues.specs.declared.ReturnMessage.{ReturnMessage}
 use Rattle.queues.specs.Queues.{emptyAt, headReturn}
 use Rattle.lanes.specs.declared.Waiting.{Waiting}
@@ -31,7 +31,6 @@ use Rattle.machine.specs.Serve.{readyWith, readyOf, serveReady, serveOf}
 use Rattle.machine.specs.Return.{returnHead, returnOf}
 use Rattle.machine.specs.Deliver.{deliverOf}
 use Rattle.machine.specs.Settle.{settleStep, boundOf, doneIn}
-use Rattle.machine.proofs.Sets.{pick}
 use Rattle.machine.proofs.Counts.{step-most}
 use Rattle.machine.proofs.Sums.{count-sum, sum-most}
 use Rattle.machine.proofs.Sound.{sound}

@@ -17,7 +17,7 @@ use Rattle.words.specs.declared.Line.{Line}
 use Rattle.words.specs.declared.Op.{Op}
 use Rattle.words.specs.Units.{blockOf}
 use Rattle.words.specs.Folds.{countTo}
-use Rattle.words.proofs.Folds.{by-cond}
+use Rattle.words.proofs.Folds.{by-cond, pick}
 use Rattle.queues.specs.declared.ReturnMessage.{ReturnMessage}
 use Rattle.queues.specs.declared.DownMessage.{DownMessage}
 use Rattle.queues.specs.declared.DownKind.{DownKind}
@@ -43,7 +43,6 @@ use Rattle.machine.specs.Begin.{complete, invalid}
 use Rattle.machine.specs.Deliver.{reply, withLine, shared, updateAt, purgeAt, fillAt, grantAt, bareAt, servedOn, grantTo, bareTo, deliverKind, deliverLane}
 use Rattle.machine.specs.Settle.{isOrder, downsOf, doneIn}
 use Rattle.machine.proofs.Tests.{on}
-use Rattle.machine.proofs.Sets.{pick}
 use Rattle.machine.specs.Sized.{LaneSized}
 
 -- what a down message adds: an order is answered, a grant is not

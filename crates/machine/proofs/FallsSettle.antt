@@ -6,6 +6,7 @@ use mathlib.Core.Path.{_≡_, refl, sym, ap, _∙_}
 use mathlib.Core.Bool.{true, false, _||_, true≢false}
 use mathlib.Core.List.{[]}
 use lib.ListN.{length, length-append}
+use Rattle.words.proofs.Folds.{pick}
 use Rattle.answers.specs.declared.Answer.{Answer}
 use Rattle.answers.specs.declared.Answer.the-variants.{Opened, Done, Wait, Step}
 use Rattle.answers.specs.declared.Refusal.{Refusal}
@@ -17,7 +18,6 @@ use Rattle.machine.specs.declared.Settled.the-variants.{Steps}
 use Rattle.machine.specs.Corruption.{corruptOf}
 use Rattle.machine.specs.Settle.{Progress, settleStep, boundOf, doneIn, advance, ended, repeatStep, Settlement, refuseSettle, reached, unlessRefused, settleOf}
 use Rattle.machine.proofs.Tests.{on}
-use Rattle.machine.proofs.Sets.{pick}
 use Rattle.machine.proofs.Sound.{sound}
 use Rattle.machine.proofs.KeepsLane.{clash}
 use Rattle.machine.proofs.KeepsRepeat.{settle-step-keeps}

@@ -10,7 +10,7 @@ use lib.Seq.{getD-set-same, getD-set-other}
 use Rattle.words.specs.declared.LaneNo.{LaneNo}
 use Rattle.words.specs.declared.BlockNo.{BlockNo}
 use Rattle.words.specs.Folds.{countTo, sumTo}
-use Rattle.words.proofs.Folds.{any-false, by-cond}
+use Rattle.words.proofs.Folds.{any-false, by-cond, pick}
 use Rattle.queues.specs.declared.DownMessage.{DownMessage}
 use Rattle.queues.specs.Queues.{fullAt}
 use Rattle.lanes.specs.declared.Lane.{Lane}
@@ -27,7 +27,6 @@ use Rattle.machine.specs.declared.Move.{Move}
 use Rattle.machine.specs.Change.{refuse, commitLane, goesTo, someFull, posted, postAll, commitMove}
 use Rattle.machine.specs.Settle.{downsOf, boundOf, doneIn}
 use Rattle.machine.proofs.Tests.{and-right}
-use Rattle.machine.proofs.Sets.{pick}
 use Rattle.machine.proofs.Sums.{sum-same, sum-change, sum-grown, sum-weights}
 use Rattle.machine.proofs.Posts.{post-all-at}
 use Rattle.machine.specs.Sized.{LaneSized, Sized}

@@ -15,7 +15,7 @@ use Rattle.words.specs.declared.Line.{Line}
 use Rattle.words.specs.declared.Op.{Op}
 use Rattle.words.specs.Lines.{noLine}
 use Rattle.words.specs.Units.{blockOf}
-use Rattle.words.proofs.Folds.{by-cond}
+use Rattle.words.proofs.Folds.{by-cond, pick}
 use Rattle.queues.specs.declared.ReturnMessage.{ReturnMessage}
 use Rattle.queues.specs.Queues.{noReturn}
 use Rattle.lanes.specs.declared.Lane.{Lane}
@@ -34,7 +34,7 @@ use Rattle.machine.specs.Change.{refuse, refuseLane}
 use Rattle.machine.specs.Begin.{isLoad, complete, waits, hit, readOf, ejectOf, invalid, evict, missWith, miss, beginAt, beginLane, beginOf}
 use Rattle.machine.specs.Deliver.{withLine}
 use Rattle.machine.proofs.Tests.{on}
-use Rattle.machine.proofs.Sets.{same?, pick}
+use Rattle.machine.proofs.Sets.{same?}
 use Rattle.machine.proofs.KeepsLane.{LaneFit, clash, join-keeps, with-line, with-returns, with-unserved, complete-keeps}
 use Rattle.machine.proofs.KeepsStore.{Fit, lane-fit, guarded-keeps, commit-lane-keeps}
 use Rattle.machine.proofs.KeepsDeliver.{found-below}

@@ -9,7 +9,7 @@ use Rattle.words.specs.declared.LineNo.{LineNo}
 use Rattle.words.specs.declared.BlockNo.{BlockNo}
 use Rattle.words.specs.declared.Line.{Line}
 use Rattle.words.specs.Lines.{holdsOf}
-use Rattle.words.proofs.Folds.{by-cond}
+use Rattle.words.proofs.Folds.{by-cond, pick}
 use Rattle.queues.specs.declared.ReturnMessage.{ReturnMessage}
 use Rattle.queues.specs.declared.ReturnKind.the-variants.{Updated, Gone}
 use Rattle.queues.specs.declared.DownMessage.{DownMessage}
@@ -32,7 +32,6 @@ use Rattle.machine.specs.declared.Ready.the-variants.{Go, No}
 use Rattle.machine.specs.Change.{refuseLane, withDowns}
 use Rattle.machine.specs.Begin.{invalid, bareReturn, wordsReturn}
 use Rattle.machine.specs.Deliver.{withLine, shared, updateAt, purgedOf, purgeAt, claimed, fillAt, grantAt, bareAt, servedOn, grantTo, bareTo, deliverKind, deliverLane, deliverOf}
-use Rattle.machine.proofs.Sets.{pick}
 use Rattle.machine.proofs.KeepsLane.{LaneFit, clash, with-line, complete-keeps, reply-keeps, taken-keeps, head-inside}
 use Rattle.machine.proofs.KeepsStore.{Fit, lane-fit, guarded-keeps, commit-lane-keeps}
 

@@ -7,7 +7,7 @@ use lib.Dec.{eqb}
 use lib.ListN.{getD}
 use Rattle.words.specs.declared.LaneNo.{LaneNo}
 use Rattle.words.specs.declared.BlockNo.{BlockNo}
-use Rattle.words.proofs.Folds.{by-cond}
+use Rattle.words.proofs.Folds.{by-cond, pick}
 use Rattle.queues.specs.declared.ReturnMessage.{ReturnMessage}
 use Rattle.queues.specs.declared.ReturnKind.{ReturnKind}
 use Rattle.queues.specs.declared.ReturnKind.the-variants.{Eject, WriteEject, Updated, Purged, PurgedWords, Gone}
@@ -27,7 +27,6 @@ use Rattle.store.specs.Control.{lowered, countedOf, answerOf}
 use Rattle.store.specs.Quiet.{laneAt, blockAt}
 use Rattle.machine.specs.Change.{refuse, withReturns}
 use Rattle.machine.specs.Return.{takenBy, isAnswer, sendNothing, answered, returnMove, returnHead, returnOf}
-use Rattle.machine.proofs.Sets.{pick}
 use Rattle.machine.proofs.Sound.{BlockSound, ControlSound}
 use Rattle.machine.proofs.KeepsLane.{LaneFit, returned-keeps, head-inside}
 use Rattle.machine.proofs.KeepsStore.{Fit, lane-fit, MoveFit, guarded-keeps, commit-move-keeps}

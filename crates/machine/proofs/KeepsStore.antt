@@ -9,7 +9,7 @@ use lib.ListN.{length, getD, set}
 use Rattle.words.specs.declared.LaneNo.{LaneNo}
 use Rattle.words.specs.declared.BlockNo.{BlockNo}
 use Rattle.words.specs.Folds.{upTo}
-use Rattle.words.proofs.Folds.{by-cond}
+use Rattle.words.proofs.Folds.{by-cond, pick}
 use Rattle.queues.specs.declared.DownMessage.{DownMessage}
 use Rattle.lanes.specs.declared.Lane.{Lane}
 use Rattle.answers.specs.Refusals.{refusedOf}
@@ -21,7 +21,7 @@ use Rattle.machine.specs.declared.LaneStep.{LaneStep}
 use Rattle.machine.specs.declared.Move.{Move}
 use Rattle.machine.specs.Corruption.{corruptOf}
 use Rattle.machine.specs.Change.{refuse, guarded, withLane, commitLane, goesTo, someFull, posted, postTo, postAll, commitMove}
-use Rattle.machine.proofs.Sets.{set-cases, pick}
+use Rattle.machine.proofs.Sets.{set-cases}
 use Rattle.machine.proofs.Sound.{LaneSound, BlockSound, ControlSound, Sound, sound}
 use Rattle.machine.proofs.KeepsLane.{LaneFit, posted-keeps}
 

@@ -1,4 +1,5 @@
 pub mod Table
+pub mod Lengths
 pub mod Tests
 pub mod Shape
 pub mod Sound

@@ -13,7 +13,7 @@ use Rattle.words.specs.declared.LaneNo.{LaneNo}
 use Rattle.words.specs.declared.BlockNo.{BlockNo}
 use Rattle.words.specs.Units.{blockOf}
 use Rattle.words.specs.Lines.{noLine, holdsOf}
-use Rattle.words.proofs.Folds.{any-never, by-cond}
+use Rattle.words.proofs.Folds.{any-never, by-cond, pick}
 use Rattle.queues.specs.declared.ReturnMessage.{ReturnMessage}
 use Rattle.queues.specs.declared.DownMessage.{DownMessage}
 use Rattle.queues.specs.declared.DownKind.{DownKind}
@@ -42,7 +42,7 @@ use Rattle.machine.specs.Deliver.{reply, updateAt, purgeAt, fillAt, gran
 use Rattle.machine.specs.Settle.{isOrder}
 use Rattle.machine.specs.Flat.{flatBlock}
 use Rattle.machine.proofs.Tests.{on, or-never}
-use Rattle.machine.proofs.Sets.{same?, pick}
+use Rattle.machine.proofs.Sets.{same?}
 use Rattle.machine.proofs.Counts.{step-most}
 use Rattle.machine.proofs.KeepsLane.{clash}
 use Rattle.machine.proofs.KeepsBegin.{all-valid}

@@ -17,7 +17,7 @@ use Rattle.words.specs.declared.Op.{Op}
 use Rattle.words.specs.Units.{blockOf}
 use Rattle.words.specs.Lines.{noLine, holdsOf}
 use Rattle.words.specs.Folds.{anyTo}
-use Rattle.words.proofs.Folds.{by-cond, any-true, any-false, any-never}
+use Rattle.words.proofs.Folds.{by-cond, any-true, any-false, any-never, pick}
 use Rattle.queues.specs.declared.ReturnMessage.{ReturnMessage}
 use Rattle.queues.specs.declared.DownMessage.{DownMessage}
 use Rattle.queues.specs.declared.DownKind.{DownKind}
@@ -45,7 +45,7 @@ use Rattle.machine.specs.Begin.{isLoad, complete, waits, hit, readOf, ej
 use Rattle.machine.specs.Deliver.{reply, shared, updateAt, purgedOf, purgeAt, fillAt, grantAt, bareAt, servedOn, grantTo, bareTo, deliverKind, orAsBefore, deliverLane}
 use Rattle.machine.specs.Return.{isAnswer}
 use Rattle.machine.proofs.Tests.{on}
-use Rattle.machine.proofs.Sets.{set-cases, pick}
+use Rattle.machine.proofs.Sets.{set-cases}
 use Rattle.machine.specs.Sized.{LaneSized}
 use Rattle.machine.proofs.Queued.{returnsIn, push-returns}
 use Rattle.machine.proofs.Searches.{holds-valid, found-holds, vacant-invalid}

@@ -12,7 +12,7 @@ use lib.ListN.{getD, set}
 use Rattle.words.specs.declared.LaneNo.{LaneNo}
 use Rattle.words.specs.declared.BlockNo.{BlockNo}
 use Rattle.words.specs.Units.{blockOf}
-use Rattle.words.proofs.Folds.{any-never, by-cond}
+use Rattle.words.proofs.Folds.{any-never, by-cond, pick}
 use Rattle.queues.specs.declared.ReturnMessage.{ReturnMessage}
 use Rattle.queues.specs.Queues.{fullAt, emptyAt, headReturn, takeReturn}
 use Rattle.lanes.specs.declared.Lane.{Lane}
@@ -36,7 +36,7 @@ use Rattle.machine.specs.Change.{withReturns, goesTo, someFull, commitMo
 use Rattle.machine.specs.Serve.{ordered, countOf, close, readyWith, readyOf, serveMove, serveReady, serveOf}
 use Rattle.machine.specs.Return.{takenBy, isAnswer, answered, returnMove, returnOf}
 use Rattle.machine.proofs.Tests.{and-never}
-use Rattle.machine.proofs.Sets.{pick, set-cases}
+use Rattle.machine.proofs.Sets.{set-cases}
 use Rattle.machine.proofs.Sound.{sound}
 use Rattle.machine.proofs.BlockState.{keepIf, returnAbout, seen}
 use Rattle.machine.proofs.Queued.{returnsIn}

@@ -10,7 +10,7 @@ use lib.Dec.{eqb}
 use lib.ListN.{set}
 use Rattle.words.specs.declared.LaneNo.{LaneNo}
 use Rattle.words.specs.declared.BlockNo.{BlockNo}
-use Rattle.words.proofs.Folds.{by-cond}
+use Rattle.words.proofs.Folds.{by-cond, pick}
 use Rattle.queues.specs.declared.DownMessage.{DownMessage}
 use Rattle.store.specs.declared.Store.{Store}
 use Rattle.store.specs.declared.Outcome.{Outcome}
@@ -20,7 +20,7 @@ use Rattle.store.specs.Quiet.{laneAt}
 use Rattle.machine.specs.declared.Move.{Move}
 use Rattle.machine.specs.Change.{goesTo, someFull, commitMove}
 use Rattle.machine.specs.Settle.{isOrder}
-use Rattle.machine.proofs.Sets.{same?, pick}
+use Rattle.machine.proofs.Sets.{same?}
 use Rattle.machine.proofs.Owes.{upd}
 use Rattle.machine.proofs.BlockState.{Seen, BlockState, seen, project}
 use Rattle.machine.proofs.Invariant.{owed}

@@ -9,7 +9,7 @@ use borrow.Author.Tests.{eq-eqb, ne-eqb, eqb-true, eqb-false}
 use lib.Dec.{eqb}
 use Rattle.words.specs.declared.LaneNo.{LaneNo}
 use Rattle.words.specs.declared.BlockNo.{BlockNo}
-use Rattle.words.proofs.Folds.{by-cond}
+use Rattle.words.proofs.Folds.{by-cond, pick}
 use Rattle.queues.specs.declared.ReturnMessage.{ReturnMessage}
 use Rattle.queues.specs.declared.DownMessage.{DownMessage}
 use Rattle.queues.specs.Queues.{emptyAt, headReturn, takeReturn}
@@ -31,7 +31,6 @@ use Rattle.machine.specs.Serve.{grantOf, close}
 use Rattle.machine.specs.Return.{takenBy, isAnswer, sendNothing, answered, returnMove, returnOf}
 use Rattle.machine.specs.Settle.{isOrder}
 use Rattle.machine.specs.Flat.{flatBlock}
-use Rattle.machine.proofs.Sets.{pick}
 use Rattle.machine.proofs.KeepsLane.{clash}
 use Rattle.machine.proofs.Sound.{sound}
 use Rattle.machine.proofs.Owes.{upd}

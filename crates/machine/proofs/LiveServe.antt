@@ -7,6 +7,7 @@ use mathlib.Core.Bool.{Bool}
 use mathlib.Core.List.{List}
 use borrow.Author.Tests.{eqb-true, eqb-false, ltb-false}
 use lib.Dec.{eqb, ltb}
+use Rattle.words.proofs.Folds.{pick}
 use Rattle.words.specs.declared.LaneNo.{LaneNo}
 use Rattle.words.specs.declared.BlockNo.{BlockNo}
 use Rattle.words.specs.Units.{blockOf}
@@ -28,7 +29,6 @@ use Rattle.machine.specs.declared.Ready.{Ready}
 use Rattle.machine.specs.declared.Move.{Move}
 use Rattle.machine.specs.Change.{withWaiting, only, commitMove}
 use Rattle.machine.specs.Serve.{bareDown, orderOf, ordered, countOf, grantOf, close, readyWith, readyOf, serviceFor, serveMove, serveReady, serveOf}
-use Rattle.machine.proofs.Sets.{pick}
 use Rattle.machine.proofs.Sound.{sound}
 use Rattle.machine.proofs.Owes.{upd}
 use Rattle.machine.proofs.Updates.{upd-cases}

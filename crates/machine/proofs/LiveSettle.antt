@@ -4,7 +4,7 @@ use Prim.Native.Nat.{ℕ, zero, suc}
 use mathlib.Core.Path.{_≡_, refl, ap, _∙_}
 use mathlib.Core.Bool.{true, false}
 use mathlib.Core.List.{List, [], _∷_, _++_, List·Memᴰ}
-use Rattle.words.proofs.Folds.{or-right}
+use Rattle.words.proofs.Folds.{or-right, pick}
 use Rattle.answers.specs.declared.Answer.{Answer}
 use Rattle.answers.specs.declared.Answer.the-variants.{Opened, Done, Wait, Step}
 use Rattle.answers.specs.Refusals.{refusedOf}
@@ -19,7 +19,6 @@ use Rattle.machine.specs.Attribution.{Begun}
 use Rattle.machine.specs.Demand3.{begun, operations}
 use Rattle.machine.specs.Completion.{Settles, AlwaysSettles}
 use Rattle.machine.proofs.KeepsLane.{clash}
-use Rattle.machine.proofs.Sets.{pick}
 use Rattle.machine.proofs.FallsSettle.{startAt, lastOf, last-quiet}
 use Rattle.machine.proofs.Consistent.{Consistent}
 use Rattle.machine.proofs.ConsistentSettle.{step-leads}

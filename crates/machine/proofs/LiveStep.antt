@@ -11,7 +11,7 @@ use borrow.Author.Tests.{ltb-true, ltb-false, eq-eqb}
 use lib.Dec.{ltb}
 use Rattle.words.specs.Units.{blockOf}
 use Rattle.words.specs.Folds.{lowestTo}
-use Rattle.words.proofs.Folds.{below?, any-never}
+use Rattle.words.proofs.Folds.{below?, any-never, pick}
 use Rattle.lanes.specs.declared.Operation.{Operation}
 use Rattle.lanes.specs.declared.Waiting.{Waiting}
 use Rattle.lanes.specs.declared.Waiting.the-variants.{Idle, Unserved, Served}
@@ -23,7 +23,6 @@ use Rattle.store.specs.declared.Control.{Control}
 use Rattle.store.specs.declared.Control.the-variants.{Free, Busy}
 use Rattle.store.specs.Quiet.{laneAt, activeOf, quietOf}
 use Rattle.machine.specs.Settle.{lane, settleStep}
-use Rattle.machine.proofs.Sets.{pick}
 use Rattle.machine.proofs.KeepsLane.{clash}
 use Rattle.machine.proofs.Sound.{sound}
 use Rattle.machine.proofs.BlockState.{seen, project}

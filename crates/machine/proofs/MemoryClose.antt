@@ -7,6 +7,7 @@ use mathlib.Core.Bool.{Bool, true, false, cond}
 use mathlib.Core.List.{List, []}
 use borrow.Author.Tests.{eq-eqb, ne-eqb}
 use lib.Seq.{getD-set-same, getD-set-other}
+use Rattle.words.proofs.Folds.{pick}
 use Rattle.words.specs.declared.LaneNo.{LaneNo}
 use Rattle.queues.specs.declared.DownMessage.{DownMessage}
 use Rattle.queues.specs.declared.DownKind.the-variants.{Grant, BareGrant}
@@ -21,7 +22,7 @@ use Rattle.machine.specs.Begin.{isLoad}
 use Rattle.machine.specs.Change.{nobody, only}
 use Rattle.machine.specs.Serve.{closedBlock, grantOf}
 use Rattle.machine.specs.Settle.{isOrder}
-use Rattle.machine.proofs.Sets.{same?, pick}
+use Rattle.machine.proofs.Sets.{same?}
 use Rattle.machine.proofs.KeepsLane.{clash}
 use Rattle.machine.proofs.Owes.{upd}
 use Rattle.machine.proofs.BlockState.{Status, Invalid, Shared, Modified, held, dirty, Seen, BlockState}

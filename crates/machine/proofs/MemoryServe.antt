@@ -9,7 +9,7 @@ use borrow.Author.Tests.{eq-eqb, ne-eqb}
 use Rattle.words.specs.declared.LaneNo.{LaneNo}
 use Rattle.words.specs.Units.{blockOf}
 use Rattle.words.specs.Folds.{sumTo}
-use Rattle.words.proofs.Folds.{or-left, or-right}
+use Rattle.words.proofs.Folds.{or-left, or-right, pick}
 use Rattle.queues.specs.declared.ReturnMessage.{ReturnMessage}
 use Rattle.queues.specs.declared.ReturnKind.{ReturnKind}
 use Rattle.queues.specs.declared.ReturnKind.the-variants.{Eject, WriteEject, Updated, Purged, PurgedWords, Gone}
@@ -30,7 +30,7 @@ use Rattle.machine.specs.Serve.{bareDown, orderOf, ordered, countOf, ser
 use Rattle.machine.specs.Return.{isAnswer}
 use Rattle.machine.specs.Settle.{isOrder}
 use Rattle.machine.proofs.Tests.{on}
-use Rattle.machine.proofs.Sets.{same?, pick}
+use Rattle.machine.proofs.Sets.{same?}
 use Rattle.machine.proofs.Sums.{sum-same, count-sum}
 use Rattle.machine.proofs.KeepsLane.{clash}
 use Rattle.machine.proofs.BlockState.{Status, Modified, held, Seen, BlockState}

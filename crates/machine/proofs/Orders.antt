@@ -9,10 +9,11 @@ use borrow.Author.Tests.{eq-eqb, ne-eqb}
 use lib.Dec.{eqb}
 use lib.ListN.{length, set, length-set}
 use lib.Seq.{getD-set-same, getD-set-other}
+use Rattle.words.proofs.Folds.{pick}
 use Rattle.words.specs.declared.LineNo.{LineNo}
 use Rattle.words.specs.Folds.{upTo}
 use Rattle.lanes.specs.UseOrder.{placeAt, carryOf, usedOf}
-use Rattle.machine.proofs.Sets.{same?, pick}
+use Rattle.machine.proofs.Sets.{same?}
 use Rattle.machine.proofs.Sound.{Ordered}
 
 -- places k and k + 1 change over

@@ -17,7 +17,7 @@ use Rattle.words.specs.declared.Op.{Op}
 use Rattle.words.specs.Units.{blockOf}
 use Rattle.words.specs.Lines.{holdsOf}
 use Rattle.words.specs.Operations.{performOf}
-use Rattle.words.proofs.Folds.{or-left, or-right}
+use Rattle.words.proofs.Folds.{or-left, or-right, pick}
 use Rattle.queues.specs.declared.ReturnMessage.{ReturnMessage}
 use Rattle.queues.specs.declared.ReturnQueue.{ReturnQueue}
 use Rattle.queues.specs.Queues.{pushReturn}
@@ -40,7 +40,6 @@ use Rattle.machine.specs.declared.LaneStep.{LaneStep}
 use Rattle.machine.specs.Change.{refuseLane, withWaiting}
 use Rattle.machine.specs.Begin.{isLoad, complete, waits, hit, readOf, ejectOf, invalid, evict, missWith, miss, beginAt, beginLane}
 use Rattle.machine.proofs.Tests.{on}
-use Rattle.machine.proofs.Sets.{pick}
 use Rattle.machine.proofs.KeepsLane.{clash}
 use Rattle.machine.proofs.KeepsBegin.{all-valid}
 use Rattle.machine.specs.Sized.{LaneSized}

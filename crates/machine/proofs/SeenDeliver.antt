@@ -8,6 +8,7 @@ use mathlib.Core.List.{List, [], _∷_}
 use borrow.Author.Tests.{eqb-true, eqb-false, eq-eqb, ne-eqb}
 use lib.Dec.{eqb}
 use lib.ListN.{length, set}
+use Rattle.words.proofs.Folds.{pick}
 use Rattle.words.specs.declared.LaneNo.{LaneNo}
 use Rattle.words.specs.declared.LineNo.{LineNo}
 use Rattle.words.specs.declared.BlockNo.{BlockNo}
@@ -39,7 +40,6 @@ use Rattle.machine.specs.Change.{refuseLane, withDowns}
 use Rattle.machine.specs.Begin.{isLoad, complete, invalid, bareReturn, wordsReturn}
 use Rattle.machine.specs.Deliver.{reply, shared, updateAt, purgedOf, purgeAt, claimed, fillAt, grantAt, bareAt, servedOn, grantTo, bareTo, deliverKind, orAsBefore, deliverLane}
 use Rattle.machine.proofs.Tests.{on}
-use Rattle.machine.proofs.Sets.{pick}
 use Rattle.machine.proofs.KeepsLane.{clash}
 use Rattle.machine.specs.Sized.{LaneSized}
 use Rattle.machine.proofs.BlockState.{Status, Invalid, Shared, Modified, held, Seen, keepIf, returnAbout, downAbout, statusAt, wordsAt, waitingOn, seen, wordsDone, valueDone}

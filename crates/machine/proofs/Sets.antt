@@ -34,8 +34,3 @@ set-here P l k x d new past = go (below? k (length l))
     go : (k < length l) ⊎ (length l ≤ k) → P (getD (set l k x) k d)
     go (inl h) = rw (getD-set-same l k x d h) new
     go (inr h) = rw (set-out l k x h, List·getD-eq-default l d h) past
-
--- what holds of both answers, each under its test, holds of the one picked
-pub pick : {A : Type 0} (P : A → Type 0) (b : Bool) (x y : A) → (b ≡ true → P x) → (b ≡ false → P y) → P (cond b x y)
-pick P true x y p q = p refl
-pick P false x y p q = q refl

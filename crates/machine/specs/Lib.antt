@@ -7,6 +7,7 @@ pub mod Return
 pub mod Deliver
 pub mod Settle
 pub mod Sized
+pub mod Fill
 pub mod Picture
 pub mod Tape
 pub mod Text

@@ -3,16 +3,15 @@ use Prim.Native.Nat.{ℕ, _/_, _%_}
 use mathlib.Core.Bool.{cond}
 use mathlib.Core.List.{List, [], _∷_, _++_}
 use lib.Dec.{ltb}
-use lib.ListN.{length, getD, drop}
+use lib.ListN.{length, getD}
 use Rattle.words.specs.declared.Line.{Line}
 use Rattle.words.specs.Lines.{noLine}
 use Rattle.words.specs.Folds.{gatherTo}
 use Rattle.answers.specs.declared.Refusal.the-variants.{Corrupt, BufferTooShort}
 use Rattle.store.specs.declared.Store.{Store}
 use Rattle.store.specs.Quiet.{laneAt}
-use Rattle.machine.specs.declared.Pictured.{Pictured}
-use Rattle.machine.specs.declared.Pictured.the-variants.{Length, Refused}
 use Rattle.machine.specs.Corruption.{corruptOf}
+use Rattle.machine.specs.Fill.{Filling, unwritten, filledWith}
 
 -- a word in four bytes, low byte first
 abbrev pub wordBytes : ℕ → List ℕ
@@ -34,15 +33,8 @@ lineBytes s k i = let x = getD (laneAt s k .lines) i noLine in cond (x .valid) (
 unfoldable pub pictureBytes : Store → List ℕ
 pictureBytes s = gatherTo (λ k. gatherTo (lineBytes s k) (s .c)) (s .n)
 
--- what picture gives: its answer, and the lent buffer after it
-pub record PictureOutcome : Type 0 where
-  pub answer : Pictured
-  pub buffer : List ℕ
-
 -- It gives the length; bytes after the records are unchanged. On 14 and on 15 nothing is written
-unfoldable pub pictureOf : Store → List ℕ → PictureOutcome
+unfoldable pub pictureOf : Store → List ℕ → Filling
 pictureOf s buffer =
     let p = pictureBytes s in
-    cond (corruptOf s) (record { answer = Refused Corrupt; buffer = buffer })
-    (cond (ltb (length buffer) (length p)) (record { answer = Refused BufferTooShort; buffer = buffer })
-    (record { answer = Length (length p); buffer = p ++ drop (length p) buffer }))
+    cond (corruptOf s) (unwritten Corrupt buffer) (cond (ltb (length buffer) (length p)) (unwritten BufferTooShort buffer) (filledWith p buffer))

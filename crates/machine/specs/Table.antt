@@ -152,7 +152,7 @@ rows =
     record { given = opening 2 1 65; wanted = Number 5 } ∷
     record { given = loads (opened 2 1 1) 3; wanted = Answers Wait } ∷
     record { given = loads (opened 2 1 1) 4; wanted = Number 7 } ∷
-    record { given = Lines (replayOf wholeTape .lines); wanted = Lines wholeLines } ∷
+    record { given = Lines (replayOf wholeTape); wanted = Lines wholeLines } ∷
     record { given = Bytes (printed wholeTape); wanted = Bytes wholeText } ∷
     record { given = Word (applyOf (Op.Add 1) 4294967295 .word); wanted = Word 0 } ∷
     record { given = Word (applyOf (Op.Exchange 9) 7 .word); wanted = Word 9 } ∷

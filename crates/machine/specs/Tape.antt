@@ -1,17 +1,15 @@
--- 01, "Tape and picture": a tape's records and their replay. Assumes nothing.
-use Prim.Native.Nat.{ℕ, zero, suc, _+_, _-_, _*_}
-use mathlib.Core.Bool.{Bool, false, not, cond}
+-- 01, "Tape and picture": what a record does, and a tape's replay. What a record is: crates/records. Assumes nothing.
+use Prim.Native.Nat.{ℕ, zero, suc}
+use mathlib.Core.Bool.{Bool, not, cond}
 use mathlib.Core.List.{List, [], _∷_}
-use lib.Dec.{leb, ltb, eqb}
-use lib.ListN.{length, getD, drop}
-use Rattle.words.specs.declared.LaneNo.{LaneNo}
-use Rattle.words.specs.declared.WordNo.{WordNo}
-use Rattle.words.specs.declared.Op.{Op}
-use Rattle.words.specs.declared.Op.the-variants as Op
+use lib.Dec.{eqb}
+use lib.ListN.{length, drop}
+use Rattle.records.specs.declared.Record.{Record}
+use Rattle.records.specs.declared.Record.the-variants as Record
+use Rattle.records.specs.Records.{parseOf}
 use Rattle.answers.specs.declared.Answer.{Answer}
-use Rattle.answers.specs.declared.Answer.the-variants.{Opened, Done, Wait, Step, Refused}
+use Rattle.answers.specs.declared.Answer.the-variants.{Opened}
 use Rattle.answers.specs.declared.Refusal.the-variants.{Truncated, UnknownKind, NotOpen, AlreadyOpen, InvalidShape}
-use Rattle.answers.specs.Refusals.{numberOf}
 use Rattle.store.specs.declared.Store.{Store}
 use Rattle.store.specs.declared.Outcome.{Outcome}
 use Rattle.store.specs.Opening.{badShape, freshOf}
@@ -21,82 +19,40 @@ use Rattle.machine.specs.Serve.{serveOf}
 use Rattle.machine.specs.Return.{returnOf}
 use Rattle.machine.specs.Deliver.{deliverOf}
 
--- A record is one byte of kind, then a body whose length the kind fixes: 00 lanes, lines, blocks; 01 lane, word; 02, 03, 04 lane, word, v in four bytes; 05, 06, 07 lane
-abbrev pub bodyLength : ℕ → ℕ
-bodyLength kind = cond (eqb kind 0) 3 (cond (eqb kind 1) 2 (cond (leb kind 4) 6 1))
-
--- a field of one byte
-abbrev pub field : List ℕ → ℕ → ℕ
-field body i = getD body i 0
-
--- v in four bytes, low byte first
-abbrev pub valueOf : List ℕ → ℕ
-valueOf bytes = field bytes 0 + 256 * field bytes 1 + 65536 * field bytes 2 + 16777216 * field bytes 3
-
--- 01 load, 02 store, 03 exchange, 04 add
-abbrev pub opOf : ℕ → ℕ → Op
-opOf kind v = cond (eqb kind 1) Op.Load (cond (eqb kind 2) (Op.Store v) (cond (eqb kind 3) (Op.Exchange v) (Op.Add v)))
-
--- the first field as a lane, the second as a word
-abbrev pub laneField : List ℕ → LaneNo
-laneField body = record { 0 = field body 0 }
-
-abbrev pub wordField : List ℕ → WordNo
-wordField body = record { 0 = field body 1 }
-
--- kinds 01 to 07: the call
-unfoldable pub callRecord : Store → ℕ → List ℕ → Outcome
-callRecord s kind body =
-    cond (leb kind 4) (beginOf s (laneField body) (opOf kind (valueOf (drop 2 body))) (wordField body))
-    (cond (eqb kind 5) (serveOf s (laneField body))
-    (cond (eqb kind 6) (returnOf s (laneField body)) (deliverOf s (laneField body))))
-
 -- an open that wasn't refused has been read; before it the store is the blank one, with n = 0
 abbrev pub isOpen : Store → Bool
 isOpen s = not (eqb (s .n) 0)
 
 -- kind 00: 4, 5, then the opening
-unfoldable pub openRecord : Store → List ℕ → Outcome
-openRecord s body =
+unfoldable pub openRecord : Store → ℕ → ℕ → ℕ → Outcome
+openRecord s n c m =
     cond (isOpen s) (refuse AlreadyOpen s)
-    (cond (badShape (field body 0) (field body 1) (field body 2)) (refuse InvalidShape s)
-    (record { answer = Opened; store = freshOf (field body 0) (field body 1) (field body 2) }))
+    (cond (badShape n c m) (refuse InvalidShape s)
+    (record { answer = Opened; store = freshOf n c m }))
 
--- kind 00, or 3 and then the call
-abbrev pub wholeRecord : Store → ℕ → List ℕ → Outcome
-wholeRecord s kind body =
-    cond (eqb kind 0) (openRecord s body) (cond (isOpen s) (callRecord s kind body) (refuse NotOpen s))
+-- kinds 01 to 07: 3 before an open that wasn't refused, then the call
+abbrev pub whenOpen : Store → Outcome → Outcome
+whenOpen s r = cond (isOpen s) r (refuse NotOpen s)
 
--- the record at the start of a tape: 2, 1, then the rest
-unfoldable pub recordOf : Store → List ℕ → Outcome
-recordOf s tape =
-    let kind = field tape 0 in
-    cond (ltb 7 kind) (refuse UnknownKind s)
-    (cond (ltb (length tape - 1) (bodyLength kind)) (refuse Truncated s) (wholeRecord s kind (drop 1 tape)))
+-- what a record does: 2 and 1, or what its kind says
+unfoldable pub recordOf : Store → Record → Outcome
+recordOf s Record.Unknown = refuse UnknownKind s
+recordOf s Record.Truncated = refuse Truncated s
+recordOf s (Record.Open n c m) = openRecord s n c m
+recordOf s (Record.Begin k op w) = whenOpen s (beginOf s k op w)
+recordOf s (Record.Serve k) = whenOpen s (serveOf s k)
+recordOf s (Record.Return k) = whenOpen s (returnOf s k)
+recordOf s (Record.Deliver k) = whenOpen s (deliverOf s k)
 
--- After refusal 1 or 2 no more records are read
-abbrev pub endsTape : Answer → Bool
-endsTape Opened = false
-endsTape (Done x) = false
-endsTape Wait = false
-endsTape Step = false
-endsTape (Refused r) = leb (numberOf r) 2
-
--- what a replay gives: a line for each record read, and the last store
-pub record Replay : Type 0 where
-  pub lines : List Answer
-  pub store : Store
-
--- the records of a tape one after the other, here at most the given number of them; one store serves all of them
-unfoldable pub replayFrom : ℕ → Store → List ℕ → Replay
-replayFrom zero s tape = record { lines = []; store = s }
+-- the answers to a tape's records one after the other, here at most the given number of them; one store serves all of them
+unfoldable pub replayFrom : ℕ → Store → List ℕ → List Answer
+replayFrom zero s tape = []
 replayFrom (suc more) s tape =
-    let r = recordOf s tape in
-    let rest = replayFrom more (r .store) (drop (1 + bodyLength (field tape 0)) tape) in
-    cond (eqb (length tape) 0) (record { lines = []; store = s })
-    (cond (endsTape (r .answer)) (record { lines = r .answer ∷ []; store = r .store })
-    (record { lines = r .answer ∷ rest .lines; store = rest .store }))
+    let p = parseOf tape in
+    let r = recordOf s (p .rec) in
+    let rest = replayFrom more (r .store) (drop (p .size) tape) in
+    cond (eqb (length tape) 0) [] (r .answer ∷ rest)
 
 -- a whole tape, from the blank store; a record takes a byte or more, so its length is number enough
-unfoldable pub replayOf : List ℕ → Replay
+unfoldable pub replayOf : List ℕ → List Answer
 replayOf tape = replayFrom (length tape) (freshOf 0 0 0) tape

@@ -7,8 +7,9 @@ use lib.ListN.{length}
 use Rattle.answers.specs.declared.Answer.{Answer}
 use Rattle.answers.specs.declared.Answer.the-variants.{Opened, Done, Wait, Step, Refused}
 use Rattle.answers.specs.declared.Refusal.{Refusal}
-use Rattle.answers.specs.declared.Refusal.the-variants.{TapeTooLong}
+use Rattle.answers.specs.declared.Refusal.the-variants.{TapeTooLong, BufferTooShort}
 use Rattle.answers.specs.Refusals.{numberOf}
+use Rattle.machine.specs.Fill.{Filling, unwritten, filledWith}
 use Rattle.machine.specs.Tape.{replayOf}
 
 -- a number in decimal, in at most the given number of digits
@@ -49,8 +50,20 @@ linesText index (a ∷ rest) = lineText index a ++ linesText (suc index) rest
 unfoldable pub endText : ℕ → List ℕ
 endText count = 101 ∷ 110 ∷ 100 ∷ (spaced count ++ (10 ∷ []))
 
+-- a tape's length at most
+abbrev pub tapeMost : ℕ
+tapeMost = 65536
+
 -- A tape over 65,536 bytes prints only `refused 13`
 unfoldable pub printed : List ℕ → List ℕ
 printed tape =
-    let lines = replayOf tape .lines in
-    cond (ltb 65536 (length tape)) (refusedText TapeTooLong ++ (10 ∷ [])) (linesText 0 lines ++ endText (length lines))
+    let lines = replayOf tape in
+    cond (ltb tapeMost (length tape)) (refusedText TapeTooLong ++ (10 ∷ [])) (linesText 0 lines ++ endText (length lines))
+
+-- room for the longest text there is: 20 bytes for each byte of a tape. `text-fits` (proofs/Room.antt) says that it is enough
+abbrev pub textMost : ℕ
+textMost = 1310720
+
+-- a tape's text into a lent buffer; one that may not hold the longest text is refused by 15
+unfoldable pub printOf : List ℕ → List ℕ → Filling
+printOf tape buffer = cond (ltb (length buffer) textMost) (unwritten BufferTooShort buffer) (filledWith (printed tape) buffer)

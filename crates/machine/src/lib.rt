@@ -37,8 +37,8 @@ pub enum Settled {
     Refused(Refusal),
 }
 
-// What picture answers: how many bytes it wrote, or why it is refused.
-pub enum Pictured {
+// What a call answers that fills a lent buffer, a picture or a tape's text: how many bytes it wrote, or why it is refused.
+pub enum Filled {
     Length(usize),
     Refused(Refusal),
 }

@@ -9,7 +9,7 @@ ghost use Rattle.machine.specs.Picture.{wordBytes, recordBytes, pictureBytes, p
 ghost use Rattle.picture.specs.Records.{lineRecord, laneRecords, validIn, validOf};
 use answers::Refusal;
 use lanes::Lane;
-use machine::Pictured;
+use machine::Filled;
 use store::Store;
 use words::LaneNo;
 use words::Line;
@@ -136,17 +136,17 @@ fn write_lanes(buffer: &mut [u8], s: Store) -> usize
 }
 
 // Picture.
-pub fn picture(s: Store, buffer: &mut [u8]) -> Pictured
+pub fn picture(s: Store, buffer: &mut [u8]) -> Filled
     ensures { λ r. ⌜ (r ≡ pictureOf s (now (buffer .entry)) .answer) × (now (buffer .exit) ≡ pictureOf s (now (buffer .entry)) .buffer) ⌝ }
 {
     if checks::corrupt(s) {
-        return Pictured::Refused(Refusal::Corrupt);
+        return Filled::Refused(Refusal::Corrupt);
     }
     let lines = valid_lines(s);
     let needed = RECORD * lines;
     if buffer.len() < needed {
-        return Pictured::Refused(Refusal::BufferTooShort);
+        return Filled::Refused(Refusal::BufferTooShort);
     }
     let end = write_lanes(buffer, s);
-    Pictured::Length(end)
+    Filled::Length(end)
 }

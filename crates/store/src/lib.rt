@@ -246,7 +246,7 @@ fn active(l: Lane) -> bool
     true
 }
 
-// Whether the store is quiet: no operation waits, no service, queues empty.
+// Whether the store is quiet: no operation waits, no service, queues empty. For settle, on a store that is not corrupt.
 pub fn quiet(s: Store) -> bool
     ensures { λ r. ⌜ r ≡ quietOf s ⌝ }
 {

@@ -4,18 +4,7 @@ use native.Mathlib.Omega.{arith}
 use mathlib.Core.Path.{_≡_, refl}
 use mathlib.Core.List.{List, [], _∷_, _++_}
 use borrow.Author.Tests.{lt-ltb, le-ltb}
-use lib.Dec.{ltb}
-use lib.ListN.{length, length-append}
-use Rattle.words.proofs.Folds.{by-cond}
 use Rattle.machine.specs.Text.{decimalIn}
-
--- a number has at most the given number of digits
-pub decimal-fits : (more n : ℕ) → length (decimalIn more n) ≤ more
-unfolding decimalIn
-decimal-fits zero n = omega arith
-decimal-fits (suc more) n =
-    let h = decimal-fits more (n / 10) in
-    by-cond (λ (l : List ℕ). length l ≤ suc more) (ltb n 10) _ _ (omega arith) (simp length-append (omega arith))
 
 -- no digits
 pub decimal-none : (n : ℕ) → decimalIn 0 n ≡ []

@@ -13,6 +13,11 @@ pub written-none : (xs : List ℕ) (at : ℕ) → xs ≡ written xs at []
 unfolding written
 written-none xs at = let e : at + 0 ≡ at = omega arith in sym (rw e (take-append-drop at xs))
 
+-- a write from the start on
+pub written-front : (xs ys : List ℕ) → written xs 0 ys ≡ ys ++ drop (length ys) xs
+unfolding written
+written-front xs ys = let z : 0 + length ys ≡ length ys = omega arith in rw z
+
 -- a store of one byte
 pub written-one : (xs : List ℕ) (at b : ℕ) → at < length xs → set xs at b ≡ written xs at (b ∷ [])
 unfolding written

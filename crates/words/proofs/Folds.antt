@@ -105,6 +105,11 @@ pub by-cond : {A : Type 0} (P : A → Type 0) (b : Bool) (x y : A) → P x → P
 by-cond P true x y p q = p
 by-cond P false x y p q = q
 
+-- .. each under its test
+pub pick : {A : Type 0} (P : A → Type 0) (b : Bool) (x y : A) → (b ≡ true → P x) → (b ≡ false → P y) → P (cond b x y)
+pick P true x y p q = p refl
+pick P false x y p q = q refl
+
 -- the answer is not the one that the test picks, so the test failed
 pub skip : {A : Type 0} (b : Bool) {x y z : A} → cond b x y ≡ z → (x ≡ z → ⊥) → (b ≡ false) × (y ≡ z)
 skip true e n = absurd (n e)

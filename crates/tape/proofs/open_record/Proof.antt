@@ -5,15 +5,6 @@ use borrow.Author.Needs.{needs}
 use Rattle.tape.proofs.open_record.Statement.{statement}
 use Rattle.tape.proofs.open_record.Tie as tie
 
-shared-slice-read-n : tie.Need-shared-slice-read-n
-shared-slice-read-n c = search needs
-
-shared-slice-read-c : tie.Need-shared-slice-read-c
-shared-slice-read-c c = search needs
-
-shared-slice-read-m : tie.Need-shared-slice-read-m
-shared-slice-read-m c = search needs
-
 bad-shape-requires : tie.Need-bad-shape-requires
 bad-shape-requires c κs = search needs
 
@@ -22,14 +13,14 @@ refused-requires c κs = search needs
 
 returns : tie.Need-returns
 unfolding openRecord
-returns c = rw (openRecord, eq-eqb _ _ (c .before .before .before .before .before .before .if1 .taken), ← c .before .before .bad-shape .ensures, c .before .if2 .taken, c .refused .ensures)
+returns c = rw (openRecord, eq-eqb _ _ (c .before .before .before .if1 .taken), ← c .before .before .bad-shape .ensures, c .before .if2 .taken, c .refused .ensures)
 
 fresh-requires : tie.Need-fresh-requires
 fresh-requires c κs = search needs
 
 returns-2 : tie.Need-returns-2
 unfolding openRecord
-returns-2 c = rw (openRecord, eq-eqb _ _ (c .before .before .before .before .before .before .if1 .taken), ← c .before .before .bad-shape .ensures, c .before .if2 .left, c .fresh .ensures)
+returns-2 c = rw (openRecord, eq-eqb _ _ (c .before .before .before .if1 .taken), ← c .before .before .bad-shape .ensures, c .before .if2 .left, c .fresh .ensures)
 
 refused-requires-2 : tie.Need-refused-requires-2
 refused-requires-2 c κs = search needs
@@ -42,9 +33,6 @@ pub open-record-spec : {M : Type 1} → statement M
 open-record-spec =
     tie.close
     (tie.spec
-    shared-slice-read-n
-    shared-slice-read-c
-    shared-slice-read-m
     bad-shape-requires
     refused-requires
     returns

@@ -1,8 +1,9 @@
 -- `text::decimal_in` meets its contract. Assumes nothing.
 use native.Mathlib.Omega.{arith}
 use borrow.Author.Needs.{needs}
+use Rattle.machine.proofs.Lengths.{decimal-fits}
 use Rattle.text.proofs.Writing.{written-none, wrote-then}
-use Rattle.text.proofs.Decimals.{decimal-fits, decimal-none, decimal-one, decimal-more}
+use Rattle.text.proofs.Decimals.{decimal-none, decimal-one, decimal-more}
 use Prim.Native.Nat.{ℕ, _<_, _-_, _/_}
 use borrow.Fn.Kinds.{In}
 use borrow.Fn.PlainCycle.{Measures, is, falls, and}

@@ -1,9 +1,8 @@
 -- `text::line_into` meets its contract. Assumes nothing.
 use native.Mathlib.Omega.{arith}
+use Rattle.machine.proofs.Lengths.{decimal-fits, answer-fits}
 use Rattle.text.proofs.Writing.{wrote-then}
-use Rattle.text.proofs.Decimals.{decimal-fits}
 use Rattle.machine.specs.Text.{lineText}
-use Rattle.text.proofs.Fits.{answer-fits}
 use lib.ListN.{length-append}
 use borrow.Author.Needs.{needs}
 use Rattle.text.proofs.line_into.Statement.{statement}

@@ -1,0 +1,38 @@
+-- `benchtape::text_of` meets its contract. Assumes nothing.
+use Rattle.benchtape.proofs.Told.{told-length, told-refused}
+use borrow.Author.Needs.{needs}
+use Rattle.benchtape.proofs.text_of.Statement.{statement}
+use Rattle.benchtape.proofs.text_of.Tie as tie
+
+print-requires : tie.Need-print-requires
+print-requires c κs = search needs
+
+enum-known-answer : tie.Need-enum-known-answer
+enum-known-answer c = search needs
+
+enum-told : tie.Need-enum-told
+enum-told c = search needs
+
+same-length : tie.Need-same-length
+same-length c = search needs
+
+returns : tie.Need-returns
+returns c = told-length (c .before .before .before .before .before .before .before .before .before .args .tape .now) (c .before .before .before .before .before .before .before .before .before .args .out .now) (c .before .before .before .before .before .before .before .before .before .pre) (c .before .before .before .before .before .print .ensures) (c .before .answer .given .1)
+
+same-length-2 : tie.Need-same-length-2
+same-length-2 c = search needs
+
+returns-2 : tie.Need-returns-2
+returns-2 c = absurd (told-refused (c .before .before .before .before .before .before .before .before .args .tape .now) (c .before .before .before .before .before .before .before .before .args .out .now) (c .before .before .before .before .before .before .before .before .pre) (c .before .before .before .before .print .ensures) (c .enum-told .given .1))
+
+pub text-of-spec : {M : Type 1} → statement M
+text-of-spec =
+    tie.close
+    (tie.spec
+    print-requires
+    enum-known-answer
+    enum-told
+    same-length
+    returns
+    same-length-2
+    returns-2)

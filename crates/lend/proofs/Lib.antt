@@ -1,4 +1,0 @@
-pub mod Types
-pub mod Steady
-pub mod Going
-pub mod Enough
