@@ -34,17 +34,18 @@ use Rattle.machine.specs.Calls.{Call, Begin, Serve, Return, Deliver, Set
 use Rattle.machine.specs.Tape.{replayOf}
 use Rattle.machine.specs.Text.{printed}
 
--- an answer in 01's words: open with n, c, m of the store; done with lane and value; wait; step; refused with the number; a settle with its count and its completions
+-- an answer in 01's words: open; done with lane and value; wait; step; refused with the number; a settle with its count and its completions
 pub data Said : Type 0 where
-  opens : ℕ → ℕ → ℕ → Said
+  opens : Said
   done : ℕ → ℕ → Said
   wait : Said
   step : Said
   refused : ℕ → Said
   settled : ℕ → List Completion → Said
 
--- what a row shows: the answers of a list of calls, a tape's lines, bytes, a word, a number, or a flag
+-- what a row shows: the answer of an opening with n, c and m of its store, the answers of a list of calls, a tape's lines, bytes, a word, a number, or a flag
 pub data Shown : Type 0 where
+  Opening : Said → ℕ → ℕ → ℕ → Shown
   Says : List Said → Shown
   Lines : List Answer → Shown
   Bytes : List ℕ → Shown
@@ -56,32 +57,32 @@ pub record Row : Type 0 where
   pub given : Shown
   pub wanted : Shown
 
--- an answer and the store after it
-abbrev pub wordOf : Answer → Store → Said
-wordOf Opened s = opens (s .n) (s .c) (s .m)
-wordOf (Done x) s = done (x .lane .0) (x .value)
-wordOf Wait s = wait
-wordOf Step s = step
-wordOf (Refused r) s = refused (numberOf r)
+-- an answer, and the reply of a call
+abbrev pub wordOf : Answer → Said
+wordOf Opened = opens
+wordOf (Done x) = done (x .lane .0) (x .value)
+wordOf Wait = wait
+wordOf Step = step
+wordOf (Refused r) = refused (numberOf r)
 
--- the reply of a call on a store
-abbrev pub said : Store → Reply → Said
-said s (Reply.Answers a) = wordOf a s
-said s (Reply.Settles (Steps count) cs) = settled count cs
-said s (Reply.Settles (Settled.Refused r) cs) = refused (numberOf r)
+abbrev pub said : Reply → Said
+said (Reply.Answers a) = wordOf a
+said (Reply.Settles (Steps count) cs) = settled count cs
+said (Reply.Settles (Settled.Refused r) cs) = refused (numberOf r)
 
--- the answer of an opening
+-- an opening; a refused one has the blank store
 abbrev pub opening : ℕ → ℕ → ℕ → Shown
-opening n c m = Says (wordOf (openOf n c m .answer) (openOf n c m .store) ∷ [])
+opening n c m = let r = openOf n c m in Opening (wordOf (r .answer)) (r .store .n) (r .store .c) (r .store .m)
 
 -- the store of an opening
 abbrev pub opened : ℕ → ℕ → ℕ → Store
 opened n c m = openOf n c m .store
 
--- the calls: lane, word, v
+-- the word of number w
 abbrev pub word : ℕ → WordNo
 word w = record { 0 = w }
 
+-- the calls of lane k: at word w, with v
 abbrev pub load : ℕ → ℕ → Call
 load k w = Begin (lane k) Op.Load (word w)
 
@@ -123,7 +124,7 @@ x says y = record { call = x; says = y }
 -- a row of calls one after the other
 abbrev pub on : Store → List Turn → Row
 on s ts = record {
-  given = Says (map (λ (e : Entry). said s (e .reply)) (run s (map (λ (t : Turn). t .call) ts) .history));
+  given = Says (map (λ (e : Entry). said (e .reply)) (run s (map (λ (t : Turn). t .call) ts) .history));
   wanted = Says (map (λ (t : Turn). t .says) ts);
 }
 
@@ -203,13 +204,13 @@ wholeText =
 -- 01's own rows
 abbrev pub casesOf01 : List Row
 casesOf01 =
-    record { given = opening 2 1 1; wanted = Says (opens 2 1 1 ∷ []) } ∷
-    record { given = opening 8 8 64; wanted = Says (opens 8 8 64 ∷ []) } ∷
+    record { given = opening 2 1 1; wanted = Opening opens 2 1 1 } ∷
+    record { given = opening 8 8 64; wanted = Opening opens 8 8 64 } ∷
     on (opened 8 8 64) (load 7 255 says wait ∷ serve 7 says step ∷ deliver 7 says done 7 0 ∷ load 7 256 says refused 7 ∷ load 8 0 says refused 6 ∷ []) ∷
-    record { given = opening 1 1 1; wanted = Says (refused 5 ∷ []) } ∷
-    record { given = opening 9 1 1; wanted = Says (refused 5 ∷ []) } ∷
-    record { given = opening 2 0 1; wanted = Says (refused 5 ∷ []) } ∷
-    record { given = opening 2 1 65; wanted = Says (refused 5 ∷ []) } ∷
+    record { given = opening 1 1 1; wanted = Opening (refused 5) 0 0 0 } ∷
+    record { given = opening 9 1 1; wanted = Opening (refused 5) 0 0 0 } ∷
+    record { given = opening 2 0 1; wanted = Opening (refused 5) 0 0 0 } ∷
+    record { given = opening 2 1 65; wanted = Opening (refused 5) 0 0 0 } ∷
     on (opened 2 1 1) (load 0 3 says wait ∷ []) ∷
     on (opened 2 1 1) (load 0 4 says refused 7 ∷ []) ∷
     record { given = Lines (replayOf wholeTape .lines); wanted = Lines wholeLines } ∷
@@ -466,7 +467,7 @@ sentences =
     serve 1 says step ∷
     serve 0 says refused 10 ∷
     []) ∷
-    -- settle delivers before it returns, returns before it serves, and takes the lowest lane
+    -- settle serves the lowest unserved, and not before it has delivered what is queued
     on (opened 3 1 1)
     (load 2 0 says wait ∷
     load 1 0 says wait ∷
@@ -478,7 +479,8 @@ sentences =
     record { given = Lines (replayOf (8 ∷ 0 ∷ 2 ∷ 1 ∷ 1 ∷ []) .lines); wanted = Lines (Refused UnknownKind ∷ []) } ∷
     []
 
--- stores that no opening gives: a message more in a lane's return queue, in its down queue; a service; line 0 of a lane filled
+-- stores that no opening gives: lane k with a GONE of block a more in its return queue, with a message more in its down queue, with
+-- block a in its line 0; a service for lane k
 abbrev pub block : ℕ → BlockNo
 block a = record { 0 = a }
 
@@ -502,8 +504,8 @@ abbrev pub filled : ℕ → ℕ → Store → Store
 filled k a s = withLane s k (withLine (line 0) (record { valid = true; private = false; block = block a; words = zeros }) (laneAt s k))
 
 -- refusals of such stores
-abbrev pub strays : List Row
-strays =
+abbrev pub heldStores : List Row
+heldStores =
     -- 14 before 6
     on (freshOf 9 1 1) (load 9 0 says refused 14 ∷ serve 9 says refused 14 ∷ return 9 says refused 14 ∷ deliver 9 says refused 14 ∷ Settle says refused 14 ∷ []) ∷
     -- 16: an answer with no service, for a block not in service, with 0 awaited
@@ -523,7 +525,7 @@ strays =
     on (filled 0 1 (after (opened 2 1 2) (load 0 0 ∷ serve 0 ∷ []))) (deliver 0 says refused 16 ∷ []) ∷
     -- 16: settle not yet quiet with queues empty and no operation unserved
     on (serving 0 0 1 (opened 2 1 2)) (Settle says refused 16 ∷ []) ∷
-    -- 12, and what is refused changes nothing: the line is still there, the messages too
+    -- 12, and what is refused changes nothing: the line is still there, the operation still waits; settle delivers before it returns
     on (gone 0 0 (gone 0 0 (filled 0 0 (opened 2 1 2)))) (load 0 4 says refused 12 ∷ load 0 0 says done 0 0 ∷ []) ∷
     on (sent Purge 0 0 (gone 0 0 (gone 0 0 (filled 0 0 (opened 2 1 2))))) (deliver 0 says refused 12 ∷ Settle says refused 12 ∷ load 0 0 says done 0 0 ∷ []) ∷
     on (sent Purge 0 0 (sent Purge 0 0 (opened 2 1 2))) (load 0 0 says wait ∷ serve 0 says refused 12 ∷ load 0 0 says refused 8 ∷ []) ∷
@@ -531,4 +533,4 @@ strays =
 
 -- the table
 unfoldable pub rows : List Row
-rows = casesOf01 ++ races ++ shutOut ++ bounds ++ sentences ++ strays
+rows = casesOf01 ++ races ++ shutOut ++ bounds ++ sentences ++ heldStores
