@@ -1,25 +1,24 @@
--- The theorems, by name and type. This file only states; the proofs are where it points.
+-- The theorems, by name and type. This file only states; the proofs are where it points. One more is passed on by its name, `cases`:
+-- what the definitions give is what 01 wants, row by row (specs/Table.antt); it is proved by computation from the definitions alone.
 --
 -- The supply contract's sentence: a lane reads the last word stored, in every order in which the lanes' messages reach the
 -- controller. Assumes nothing.
-use Prim.Native.Nat.{ℕ, suc, _<_, _≤_}
+use Prim.Native.Nat.{ℕ, suc, _<_}
 use native.Mathlib.Omega.{arith}
 use mathlib.Core.Path.{_≡_}
 use mathlib.Core.Bool.{true, false}
-use mathlib.Core.List.{List, [], _∷_, _++_, map, List·Memᴰ}
+use mathlib.Core.List.{List, [], _∷_, _++_, List·Memᴰ}
 use Rattle.answers.specs.declared.Answer.the-variants.{Opened}
 use Rattle.store.specs.declared.Store.{Store}
 use Rattle.store.specs.Opening.{openOf}
-use Rattle.machine.specs.declared.Settled.the-variants.{Steps}
 use Rattle.machine.specs.Corruption.{corruptOf}
-use Rattle.machine.specs.Settle.{boundOf, ended, repeatStep, settleOf}
+use Rattle.machine.specs.Settle.{boundOf, ended, repeatStep}
 use Rattle.machine.specs.Calls.{Call, Settle, run}
 use Rattle.machine.specs.Attribution.{Begun}
-use Rattle.machine.specs.Demand3.{Coherent, begun, operations}
-use Rattle.machine.specs.Completion.{Settles}
+use Rattle.machine.specs.Demand3.{Demand3, begun, operations}
+use Rattle.machine.specs.Completion.{AlwaysSettles, SettleBound}
 use Rattle.machine.specs.Sized.{Sized}
-use Rattle.machine.specs.Table.{Row, rows}
-use Rattle.machine.proofs.Table.{table}
+pub use Rattle.machine.proofs.Table.{cases}
 use Rattle.machine.proofs.FallsSettle.{startAt, settle-count, repeat-ends, repeat-same}
 use Rattle.machine.proofs.OrderOfMemory.{order-of-memory}
 use Rattle.machine.proofs.LiveSettle.{always-settles, all-complete}
@@ -42,13 +41,12 @@ use Rattle.machine.proofs.LiveSettle.{always-settles, all-complete}
 --   when-quiet  where no operation waits, no service is open and the queues are empty: every operation begun has completed; the store
 --               shows flat memory's words in every block; the four properties of the flags (000, section III)
 --   lanes, lines, blocks   the store still has the opening's n, c and m
-pub demand-3 : (n c m : ℕ) (calls : List Call) → openOf n c m .answer ≡ Opened →
-    Coherent n c m (run (openOf n c m .store) calls .history) (run (openOf n c m .store) calls .store)
+pub demand-3 : Demand3
 demand-3 = order-of-memory
 
 -- Beside demand 3: settle never fails. After any list of calls from any opening, settle is answered with its count (no 12, no 16), and
 -- nothing is under way after it (`Settles`, specs/Completion.antt).
-pub settle-succeeds : (n c m : ℕ) (calls : List Call) → openOf n c m .answer ≡ Opened → Settles (run (openOf n c m .store) calls .store)
+pub settle-succeeds : AlwaysSettles
 settle-succeeds = always-settles
 
 -- .. so that every operation that was begun completes: after any list of calls and one settle there is none that has not.
@@ -58,8 +56,9 @@ pub begun-completes : (n c m : ℕ) (calls : List Call) → openOf n c m .answer
 begun-completes = all-complete
 
 -- 01's bound: the count of a settle that isn't refused is at most R + G + 2 × Q + S + 2 × n × U (`boundOf`, specs/Settle.antt), on every
--- store, be it one that no opening gives; its arrays have their declared lengths, as every store of the program has.
-pub settle-bound : (s : Store) → Sized s → (count : ℕ) → settleOf s .answer ≡ Steps count → count ≤ boundOf s
+-- store, be it one that no opening gives; its arrays have their declared lengths, as every store of the program has (`SettleBound`,
+-- specs/Completion.antt).
+pub settle-bound : SettleBound
 settle-bound = settle-count
 
 -- "Settle repeats .. it ends when the store is quiet": the definition repeats boundOf + 1 times at most, and that cuts nothing off. So
@@ -69,7 +68,3 @@ settle-ends = repeat-ends
 
 pub settle-not-cut : (more : ℕ) (s : Store) → corruptOf s ≡ false → Sized s → boundOf s < more → repeatStep more (startAt s) ≡ repeatStep (suc (boundOf s)) (startAt s)
 settle-not-cut more s e z h = repeat-same more (suc (boundOf s)) (startAt s) e z h (omega arith)
-
--- Document 01's cases: what the definitions give is what 01 wants, row by row (specs/Table.antt).
-pub cases : map (λ (r : Row). r .given) rows ≡ map (λ (r : Row). r .wanted) rows
-cases = table

@@ -1,68 +1,132 @@
--- 01, "The contracts and the cases": the rows that are shown from the definitions, what each gives and what it must give. Assumes nothing.
-use Prim.Native.Nat.{ℕ}
-use mathlib.Core.List.{List, [], _∷_}
-use Rattle.words.specs.declared.Op.{Op}
+-- 01, "The contracts and the cases": the rows that are shown from the definitions, what each gives and what it must give; then a row or
+-- more for each of 01's races, for each store that it shuts out, and for other sentences of it. Assumes nothing.
+use Prim.Native.Nat.{ℕ, _*_}
+use mathlib.Core.Bool.{Bool, true, false}
+use mathlib.Core.List.{List, [], _∷_, _++_, map}
+use Rattle.words.specs.declared.WordNo.{WordNo}
+use Rattle.words.specs.declared.BlockNo.{BlockNo}
 use Rattle.words.specs.declared.Op.the-variants as Op
 use Rattle.words.specs.Operations.{applyOf}
+use Rattle.queues.specs.declared.DownKind.{DownKind}
+use Rattle.queues.specs.declared.DownKind.the-variants.{Purge, Grant, BareGrant}
+use Rattle.queues.specs.declared.ReturnKind.the-variants.{Gone}
+use Rattle.queues.specs.Queues.{pushReturn}
+use Rattle.lanes.specs.declared.Command.the-variants.{ReadExclusive}
 use Rattle.answers.specs.declared.Answer.{Answer}
 use Rattle.answers.specs.declared.Answer.the-variants.{Opened, Done, Wait, Step, Refused}
-use Rattle.answers.specs.declared.Refusal.the-variants.{ReturnsPending}
+use Rattle.answers.specs.declared.Refusal.the-variants.{Truncated, UnknownKind, NotOpen, AlreadyOpen, ReturnsPending}
 use Rattle.answers.specs.declared.Completion.{Completion}
 use Rattle.answers.specs.Completions.{completionOf}
 use Rattle.answers.specs.Refusals.{numberOf}
 use Rattle.store.specs.declared.Store.{Store}
-use Rattle.store.specs.Opening.{openOf}
+use Rattle.store.specs.declared.Control.the-variants.{Busy}
+use Rattle.store.specs.Opening.{freshOf, openOf, zeros, line}
+use Rattle.store.specs.Quiet.{laneAt, quietOf}
 use Rattle.machine.specs.declared.Settled.{Settled}
 use Rattle.machine.specs.declared.Settled.the-variants.{Steps}
-use Rattle.machine.specs.Begin.{beginOf}
-use Rattle.machine.specs.Settle.{settleOf}
+use Rattle.machine.specs.Change.{withLane, withReturns, posted}
+use Rattle.machine.specs.Begin.{bareReturn}
+use Rattle.machine.specs.Serve.{bareDown}
+use Rattle.machine.specs.Deliver.{withLine}
+use Rattle.machine.specs.Settle.{lane, boundOf}
+use Rattle.machine.specs.Flags.{lineIn}
+use Rattle.machine.specs.Calls.{Call, Begin, Serve, Return, Deliver, Settle, Reply, Entry, run}
 use Rattle.machine.specs.Tape.{replayOf}
-use Rattle.machine.specs.Text.{printed}
+use Rattle.machine.specs.Text.{tapeMost, printed, textMost}
 
--- what a row shows: an answer, 01's number of a refusal, a tape's lines, bytes, a word, or a settle's count with its completions
+-- an answer in 01's words: open; done with lane and value; wait; step; refused with the number; a settle with its count and its completions
+pub data Said : Type 0 where
+  opens : Said
+  done : ℕ → ℕ → Said
+  wait : Said
+  step : Said
+  refused : ℕ → Said
+  settled : ℕ → List Completion → Said
+
+-- what a row shows: the answer of an opening with n, c and m of its store, the answers of a list of calls, a tape's lines, bytes, a word, a number, or a flag
 pub data Shown : Type 0 where
-  Answers : Answer → Shown
-  Number : ℕ → Shown
+  Opening : Said → ℕ → ℕ → ℕ → Shown
+  Says : List Said → Shown
   Lines : List Answer → Shown
   Bytes : List ℕ → Shown
   Word : ℕ → Shown
-  Settles : Settled → List Completion → Shown
+  Number : ℕ → Shown
+  Flag : Bool → Shown
 
 pub record Row : Type 0 where
   pub given : Shown
   pub wanted : Shown
 
--- an answer, a refusal by its number
-abbrev pub saying : Answer → Shown
-saying Opened = Answers Opened
-saying (Done x) = Answers (Done x)
-saying Wait = Answers Wait
-saying Step = Answers Step
-saying (Refused r) = Number (numberOf r)
+-- an answer, and the reply of a call
+abbrev pub wordOf : Answer → Said
+wordOf Opened = opens
+wordOf (Done x) = done (x .lane .0) (x .value)
+wordOf Wait = wait
+wordOf Step = step
+wordOf (Refused r) = refused (numberOf r)
 
--- the answer of an opening
+abbrev pub said : Reply → Said
+said (Reply.Answers a) = wordOf a
+said (Reply.Settles (Steps count) cs) = settled count cs
+said (Reply.Settles (Settled.Refused r) cs) = refused (numberOf r)
+
+-- an opening; a refused one has the blank store
 abbrev pub opening : ℕ → ℕ → ℕ → Shown
-opening n c m = saying (openOf n c m .answer)
+opening n c m = let r = openOf n c m in Opening (wordOf (r .answer)) (r .store .n) (r .store .c) (r .store .m)
 
 -- the store of an opening
 abbrev pub opened : ℕ → ℕ → ℕ → Store
 opened n c m = openOf n c m .store
 
--- a begin call of lane k at word w
-abbrev pub begins : Store → ℕ → Op → ℕ → Store
-begins s k op w = beginOf s (record { 0 = k }) op (record { 0 = w }) .store
+-- the word of number w
+abbrev pub word : ℕ → WordNo
+word w = record { 0 = w }
 
--- the answer of a load of word w by lane 0
-abbrev pub loads : Store → ℕ → Shown
-loads s w = saying (beginOf s (record { 0 = 0 }) Op.Load (record { 0 = w }) .answer)
+-- the calls of lane k: at word w, with v
+abbrev pub load : ℕ → ℕ → Call
+load k w = Begin (lane k) Op.Load (word w)
 
--- a settle's count and completions
-abbrev pub settles : Store → Shown
-settles s = Settles (settleOf s .answer) (settleOf s .completions)
+abbrev pub store : ℕ → ℕ → ℕ → Call
+store k w v = Begin (lane k) (Op.Store v) (word w)
+
+abbrev pub exchange : ℕ → ℕ → ℕ → Call
+exchange k w v = Begin (lane k) (Op.Exchange v) (word w)
+
+abbrev pub add : ℕ → ℕ → ℕ → Call
+add k w v = Begin (lane k) (Op.Add v) (word w)
+
+abbrev pub serve : ℕ → Call
+serve k = Serve (lane k)
+
+abbrev pub return : ℕ → Call
+return k = Return (lane k)
+
+abbrev pub deliver : ℕ → Call
+deliver k = Deliver (lane k)
 
 -- lane k's completion with value v
 abbrev pub of : ℕ → ℕ → Completion
-of k v = completionOf (record { 0 = k }) v
+of k v = completionOf (lane k) v
+
+-- the store after a list of calls
+abbrev pub after : Store → List Call → Store
+after s cs = run s cs .store
+
+-- a call, and what it must say
+pub record Turn : Type 0 where
+  pub call : Call
+  pub says : Said
+
+infix 90 _says_
+abbrev pub _says_ : Call → Said → Turn
+x says y = record { call = x; says = y }
+
+-- a row of calls one after the other
+abbrev pub on : Store → List Turn → Row
+on s ts = record {
+  given = Says (map (λ (e : Entry). said (e .reply)) (run s (map (λ (t : Turn). t .call) ts) .history));
+  wanted = Says (map (λ (t : Turn). t .says) ts);
+}
 
 -- "A whole tape", its bytes
 unfoldable pub wholeTape : List ℕ
@@ -137,25 +201,340 @@ wholeText =
     101 ∷ 110 ∷ 100 ∷ 32 ∷ 49 ∷ 57 ∷ 10 ∷
     []
 
--- two lanes storing to one word on a fresh 2,1,1
-abbrev pub twoStores : Store
-twoStores = begins (begins (opened 2 1 1) 0 (Op.Store 7) 0) 1 (Op.Store 9) 0
+-- 01's own rows
+abbrev pub casesOf01 : List Row
+casesOf01 =
+    record { given = opening 2 1 1; wanted = Opening opens 2 1 1 } ∷
+    record { given = opening 8 8 64; wanted = Opening opens 8 8 64 } ∷
+    on (opened 8 8 64) (load 7 255 says wait ∷ serve 7 says step ∷ deliver 7 says done 7 0 ∷ load 7 256 says refused 7 ∷ load 8 0 says refused 6 ∷ []) ∷
+    record { given = opening 1 1 1; wanted = Opening (refused 5) 0 0 0 } ∷
+    record { given = opening 9 1 1; wanted = Opening (refused 5) 0 0 0 } ∷
+    record { given = opening 2 0 1; wanted = Opening (refused 5) 0 0 0 } ∷
+    record { given = opening 2 1 65; wanted = Opening (refused 5) 0 0 0 } ∷
+    on (opened 2 1 1) (load 0 3 says wait ∷ []) ∷
+    on (opened 2 1 1) (load 0 4 says refused 7 ∷ []) ∷
+    record { given = Lines (replayOf wholeTape); wanted = Lines wholeLines } ∷
+    record { given = Bytes (printed wholeTape); wanted = Bytes wholeText } ∷
+    -- add of 1 to 4,294,967,295 leaves 0
+    record { given = Word (applyOf (Op.Add 1) 4294967295 .word); wanted = Word 0 } ∷
+    on (opened 2 1 1)
+    (store 0 0 4294967295 says wait ∷
+    add 1 0 1 says wait ∷
+    Settle says settled 6 (of 0 4294967295 ∷ of 1 4294967295 ∷ []) ∷
+    load 1 0 says done 1 0 ∷
+    []) ∷
+    record { given = Word (applyOf (Op.Exchange 9) 7 .word); wanted = Word 9 } ∷
+    record { given = Word (applyOf (Op.Exchange 9) 7 .value); wanted = Word 7 } ∷
+    -- two lanes storing to one word
+    on (opened 2 1 1) (store 0 0 7 says wait ∷ store 1 0 9 says wait ∷ Settle says settled 6 (of 0 7 ∷ of 1 9 ∷ []) ∷ []) ∷
+    []
+
+-- the races that lure
+abbrev pub races : List Row
+races =
+    -- serving a lane before its WRITE-EJECT is in
+    on (opened 2 1 2)
+    (store 0 0 7 says wait ∷
+    serve 0 says step ∷
+    deliver 0 says done 0 7 ∷
+    load 0 4 says wait ∷
+    serve 0 says refused 11 ∷
+    return 0 says step ∷
+    serve 0 says step ∷
+    deliver 0 says done 0 0 ∷
+    load 0 0 says wait ∷
+    return 0 says step ∷
+    serve 0 says step ∷
+    deliver 0 says done 0 7 ∷
+    []) ∷
+    -- a bare grant to a lane whose copy was purged while EXCLUDE waited
+    on (opened 2 1 1)
+    (load 0 0 says wait ∷
+    serve 0 says step ∷
+    deliver 0 says done 0 0 ∷
+    load 1 0 says wait ∷
+    serve 1 says step ∷
+    deliver 1 says done 1 0 ∷
+    exchange 0 0 7 says wait ∷
+    store 1 0 9 says wait ∷
+    serve 1 says step ∷
+    deliver 0 says step ∷
+    return 0 says step ∷
+    deliver 1 says done 1 9 ∷
+    serve 0 says step ∷
+    deliver 1 says step ∷
+    return 1 says step ∷
+    deliver 0 says done 0 9 ∷
+    []) ∷
+    -- granting before the last answer
+    on (opened 3 1 1)
+    (load 1 0 says wait ∷
+    serve 1 says step ∷
+    deliver 1 says done 1 0 ∷
+    load 2 0 says wait ∷
+    serve 2 says step ∷
+    deliver 2 says done 2 0 ∷
+    store 0 0 7 says wait ∷
+    serve 0 says step ∷
+    deliver 1 says step ∷
+    return 1 says step ∷
+    deliver 0 says refused 9 ∷
+    deliver 2 says step ∷
+    return 2 says step ∷
+    deliver 0 says done 0 7 ∷
+    []) ∷
+    -- dropping an order for a missing block without GONE: PURGE, then UPDATE
+    on (opened 2 1 2)
+    (load 0 0 says wait ∷
+    serve 0 says step ∷
+    deliver 0 says done 0 0 ∷
+    load 0 4 says wait ∷
+    store 1 0 7 says wait ∷
+    serve 1 says step ∷
+    deliver 0 says step ∷
+    return 0 says step ∷
+    return 0 says step ∷
+    deliver 1 says done 1 7 ∷
+    []) ∷
+    on (opened 2 1 2)
+    (store 0 0 7 says wait ∷
+    serve 0 says step ∷
+    deliver 0 says done 0 7 ∷
+    load 0 4 says wait ∷
+    load 1 0 says wait ∷
+    serve 1 says step ∷
+    deliver 0 says step ∷
+    return 0 says step ∷
+    return 0 says step ∷
+    deliver 1 says done 1 7 ∷
+    []) ∷
+    -- completing an operation when its grant is queued rather than delivered
+    on (opened 2 1 1) (store 0 0 7 says wait ∷ serve 0 says step ∷ load 0 0 says refused 8 ∷ deliver 0 says done 0 7 ∷ load 0 0 says done 0 7 ∷ []) ∷
+    []
+
+-- the stores that are shut out
+abbrev pub shutOut : List Row
+shutOut =
+    -- operations that always wait; all calls refused
+    on (opened 2 1 1) (load 0 0 says wait ∷ serve 0 says step ∷ deliver 0 says done 0 0 ∷ load 0 1 says done 0 0 ∷ []) ∷
+    -- words that stay 0
+    on (opened 2 1 1) (store 0 0 7 says wait ∷ serve 0 says step ∷ deliver 0 says done 0 7 ∷ load 0 0 says done 0 7 ∷ []) ∷
+    -- the first operation honoured, and then only done reported
+    on (opened 2 1 1)
+    (store 0 0 7 says wait ∷
+    serve 0 says step ∷
+    deliver 0 says done 0 7 ∷
+    store 0 0 9 says done 0 9 ∷
+    load 0 0 says done 0 9 ∷
+    exchange 0 0 3 says done 0 9 ∷
+    add 0 0 2 says done 0 3 ∷
+    load 0 0 says done 0 5 ∷
+    []) ∷
+    -- steps that move no message
+    on (opened 2 1 2)
+    (store 0 0 7 says wait ∷
+    return 0 says refused 9 ∷
+    deliver 0 says refused 9 ∷
+    serve 0 says step ∷
+    serve 0 says refused 9 ∷
+    deliver 0 says done 0 7 ∷
+    deliver 0 says refused 9 ∷
+    load 0 4 says wait ∷
+    return 0 says step ∷
+    return 0 says refused 9 ∷
+    []) ∷
+    -- an invented settle count
+    on (opened 2 1 1) (Settle says settled 0 [] ∷ load 1 0 says wait ∷ Settle says settled 2 (of 1 0 ∷ []) ∷ Settle says settled 0 [] ∷ []) ∷
+    -- quiet with a lane waiting
+    record { given = Flag (quietOf (opened 2 1 1)); wanted = Flag true } ∷
+    record { given = Flag (quietOf (after (opened 2 1 1) (load 0 0 ∷ []))); wanted = Flag false } ∷
+    record { given = Flag (quietOf (after (opened 2 1 1) (load 0 0 ∷ serve 0 ∷ []))); wanted = Flag false } ∷
+    record { given = Flag (quietOf (after (opened 2 1 1) (load 0 0 ∷ serve 0 ∷ deliver 0 ∷ []))); wanted = Flag true } ∷
+    []
+
+-- settle's bound after a list of calls
+abbrev pub bound : Store → List Call → Shown
+bound s cs = Number (boundOf (after s cs))
+
+-- settle's bound R + G + 2 × Q + S + 2 × n × U
+abbrev pub bounds : List Row
+bounds =
+    record { given = bound (opened 2 1 1) []; wanted = Number 0 } ∷
+    -- U is 1, then 2 of three lanes
+    record { given = bound (opened 2 1 1) (load 0 0 ∷ []); wanted = Number 4 } ∷
+    record { given = bound (opened 3 1 1) (load 0 0 ∷ load 2 0 ∷ []); wanted = Number 12 } ∷
+    -- G is 1, then 2
+    record { given = bound (opened 2 1 1) (load 0 0 ∷ serve 0 ∷ []); wanted = Number 1 } ∷
+    record { given = bound (opened 2 1 1) (load 0 0 ∷ serve 0 ∷ load 1 0 ∷ serve 1 ∷ []); wanted = Number 2 } ∷
+    -- S is 1, and Q is 1; then S and R are 1
+    record { given = bound (opened 2 1 1) (store 0 0 7 ∷ serve 0 ∷ deliver 0 ∷ load 1 0 ∷ serve 1 ∷ []); wanted = Number 3 } ∷
+    record { given = bound (opened 2 1 1) (store 0 0 7 ∷ serve 0 ∷ deliver 0 ∷ load 1 0 ∷ serve 1 ∷ deliver 0 ∷ []); wanted = Number 2 } ∷
+    -- R and U are 1
+    record { given = bound (opened 2 1 2) (load 0 0 ∷ serve 0 ∷ deliver 0 ∷ load 0 4 ∷ []); wanted = Number 5 } ∷
+    -- all of them: the EJECT of lane 0, the grant of lane 1, the PURGE of lane 2 for lane 3, and the unserved operation of lane 0
+    record {
+      given = bound (opened 4 1 4)
+          (load 0 0 ∷ serve 0 ∷ deliver 0 ∷ load 0 4 ∷ load 2 8 ∷ serve 2 ∷ deliver 2 ∷ load 1 12 ∷ serve 1 ∷ store 3 8 7 ∷ serve 3 ∷ []);
+      wanted = Number 13;
+    } ∷
+    []
+
+-- sentences of Begin, Serve, Return, Deliver and Settle
+abbrev pub sentences : List Row
+sentences =
+    -- READ shared sends UPDATE if MODIFIED is set, else nothing
+    on (opened 2 1 1)
+    (load 0 0 says wait ∷
+    serve 0 says step ∷
+    deliver 0 says done 0 0 ∷
+    load 1 0 says wait ∷
+    serve 1 says step ∷
+    deliver 0 says refused 9 ∷
+    deliver 1 says done 1 0 ∷
+    []) ∷
+    -- UPDATE: UPDATED with the words, PRIVATE reset; a hit with PRIVATE reset waits
+    on (opened 2 1 1)
+    (store 0 0 7 says wait ∷
+    serve 0 says step ∷
+    deliver 0 says done 0 7 ∷
+    load 1 0 says wait ∷
+    serve 1 says step ∷
+    deliver 0 says step ∷
+    return 0 says step ∷
+    deliver 1 says done 1 7 ∷
+    load 0 0 says done 0 7 ∷
+    store 0 0 9 says wait ∷
+    []) ∷
+    -- PURGED has words only if PRIVATE was set; each other PRESENT is reset
+    on (opened 2 1 1)
+    (store 0 0 7 says wait ∷
+    serve 0 says step ∷
+    deliver 0 says done 0 7 ∷
+    exchange 1 0 9 says wait ∷
+    serve 1 says step ∷
+    deliver 0 says step ∷
+    return 0 says step ∷
+    deliver 1 says done 1 7 ∷
+    load 0 0 says wait ∷
+    []) ∷
+    -- EJECT resets PRESENT
+    on (opened 2 1 2)
+    (load 0 0 says wait ∷
+    serve 0 says step ∷
+    deliver 0 says done 0 0 ∷
+    load 0 4 says wait ∷
+    return 0 says step ∷
+    store 1 0 7 says wait ∷
+    serve 1 says step ∷
+    deliver 1 says done 1 7 ∷
+    []) ∷
+    -- the oldest line is given up: block 1, since the load of block 0 is a use
+    on (opened 2 2 3)
+    (load 0 0 says wait ∷
+    Settle says settled 2 (of 0 0 ∷ []) ∷
+    load 0 4 says wait ∷
+    Settle says settled 2 (of 0 0 ∷ []) ∷
+    load 0 0 says done 0 0 ∷
+    load 0 8 says wait ∷
+    Settle says settled 3 (of 0 0 ∷ []) ∷
+    load 0 0 says done 0 0 ∷
+    load 0 4 says wait ∷
+    []) ∷
+    -- a fill is a use too: the line of block 2 was filled last, so block 0 is given up
+    on (opened 2 2 3)
+    (load 0 0 says wait ∷
+    Settle says settled 2 (of 0 0 ∷ []) ∷
+    load 0 4 says wait ∷
+    Settle says settled 2 (of 0 0 ∷ []) ∷
+    load 0 0 says done 0 0 ∷
+    load 0 8 says wait ∷
+    Settle says settled 3 (of 0 0 ∷ []) ∷
+    load 0 4 says wait ∷
+    Settle says settled 3 (of 0 0 ∷ []) ∷
+    load 0 8 says done 0 0 ∷
+    load 0 0 says wait ∷
+    []) ∷
+    -- the lowest-numbered line that is not valid is filled
+    record { given = Flag (lineIn (after (opened 2 2 1) (load 0 0 ∷ Settle ∷ [])) 0 0 .valid); wanted = Flag true } ∷
+    record { given = Flag (lineIn (after (opened 2 2 1) (load 0 0 ∷ Settle ∷ [])) 0 1 .valid); wanted = Flag false } ∷
+    -- 10 before 11
+    on (opened 2 1 2)
+    (store 0 0 7 says wait ∷
+    serve 0 says step ∷
+    deliver 0 says done 0 7 ∷
+    load 0 4 says wait ∷
+    load 1 0 says wait ∷
+    serve 1 says step ∷
+    serve 0 says refused 10 ∷
+    []) ∷
+    -- settle serves the lowest unserved, and not before it has delivered what is queued
+    on (opened 3 1 1)
+    (load 2 0 says wait ∷
+    load 1 0 says wait ∷
+    store 0 0 7 says wait ∷
+    Settle says settled 8 (of 0 7 ∷ of 1 7 ∷ of 2 7 ∷ []) ∷
+    []) ∷
+    -- after refusal 1 or 2 no more records are read
+    record { given = Lines (replayOf (0 ∷ 2 ∷ 1 ∷ 1 ∷ 2 ∷ 0 ∷ [])); wanted = Lines (Opened ∷ Refused Truncated ∷ []) } ∷
+    record { given = Lines (replayOf (8 ∷ 0 ∷ 2 ∷ 1 ∷ 1 ∷ [])); wanted = Lines (Refused UnknownKind ∷ []) } ∷
+    -- a tape that is not open, and one that is open already; the empty tape; room for 20 bytes of text for each byte of a tape
+    record { given = Lines (replayOf (5 ∷ 0 ∷ 0 ∷ 2 ∷ 1 ∷ 1 ∷ 0 ∷ 9 ∷ 9 ∷ 9 ∷ [])); wanted = Lines (Refused NotOpen ∷ Opened ∷ Refused AlreadyOpen ∷ []) } ∷
+    record { given = Bytes (printed []); wanted = Bytes (101 ∷ 110 ∷ 100 ∷ 32 ∷ 48 ∷ 10 ∷ []) } ∷
+    record { given = Word textMost; wanted = Word (20 * tapeMost) } ∷
+    []
+
+-- stores that no opening gives: lane k with a GONE of block a more in its return queue, with a message more in its down queue, with
+-- block a in its line 0; a service for lane k
+abbrev pub block : ℕ → BlockNo
+block a = record { 0 = a }
+
+abbrev pub gone : ℕ → ℕ → Store → Store
+gone k a s = withLane s k (withReturns (pushReturn (laneAt s k .returns) (bareReturn Gone (block a)) .queue) (laneAt s k))
+
+abbrev pub sent : DownKind → ℕ → ℕ → Store → Store
+sent x k a s = withLane s k (posted (bareDown x (block a)) (laneAt s k))
+
+abbrev pub serving : ℕ → ℕ → ℕ → Store → Store
+serving k a awaited s = record {
+  n = s .n;
+  c = s .c;
+  m = s .m;
+  control = Busy (record { lane = lane k; block = block a; command = ReadExclusive; awaited = awaited; bare = false });
+  lanes = s .lanes;
+  blocks = s .blocks;
+}
+
+abbrev pub filled : ℕ → ℕ → Store → Store
+filled k a s = withLane s k (withLine (line 0) (record { valid = true; private = false; block = block a; words = zeros }) (laneAt s k))
+
+-- refusals of such stores
+abbrev pub heldStores : List Row
+heldStores =
+    -- 14 before 6
+    on (freshOf 9 1 1) (load 9 0 says refused 14 ∷ serve 9 says refused 14 ∷ return 9 says refused 14 ∷ deliver 9 says refused 14 ∷ Settle says refused 14 ∷ []) ∷
+    -- 16: an answer with no service, for a block not in service, with 0 awaited
+    on (gone 0 0 (opened 2 1 2)) (return 0 says refused 16 ∷ Settle says refused 16 ∷ []) ∷
+    on (serving 1 1 1 (gone 0 0 (opened 2 1 2))) (return 0 says refused 16 ∷ []) ∷
+    on (serving 1 0 0 (gone 0 0 (opened 2 1 2))) (return 0 says refused 16 ∷ []) ∷
+    -- .. before 12
+    on (serving 1 0 0 (gone 0 0 (sent Purge 1 0 (sent Purge 1 0 (opened 2 1 2))))) (return 0 says refused 16 ∷ []) ∷
+    -- 16: a grant whose lane has no operation, has an unserved one, has a served one on another block
+    on (sent Grant 0 0 (opened 2 1 2)) (deliver 0 says refused 16 ∷ []) ∷
+    on (sent Grant 0 0 (opened 2 1 2)) (load 0 0 says wait ∷ deliver 0 says refused 16 ∷ []) ∷
+    on (sent Grant 0 0 (opened 2 1 2)) (load 0 4 says wait ∷ serve 0 says step ∷ deliver 0 says refused 16 ∷ []) ∷
+    -- 16: a bare grant on a block not held
+    on (sent BareGrant 0 0 (opened 2 1 2)) (load 0 0 says wait ∷ serve 0 says step ∷ deliver 0 says refused 16 ∷ []) ∷
+    -- 16: a grant with words on a held block, or with no free line
+    on (sent Grant 0 0 (filled 0 0 (opened 2 1 2))) (store 0 0 7 says wait ∷ serve 0 says step ∷ deliver 0 says refused 16 ∷ []) ∷
+    on (filled 0 1 (after (opened 2 1 2) (load 0 0 ∷ serve 0 ∷ []))) (deliver 0 says refused 16 ∷ []) ∷
+    -- 16: settle not yet quiet with queues empty and no operation unserved
+    on (serving 0 0 1 (opened 2 1 2)) (Settle says refused 16 ∷ []) ∷
+    -- 12, and what is refused changes nothing: the line is still there, the operation still waits; settle delivers before it returns
+    on (gone 0 0 (gone 0 0 (filled 0 0 (opened 2 1 2)))) (load 0 4 says refused 12 ∷ load 0 0 says done 0 0 ∷ []) ∷
+    on (sent Purge 0 0 (gone 0 0 (gone 0 0 (filled 0 0 (opened 2 1 2))))) (deliver 0 says refused 12 ∷ Settle says refused 12 ∷ load 0 0 says done 0 0 ∷ []) ∷
+    on (sent Purge 0 0 (sent Purge 0 0 (opened 2 1 2))) (load 0 0 says wait ∷ serve 0 says refused 12 ∷ load 0 0 says refused 8 ∷ []) ∷
+    []
 
 -- the table
 unfoldable pub rows : List Row
-rows =
-    record { given = opening 2 1 1; wanted = Answers Opened } ∷
-    record { given = opening 8 8 64; wanted = Answers Opened } ∷
-    record { given = opening 1 1 1; wanted = Number 5 } ∷
-    record { given = opening 9 1 1; wanted = Number 5 } ∷
-    record { given = opening 2 0 1; wanted = Number 5 } ∷
-    record { given = opening 2 1 65; wanted = Number 5 } ∷
-    record { given = loads (opened 2 1 1) 3; wanted = Answers Wait } ∷
-    record { given = loads (opened 2 1 1) 4; wanted = Number 7 } ∷
-    record { given = Lines (replayOf wholeTape); wanted = Lines wholeLines } ∷
-    record { given = Bytes (printed wholeTape); wanted = Bytes wholeText } ∷
-    record { given = Word (applyOf (Op.Add 1) 4294967295 .word); wanted = Word 0 } ∷
-    record { given = Word (applyOf (Op.Exchange 9) 7 .word); wanted = Word 9 } ∷
-    record { given = Word (applyOf (Op.Exchange 9) 7 .value); wanted = Word 7 } ∷
-    record { given = settles twoStores; wanted = Settles (Steps 6) (of 0 7 ∷ of 1 9 ∷ []) } ∷
-    []
+rows = casesOf01 ++ races ++ shutOut ++ bounds ++ sentences ++ heldStores
