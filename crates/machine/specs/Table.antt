@@ -3,6 +3,7 @@
 use Prim.Native.Nat.{ℕ, _*_}
 use mathlib.Core.Bool.{Bool, true, false}
 use mathlib.Core.List.{List, [], _∷_, _++_, map}
+use lib.ListN.{replicate, drop, set}
 use Rattle.words.specs.declared.WordNo.{WordNo}
 use Rattle.words.specs.declared.BlockNo.{BlockNo}
 use Rattle.words.specs.declared.Op.the-variants as Op
@@ -11,26 +12,32 @@ use Rattle.queues.specs.declared.DownKind.{DownKind}
 use Rattle.queues.specs.declared.DownKind.the-variants.{Purge, Grant, BareGrant}
 use Rattle.queues.specs.declared.ReturnKind.the-variants.{Gone}
 use Rattle.queues.specs.Queues.{pushReturn}
-use Rattle.lanes.specs.declared.Command.the-variants.{ReadExclusive}
+use Rattle.lanes.specs.declared.Command.the-variants.{ReadShared, ReadExclusive}
+use Rattle.lanes.specs.declared.Operation.{Operation}
+use Rattle.lanes.specs.declared.Waiting.{Waiting}
+use Rattle.lanes.specs.declared.Waiting.the-variants.{Unserved, Served}
 use Rattle.answers.specs.declared.Answer.{Answer}
 use Rattle.answers.specs.declared.Answer.the-variants.{Opened, Done, Wait, Step, Refused}
-use Rattle.answers.specs.declared.Refusal.the-variants.{Truncated, UnknownKind, NotOpen, AlreadyOpen, ReturnsPending}
+use Rattle.answers.specs.declared.Refusal.the-variants.{Truncated, UnknownKind, NotOpen, AlreadyOpen, ReturnsPending, Corrupt, BufferTooShort}
 use Rattle.answers.specs.declared.Completion.{Completion}
 use Rattle.answers.specs.Completions.{completionOf}
 use Rattle.answers.specs.Refusals.{numberOf}
 use Rattle.store.specs.declared.Store.{Store}
 use Rattle.store.specs.declared.Control.the-variants.{Busy}
 use Rattle.store.specs.Opening.{freshOf, openOf, zeros, line}
-use Rattle.store.specs.Quiet.{laneAt, quietOf}
+use Rattle.store.specs.Quiet.{laneAt, blockAt, quietOf}
 use Rattle.machine.specs.declared.Settled.{Settled}
 use Rattle.machine.specs.declared.Settled.the-variants.{Steps}
-use Rattle.machine.specs.Change.{withLane, withReturns, posted}
+use Rattle.machine.specs.declared.Filled.the-variants.{Length}
+use Rattle.machine.specs.Change.{withWaiting, withReturns, withDowns, withLane, posted}
 use Rattle.machine.specs.Begin.{bareReturn}
 use Rattle.machine.specs.Serve.{bareDown}
 use Rattle.machine.specs.Deliver.{withLine}
 use Rattle.machine.specs.Settle.{lane, boundOf}
 use Rattle.machine.specs.Flags.{lineIn}
 use Rattle.machine.specs.Calls.{Call, Begin, Serve, Return, Deliver, Settle, Reply, Entry, run}
+use Rattle.machine.specs.Fill.{Filling, unwritten}
+use Rattle.machine.specs.Picture.{pictureOf}
 use Rattle.machine.specs.Tape.{replayOf}
 use Rattle.machine.specs.Text.{tapeMost, printed, textMost}
 
@@ -43,7 +50,7 @@ pub data Said : Type 0 where
   refused : ℕ → Said
   settled : ℕ → List Completion → Said
 
--- what a row shows: the answer of an opening with n, c and m of its store, the answers of a list of calls, a tape's lines, bytes, a word, a number, or a flag
+-- what a row shows: the answer of an opening with n, c and m of its store, the answers of a list of calls, a tape's lines, bytes, a word, a number, a flag, or what a lent buffer is filled with
 pub data Shown : Type 0 where
   Opening : Said → ℕ → ℕ → ℕ → Shown
   Says : List Said → Shown
@@ -52,6 +59,7 @@ pub data Shown : Type 0 where
   Word : ℕ → Shown
   Number : ℕ → Shown
   Flag : Bool → Shown
+  Fills : Filling → Shown
 
 pub record Row : Type 0 where
   pub given : Shown
@@ -507,6 +515,104 @@ serving k a awaited s = record {
 abbrev pub filled : ℕ → ℕ → Store → Store
 filled k a s = withLane s k (withLine (line 0) (record { valid = true; private = false; block = block a; words = zeros }) (laneAt s k))
 
+-- lane k with an operation on word w, unserved or served; with as many messages in its queues as the number says; with a use order; a block
+-- with PRESENT for lane k
+abbrev pub operation : ℕ → Operation
+operation w = record { command = ReadShared; op = Op.Load; word = record { 0 = w } }
+
+abbrev pub waits : Waiting → Store → Store
+waits x s = withLane s 0 (withWaiting x (laneAt s 0))
+
+abbrev pub returning : ℕ → Store → Store
+returning len s = withLane s 0 (withReturns (record { len = len; at = laneAt s 0 .returns .at }) (laneAt s 0))
+
+abbrev pub sending : ℕ → Store → Store
+sending len s = withLane s 0 (withDowns (record { len = len; at = laneAt s 0 .downs .at }) (laneAt s 0))
+
+abbrev pub ordered : ℕ → ℕ → Store → Store
+ordered i j s =
+    let l = laneAt s 0 in
+    withLane s 0 (record { lines = l .lines; order = line i ∷ line j ∷ drop 2 (l .order); returns = l .returns; downs = l .downs; waiting = l .waiting })
+
+abbrev pub flagged : ℕ → Store → Store
+flagged k s = record {
+  n = s .n;
+  c = s .c;
+  m = s .m;
+  control = s .control;
+  lanes = s .lanes;
+  blocks = set (s .blocks) 0 (record { words = zeros; present = set (blockAt s 0 .present) k true; modified = false });
+}
+
+-- a row of 14: serve finds the store corrupt, or finds nothing to serve
+abbrev pub corrupt : Store → Row
+corrupt s = on s (serve 1 says refused 14 ∷ [])
+
+abbrev pub sound : Store → Row
+sound s = on s (serve 1 says refused 9 ∷ [])
+
+-- lane 1 has stored 258 in word 2: a picture of one record, into a buffer of so many bytes that are all 255
+abbrev pub pictured : Store → ℕ → Shown
+pictured s size = Fills (pictureOf s (replicate size 255))
+
+abbrev pub stored : Store
+stored = after (opened 2 1 1) (store 1 2 258 ∷ serve 1 ∷ deliver 1 ∷ [])
+
+-- the picture: its length, its bytes and those after it; 15 and 14, with the buffer as it was
+abbrev pub pictures : List Row
+pictures =
+    record {
+      given = pictured stored 20;
+      wanted = Fills (record {
+        answer = Length 19;
+        buffer = 16 ∷ 1 ∷ 0 ∷ 0 ∷ 0 ∷ 0 ∷ 0 ∷ 0 ∷ 0 ∷ 0 ∷ 0 ∷ 2 ∷ 1 ∷ 0 ∷ 0 ∷ 0 ∷ 0 ∷ 0 ∷ 0 ∷ 255 ∷ [];
+      });
+    } ∷
+    record { given = pictured stored 18; wanted = Fills (unwritten BufferTooShort (replicate 18 255)) } ∷
+    record { given = pictured (freshOf 9 1 1) 20; wanted = Fills (unwritten Corrupt (replicate 20 255)) } ∷
+    []
+
+-- each condition of 14, and the store just within it
+abbrev pub corruptStores : List Row
+corruptStores =
+    corrupt (freshOf 1 1 1) ∷
+    corrupt (freshOf 9 1 1) ∷
+    corrupt (freshOf 2 0 1) ∷
+    corrupt (freshOf 2 9 1) ∷
+    corrupt (freshOf 2 1 0) ∷
+    corrupt (freshOf 2 1 65) ∷
+    sound (freshOf 8 8 64) ∷
+    -- a valid line
+    corrupt (filled 0 2 (opened 2 1 2)) ∷
+    sound (filled 0 1 (opened 2 1 2)) ∷
+    -- a queued message, at either place of either queue
+    corrupt (gone 0 2 (opened 2 1 2)) ∷
+    corrupt (gone 0 2 (gone 0 1 (opened 2 1 2))) ∷
+    sound (gone 0 1 (gone 0 1 (opened 2 1 2))) ∷
+    corrupt (sent Purge 0 2 (opened 2 1 2)) ∷
+    corrupt (sent Purge 0 2 (sent Purge 0 1 (opened 2 1 2))) ∷
+    sound (sent Purge 0 1 (sent Purge 0 1 (opened 2 1 2))) ∷
+    -- a queue length
+    corrupt (returning 3 (opened 2 1 2)) ∷
+    corrupt (sending 3 (opened 2 1 2)) ∷
+    -- a waiting operation
+    corrupt (waits (Unserved (operation 8)) (opened 2 1 2)) ∷
+    corrupt (waits (Served (operation 8)) (opened 2 1 2)) ∷
+    sound (waits (Served (operation 7)) (opened 2 1 2)) ∷
+    -- a service: its lane, its block, the count of answers awaited
+    corrupt (serving 2 0 1 (opened 2 1 2)) ∷
+    corrupt (serving 0 2 1 (opened 2 1 2)) ∷
+    corrupt (serving 0 0 2 (opened 2 1 2)) ∷
+    sound (serving 1 1 1 (opened 2 1 2)) ∷
+    -- PRESENT for lane n
+    corrupt (flagged 2 (opened 2 1 2)) ∷
+    sound (flagged 1 (opened 2 1 2)) ∷
+    -- a use order that names a line twice, and one that names none of the c lines
+    corrupt (ordered 0 0 (opened 2 2 2)) ∷
+    corrupt (ordered 2 0 (opened 2 2 2)) ∷
+    sound (ordered 1 0 (opened 2 2 2)) ∷
+    []
+
 -- refusals of such stores
 abbrev pub heldStores : List Row
 heldStores =
@@ -537,4 +643,4 @@ heldStores =
 
 -- the table
 unfoldable pub rows : List Row
-rows = casesOf01 ++ races ++ shutOut ++ bounds ++ sentences ++ heldStores
+rows = casesOf01 ++ races ++ shutOut ++ bounds ++ sentences ++ pictures ++ corruptStores ++ heldStores
