@@ -53,8 +53,11 @@ bodyLength Kind.Deliver = 1
 bodyLength Kind.Unknown = 0
 
 -- what a kind byte picks: body length and step
+abbrev pub formWith : ℕ → Kind → Form
+formWith length kind = record { length = length; kind = kind }
+
 abbrev pub formOf : ℕ → Form
-formOf byte = record { length = bodyLength (kindOf byte); kind = kindOf byte }
+formOf byte = formWith (bodyLength (kindOf byte)) (kindOf byte)
 
 -- a field of one byte
 abbrev pub field : List ℕ → ℕ → ℕ

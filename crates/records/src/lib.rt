@@ -3,7 +3,7 @@
 ghost use mathlib.Core.Path.{_≡_};
 ghost use Prim.Native.Nat.{_≤_};
 ghost use lib.ListN.{length};
-ghost use Rattle.records.specs.Records.{knownOf, bodyLength, formOf, valueOf, operandOf, beginFields, fieldsOf, lastOf, parseOf};
+ghost use Rattle.records.specs.Records.{knownOf, bodyLength, formWith, formOf, valueOf, operandOf, beginFields, fieldsOf, lastOf, parseOf};
 use words::LaneNo;
 use words::Op;
 use words::WordNo;
@@ -83,46 +83,29 @@ pub struct Parsed {
     pub rec: Record,
 }
 
+fn picks(length: usize, kind: Kind) -> Form
+    ensures { λ r. ⌜ r ≡ formWith length kind ⌝ }
+{
+    Form {
+        length: length,
+        kind: kind,
+    }
+}
+
+// The one reading of a kind byte.
 fn form_of(byte: u8) -> Form
     ensures { λ r. ⌜ r ≡ formOf byte ⌝ }
 {
     match byte {
-        OPEN => Form {
-            length: 3,
-            kind: Kind::Open,
-        },
-        LOAD => Form {
-            length: 2,
-            kind: Kind::Load,
-        },
-        STORE => Form {
-            length: 6,
-            kind: Kind::Store,
-        },
-        EXCHANGE => Form {
-            length: 6,
-            kind: Kind::Exchange,
-        },
-        ADD => Form {
-            length: 6,
-            kind: Kind::Add,
-        },
-        SERVE => Form {
-            length: 1,
-            kind: Kind::Serve,
-        },
-        RETURN => Form {
-            length: 1,
-            kind: Kind::Return,
-        },
-        DELIVER => Form {
-            length: 1,
-            kind: Kind::Deliver,
-        },
-        NO_KIND..=255 => Form {
-            length: 0,
-            kind: Kind::Unknown,
-        },
+        OPEN => picks(3, Kind::Open),
+        LOAD => picks(2, Kind::Load),
+        STORE => picks(6, Kind::Store),
+        EXCHANGE => picks(6, Kind::Exchange),
+        ADD => picks(6, Kind::Add),
+        SERVE => picks(1, Kind::Serve),
+        RETURN => picks(1, Kind::Return),
+        DELIVER => picks(1, Kind::Deliver),
+        NO_KIND..=255 => picks(0, Kind::Unknown),
     }
 }
 
