@@ -92,7 +92,7 @@ fn make_tapes(seed: &str, count: &str, dir: &Path) -> Outcome {
 fn tape_files(dir: &Path) -> Result<Vec<PathBuf>, String> {
     let entries = fs::read_dir(dir).map_err(text)?;
     let mut files: Vec<PathBuf> = entries.filter_map(|e| Some(e.ok()?.path())).collect();
-    files.retain(|file| file.extension().is_some_and(|x| x == "tape"));
+    files.retain(|file| file.extension().map_or(false, |x| x == "tape"));
     files.sort();
     Ok(files)
 }
