@@ -2,6 +2,7 @@
 //! and its readings only, with generators of tapes, of lists of calls and of
 //! held stores.
 
+pub mod bounds;
 pub mod conditions;
 pub mod cover;
 pub mod damage;
