@@ -266,7 +266,10 @@ fn picture_lengths_are_near_the_need() {
     let (mut exact, mut one_short) = (0, 0);
     for index in 0..20_000 {
         let case = stores::make(1, index);
-        let HeldCall::Picture(lent) = case.call else { continue };
+        let lent = match case.call {
+            HeldCall::Picture(lent) => lent,
+            _ => continue,
+        };
         assert!(lent <= 1_300);
         let mut buffer = [0; 1_300];
         if let Ok(need) = machine::picture(&case.store, &mut buffer) {
