@@ -3,6 +3,7 @@
 //! held stores.
 
 pub mod bounds;
+pub mod choice;
 pub mod conditions;
 pub mod cover;
 pub mod damage;

@@ -2,7 +2,7 @@
 
 use reference::cover::{self, Cover};
 use reference::summary::{Cases, Tapes};
-use reference::{bounds, held, judge, list_maker, lists, stores, tape, tapes};
+use reference::{bounds, choice, held, judge, list_maker, lists, stores, tape, tapes};
 use std::fs;
 use std::io::{self, BufWriter, Read, Write};
 use std::path::{Path, PathBuf};
@@ -15,6 +15,7 @@ const USAGE: &str = "usage:
   reference draw-tapes SEED COUNT DIR
   reference expect-tapes DIR
   reference make-held SEED COUNT FILE
+  reference choose-held SEED COUNT FILE
   reference differ-held CASES ANSWERS
   reference bound-held CASES ANSWERS
   reference lists < LISTS
@@ -38,6 +39,7 @@ fn main() -> ExitCode {
         ["draw-tapes", seed, count, dir] => make_tapes(seed, count, dir, tapes::drawn_index),
         ["expect-tapes", dir] => expect_tapes(Path::new(dir)),
         ["make-held", seed, count, file] => make_held(seed, count, Path::new(file)),
+        ["choose-held", seed, count, file] => choose_held(seed, count, Path::new(file)),
         ["differ-held", cases, answers] => differ_held(cases, answers),
         ["bound-held", cases, answers] => bound_held(cases, answers),
         ["lists"] => run_lists(),
@@ -133,6 +135,14 @@ fn make_held(seed: &str, count: &str, file: &Path) -> Outcome {
     }
     out.flush().map_err(text)?;
     print!("{summary}");
+    Ok(())
+}
+
+fn choose_held(seed: &str, count: &str, file: &Path) -> Outcome {
+    let cases = choice::choose(number(seed)?, number(count)?);
+    let bytes = cases.iter().flat_map(|case| held::encode_case(&case.store, case.call));
+    fs::write(file, bytes.collect::<Vec<u8>>()).map_err(text)?;
+    println!("{} cases chosen", cases.len());
     Ok(())
 }
 

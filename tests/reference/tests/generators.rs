@@ -1,6 +1,7 @@
 //! What the generators promise.
 
 use reference::bounds;
+use reference::choice;
 use reference::conditions::{self, REASONS, UNEXPECTED_REASONS};
 use reference::damage::{CORRUPTING, FAIR};
 use reference::held::{self, HeldAnswer, HeldCall, SETTLE_KIND};
@@ -173,6 +174,28 @@ fn cases_cover_what_they_must() {
         check_settles(&summary);
         check_pairs(&summary);
     }
+}
+
+/// Few enough that their answers have less than a mebibyte, which is all
+/// that `rt try` lets a program write.
+#[test]
+fn chosen_cases_are_few_and_meet_much() {
+    let (mut summary, mut bytes) = (Cases::default(), 0);
+    for case in choice::choose(1, 20_000) {
+        summary.add(&case, &held::run(&case.store, case.call).answer);
+        bytes += held::given_length(case.call);
+    }
+    assert!(bytes < 1 << 20, "{bytes} bytes");
+    for kind in HELD_KINDS {
+        let never = |number: &&u8| summary.refused(kind, **number) == 0;
+        assert_eq!(conditions::applicable(kind).iter().find(never), None, "kind {kind}");
+    }
+    let alone = |reason| summary.reasons.get(reason).map_or(0, |counts| counts.1);
+    assert!(REASONS.iter().all(|reason| alone(reason) > 0));
+    let alone = |reason| summary.unexpected_reasons.get(reason).map_or(0, |counts| counts.1);
+    assert!(UNEXPECTED_REASONS.iter().all(|reason| alone(reason) > 0));
+    assert!(situations::NAMES.iter().all(|name| summary.situations.contains_key(name)));
+    assert!((0..=8).all(|count| summary.settled.contains_key(&count)), "{:?}", summary.settled);
 }
 
 /// Settle: each number and reason, each count of completions, and refusals
