@@ -31,7 +31,7 @@ fn meets(case: &Case) -> Vec<String> {
     met.push(match &answer {
         HeldAnswer::Machine(Answer::Done { .. }) => format!("{kind} done {}", taken(s, call)),
         HeldAnswer::Machine(answer) => format!("{kind} {answer:?} {}", taken(s, call)),
-        HeldAnswer::Picture(_) => "picture".to_string(),
+        HeldAnswer::Picture(length) => format!("picture of {} records", (length / 19).min(6)),
         HeldAnswer::Settled(given) => format!("settled {}", given.completions.len()),
         HeldAnswer::Refused(14) => why(s, call, 14),
         HeldAnswer::Refused(number) => format!("{kind} refused {number} {}", why(s, call, *number)),
@@ -47,6 +47,12 @@ fn meets(case: &Case) -> Vec<String> {
 /// What a call that is not refused takes.
 fn taken(s: &Store, call: HeldCall) -> String {
     match call {
+        HeldCall::Machine(Call::Begin { lane, word, .. }) => {
+            let lane = &s.lanes[usize::from(lane)];
+            let found = machine::search(lane, s.c, word / 4);
+            let full = lane.lines[..usize::from(s.c)].iter().all(|line| line.valid);
+            format!("{:?} {full}", found.map(|i| lane.lines[i].private))
+        }
         HeldCall::Machine(Call::Serve(k)) => {
             let waiting = s.lanes[usize::from(k)].waiting.expect("an unserved operation");
             let block = &s.blocks[usize::from(waiting.block())];
