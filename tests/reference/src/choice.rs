@@ -10,15 +10,35 @@ use crate::stores::{self, Case};
 use crate::summary::kind_name;
 use std::collections::BTreeSet;
 
-/// The cases chosen, of the first so many of a seed.
+/// The cases chosen, of the first so many of a seed: by what each meets, then
+/// settles by what they find.
 pub fn choose(seed: u64, from: usize) -> Vec<Case> {
+    let mut chosen = first_of_each(seed, from, meets);
+    chosen.extend(first_of_each(seed, from, finds));
+    chosen
+}
+
+fn first_of_each(seed: u64, from: usize, met: fn(&Case) -> Vec<String>) -> Vec<Case> {
     let mut seen = BTreeSet::new();
     let mut is_new = |case: &Case| {
         let before = seen.len();
-        seen.extend(meets(case));
+        seen.extend(met(case));
         seen.len() > before
     };
     (0..from).map(|index| stores::make(seed, index)).filter(|case| is_new(case)).collect()
+}
+
+/// Which parts keep the store from being quiet, for a settle not refused.
+fn finds(case: &Case) -> Vec<String> {
+    let (s, call) = (&case.store, case.call);
+    if call != HeldCall::Settle || !conditions::all(s, call).is_empty() {
+        return Vec::new();
+    }
+    let some = |test: fn(&Lane) -> bool| s.lanes[..usize::from(s.n)].iter().any(test);
+    let waits = some(|lane| lane.waiting.is_some());
+    let returns = some(|lane| !lane.returns.is_empty());
+    let downs = some(|lane| !lane.down.is_empty());
+    vec![format!("{:?}", [s.service.is_some(), waits, returns, downs])]
 }
 
 /// What a case meets, each thing a text.
