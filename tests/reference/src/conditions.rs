@@ -72,7 +72,7 @@ fn first_step(s: &Store) -> Option<Call> {
     let mut steps = lanes.iter().filter(|(_, l)| l.down.length > 0).map(|&(k, _)| Call::Deliver(k));
     let mut takes =
         lanes.iter().filter(|(_, l)| l.returns.length > 0).map(|&(k, _)| Call::Return(k));
-    let waits = |lane: &Lane| lane.waiting.is_some_and(|w| !w.served);
+    let waits = |lane: &Lane| lane.waiting.map_or(false, |w| !w.served);
     let mut serves = lanes.iter().filter(|(_, l)| waits(l)).map(|&(k, _)| Call::Serve(k));
     steps.next().or(takes.next()).or(serves.next())
 }
@@ -121,7 +121,7 @@ fn call_condition(s: &Store, lane: &Lane, call: Call, number: u8) -> bool {
         (Call::Return(_), 12) => close_meets_full(s, lane),
         (Call::Deliver(_), 9) => lane.down.length == 0,
         (Call::Deliver(_), 12) => {
-            let order = lane.down.head().is_some_and(|m| m.kind.is_order());
+            let order = lane.down.head().map_or(false, |m| m.kind.is_order());
             order && lane.returns.is_full()
         }
         _ => false,
@@ -130,11 +130,13 @@ fn call_condition(s: &Store, lane: &Lane, call: Call, number: u8) -> bool {
 
 /// An ordered lane's down queue is full; with nobody ordered, k's own is.
 fn serve_meets_full(s: &Store, k: usize) -> bool {
-    let Some(waiting) = s.lanes[k].waiting else {
-        return false;
+    let waiting = match s.lanes[k].waiting {
+        Some(waiting) => waiting,
+        None => return false,
     };
-    let Some(entry) = s.blocks.get(usize::from(waiting.word) / 4) else {
-        return false;
+    let entry = match s.blocks.get(usize::from(waiting.word) / 4) {
+        Some(entry) => entry,
+        None => return false,
     };
     let all = usize::from(s.n).min(LANES);
     let quiet_read = waiting.command == Command::ReadShared && !entry.modified;
@@ -184,22 +186,23 @@ pub fn unexpected_reasons(s: &Store, call: HeldCall) -> Vec<&'static str> {
 }
 
 fn message_reasons(s: &Store, call: Call) -> Vec<&'static str> {
-    let Some(lane) = s.lanes.get(usize::from(call.lane())) else {
-        return Vec::new();
+    let lane = match s.lanes.get(usize::from(call.lane())) {
+        Some(lane) => lane,
+        None => return Vec::new(),
     };
     let (mut holds, answer, grant) = ([false; 9], head_answer(lane), head_grant(lane));
     match (call, answer, grant) {
         (Call::Return(_), Some(answer), _) => {
             holds[0] = s.service.is_none();
-            holds[1] = s.service.is_some_and(|v| v.block != answer.block);
-            holds[2] = s.service.is_some_and(|v| v.awaited == 0);
+            holds[1] = s.service.map_or(false, |v| v.block != answer.block);
+            holds[2] = s.service.map_or(false, |v| v.awaited == 0);
         }
         (Call::Deliver(_), _, Some(grant)) => {
             let (bare, held) =
                 (grant.kind == DownKind::BareGrant, holds_block(s, lane, grant.block));
             holds[3] = lane.waiting.is_none();
-            holds[4] = lane.waiting.is_some_and(|w| !w.served);
-            holds[5] = lane.waiting.is_some_and(|w| w.word / 4 != grant.block);
+            holds[4] = lane.waiting.map_or(false, |w| !w.served);
+            holds[5] = lane.waiting.map_or(false, |w| w.word / 4 != grant.block);
             holds[6] = bare && !held;
             holds[7] = !bare && held;
             holds[8] = !bare && all_lines_valid(s, lane);
@@ -215,11 +218,12 @@ fn head_grant(lane: &Lane) -> Option<Message<DownKind>> {
 
 /// The head would be the last answer, and the service's lane has no room.
 fn close_meets_full(s: &Store, lane: &Lane) -> bool {
-    let (Some(_), Some(service)) = (head_answer(lane), s.service) else {
-        return false;
+    let service = match (head_answer(lane), s.service) {
+        (Some(_), Some(service)) => service,
+        _ => return false,
     };
     let target = s.lanes.get(usize::from(service.lane));
-    service.awaited <= 1 && target.is_some_and(|l| l.down.is_full())
+    service.awaited <= 1 && target.map_or(false, |l| l.down.is_full())
 }
 
 /// All the reasons that 14 can have.
@@ -280,7 +284,7 @@ fn present_beyond(s: &Store) -> bool {
 fn lane_reasons(s: &Store, lane: &Lane) -> [bool; 11] {
     let word_outside = |served| {
         let waiting = lane.waiting.filter(|w| w.served == served);
-        waiting.is_some_and(|w| usize::from(w.word) / 4 >= usize::from(s.m))
+        waiting.map_or(false, |w| usize::from(w.word) / 4 >= usize::from(s.m))
     };
     let (r, d) = (&lane.returns, &lane.down);
     let named = &lane.order[..usize::from(s.c)];

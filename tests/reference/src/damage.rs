@@ -13,53 +13,58 @@ pub struct Damage {
     pub act: fn(&mut Store, &mut Rng) -> bool,
 }
 
-const fn bad(reason: &'static str, act: fn(&mut Store, &mut Rng) -> bool) -> Damage {
-    Damage { name: reason, reason: Some(reason), act }
+// Macros, since Rust 1.63 has no constant function that takes `act`.
+macro_rules! bad {
+    ($reason:expr, $act:expr) => {
+        Damage { name: $reason, reason: Some($reason), act: $act }
+    };
 }
 
-const fn fair(name: &'static str, act: fn(&mut Store, &mut Rng) -> bool) -> Damage {
-    Damage { name, reason: None, act }
+macro_rules! fair {
+    ($name:expr, $act:expr) => {
+        Damage { name: $name, reason: None, act: $act }
+    };
 }
 
 pub const CORRUPTING: [Damage; 21] = [
-    bad("n below 2", |s, r| set(&mut s.n, r.pick(&[0, 1]))),
-    bad("n above 8", |s, r| set(&mut s.n, r.pick(&[9, 10, 16, 128, 255]))),
-    bad("c below 1", |s, _| set(&mut s.c, 0)),
-    bad("c above 8", |s, r| set(&mut s.c, r.pick(&[9, 10, 16, 128, 255]))),
-    bad("m below 1", |s, _| set(&mut s.m, 0)),
-    bad("m above 64", |s, r| set(&mut s.m, r.pick(&[65, 66, 128, 255]))),
-    bad("block of a valid line", |s, r| {
+    bad!("n below 2", |s, r| set(&mut s.n, r.pick(&[0, 1]))),
+    bad!("n above 8", |s, r| set(&mut s.n, r.pick(&[9, 10, 16, 128, 255]))),
+    bad!("c below 1", |s, _| set(&mut s.c, 0)),
+    bad!("c above 8", |s, r| set(&mut s.c, r.pick(&[9, 10, 16, 128, 255]))),
+    bad!("m below 1", |s, _| set(&mut s.m, 0)),
+    bad!("m above 64", |s, r| set(&mut s.m, r.pick(&[65, 66, 128, 255]))),
+    bad!("block of a valid line", |s, r| {
         let block = from(s.m, r);
         let line = any_line(s, r);
         line.valid = true;
         set(&mut line.block, block)
     }),
-    bad("block of return message 0", |s, r| message_block(s, r, true, 0)),
-    bad("block of return message 1", |s, r| message_block(s, r, true, 1)),
-    bad("block of down message 0", |s, r| message_block(s, r, false, 0)),
-    bad("block of down message 1", |s, r| message_block(s, r, false, 1)),
-    bad("word of an unserved operation", |s, r| waiting_word(s, r, false)),
-    bad("word of a served operation", |s, r| waiting_word(s, r, true)),
-    bad("return queue length", |s, r| set(&mut any_lane(s, r).returns.length, over(r))),
-    bad("down queue length", |s, r| set(&mut any_lane(s, r).down.length, over(r))),
-    bad("use order repeats", order_repeats),
-    bad("use order exceeds", |s, r| {
+    bad!("block of return message 0", |s, r| message_block(s, r, true, 0)),
+    bad!("block of return message 1", |s, r| message_block(s, r, true, 1)),
+    bad!("block of down message 0", |s, r| message_block(s, r, false, 0)),
+    bad!("block of down message 1", |s, r| message_block(s, r, false, 1)),
+    bad!("word of an unserved operation", |s, r| waiting_word(s, r, false)),
+    bad!("word of a served operation", |s, r| waiting_word(s, r, true)),
+    bad!("return queue length", |s, r| set(&mut any_lane(s, r).returns.length, over(r))),
+    bad!("down queue length", |s, r| set(&mut any_lane(s, r).down.length, over(r))),
+    bad!("use order repeats", order_repeats),
+    bad!("use order exceeds", |s, r| {
         let (place, line) = (usize::from(r.byte_below(s.c)), from(s.c, r));
         set(&mut any_lane(s, r).order[place], line)
     }),
-    bad("lane of the service", |s, r| {
+    bad!("lane of the service", |s, r| {
         let lane = from(s.n, r);
         set(&mut any_service(s, r).lane, lane)
     }),
-    bad("block of the service", |s, r| {
+    bad!("block of the service", |s, r| {
         let block = from(s.m, r);
         set(&mut any_service(s, r).block, block)
     }),
-    bad("awaited", |s, r| {
+    bad!("awaited", |s, r| {
         let awaited = from(s.n, r);
         set(&mut any_service(s, r).awaited, awaited)
     }),
-    bad("PRESENT for lane n or above", |s, r| {
+    bad!("PRESENT for lane n or above", |s, r| {
         let n = usize::from(s.n);
         if n == LANES {
             return false;
@@ -70,67 +75,67 @@ pub const CORRUPTING: [Damage; 21] = [
 ];
 
 pub const FAIR: [Damage; 18] = [
-    fair("block of an invalid line", |s, r| {
+    fair!("block of an invalid line", |s, r| {
         let block = from(s.m, r);
         let line = any_line(s, r);
         line.valid = false;
         set(&mut line.block, block)
     }),
-    fair("entries past n, c, m and queue lengths", |s, r| {
+    fair!("entries past n, c, m and queue lengths", |s, r| {
         scramble::junk(s, r);
         true
     }),
-    fair("awaited 0 in an open service", |s, r| set(&mut any_service(s, r).awaited, 0)),
-    fair("bare grant of a READ", bare_grant_of_read),
-    fair("two valid lines of one block", two_lines),
-    fair("served operation without a service", |s, r| {
+    fair!("awaited 0 in an open service", |s, r| set(&mut any_service(s, r).awaited, 0)),
+    fair!("bare grant of a READ", bare_grant_of_read),
+    fair!("two valid lines of one block", two_lines),
+    fair!("served operation without a service", |s, r| {
         s.service = None;
         any_waiting(s, r).served = true;
         true
     }),
-    fair("load that waits with EXCLUDE", |s, r| {
+    fair!("load that waits with EXCLUDE", |s, r| {
         let waiting = any_waiting(s, r);
         (waiting.op, waiting.command) = (Op::Load, Command::Exclude);
         true
     }),
-    fair("PRIVATE turned", |s, r| turn(&mut any_line(s, r).private)),
-    fair("line made invalid", |s, r| {
+    fair!("PRIVATE turned", |s, r| turn(&mut any_line(s, r).private)),
+    fair!("line made invalid", |s, r| {
         any_line(s, r).valid = false;
         true
     }),
-    fair("PRESENT turned", |s, r| {
+    fair!("PRESENT turned", |s, r| {
         let lane = usize::from(r.byte_below(s.n));
         turn(&mut any_block(s, r).present[lane])
     }),
-    fair("MODIFIED turned", |s, r| turn(&mut any_block(s, r).modified)),
-    fair("return queue filled", |s, r| {
+    fair!("MODIFIED turned", |s, r| turn(&mut any_block(s, r).modified)),
+    fair!("return queue filled", |s, r| {
         let places = scramble::return_places(s.m, r);
         any_lane(s, r).returns = Queue { length: 2, places };
         true
     }),
-    fair("down queue filled", |s, r| {
+    fair!("down queue filled", |s, r| {
         let places = scramble::down_places(s.m, r);
         any_lane(s, r).down = Queue { length: 2, places };
         true
     }),
-    fair("use order permuted", |s, r| {
+    fair!("use order permuted", |s, r| {
         let c = s.c;
         scramble::permute(&mut any_lane(s, r).order[..usize::from(c)], r);
         true
     }),
-    fair("service of another block", |s, r| {
+    fair!("service of another block", |s, r| {
         let block = r.byte_below(s.m);
         set(&mut any_service(s, r).block, block)
     }),
-    fair("service dropped", |s, _| {
+    fair!("service dropped", |s, _| {
         s.service = None;
         true
     }),
-    fair("waiting operation dropped", |s, r| {
+    fair!("waiting operation dropped", |s, r| {
         any_lane(s, r).waiting = None;
         true
     }),
-    fair("all lines of a lane valid", |s, r| {
+    fair!("all lines of a lane valid", |s, r| {
         let (c, m) = (usize::from(s.c), s.m);
         let lane = any_lane(s, r);
         for line in lane.lines[..c].iter_mut().filter(|line| !line.valid) {

@@ -106,10 +106,10 @@ impl Events {
             self.count("PURGE on a held block, PRIVATE reset", kind == ReturnKind::Purged);
             self.count("orders on a block not held (GONE)", kind == ReturnKind::Gone);
             let waits = |w: Waiting| w.command == Command::Exclude && w.block() == answer.block;
-            let overtaken = kind == ReturnKind::Purged && is.waiting.is_some_and(waits);
+            let overtaken = kind == ReturnKind::Purged && is.waiting.map_or(false, waits);
             self.count("EXCLUDE overtaken by PURGE", overtaken);
         } else {
-            let exclude = was.waiting.is_some_and(|w| w.command == Command::Exclude);
+            let exclude = was.waiting.map_or(false, |w| w.command == Command::Exclude);
             let words = head == DownKind::Grant;
             self.count("grants with words delivered to an EXCLUDE", exclude && words);
             self.count("bare grants delivered", !words);

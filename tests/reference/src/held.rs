@@ -13,6 +13,9 @@ pub const BUFFER_FILL: u8 = 0xa5;
 pub const PICTURE_KIND: u8 = 0x10;
 pub const SETTLE_KIND: u8 = 0x11;
 
+/// The answer's first byte where settle was not refused.
+pub const SETTLED_TAG: u8 = 6;
+
 /// A place for the completion of each lane, a lane and a value each.
 pub const COMPLETION_BYTES: usize = 5;
 pub const COMPLETIONS_BYTES: usize = LANES * COMPLETION_BYTES;
@@ -88,6 +91,16 @@ impl Given {
     }
 }
 
+/// The bytes of all that a call gives, which have a fixed length.
+pub fn given_length(call: HeldCall) -> usize {
+    let after = match call {
+        HeldCall::Machine(_) => 0,
+        HeldCall::Picture(_) => BUFFER_BYTES,
+        HeldCall::Settle => COMPLETIONS_BYTES,
+    };
+    ANSWER_BYTES + STORE_BYTES + after
+}
+
 /// The 8 bytes of an answer.
 pub fn answer_bytes(answer: &HeldAnswer) -> [u8; ANSWER_BYTES] {
     let (tag, small, value) = match answer {
@@ -96,7 +109,7 @@ pub fn answer_bytes(answer: &HeldAnswer) -> [u8; ANSWER_BYTES] {
         HeldAnswer::Machine(Answer::Step) => (3, 0, 0),
         HeldAnswer::Refused(number) => (4, *number, 0),
         HeldAnswer::Picture(length) => (5, 0, *length),
-        HeldAnswer::Settled(given) => (6, 0, given.steps),
+        HeldAnswer::Settled(given) => (SETTLED_TAG, 0, given.steps),
     };
     let v = value.to_le_bytes();
     [tag, small, v[0], v[1], v[2], v[3], completions(answer).len() as u8, 0]

@@ -2,6 +2,8 @@
 //! and its readings only, with generators of tapes, of lists of calls and of
 //! held stores.
 
+pub mod bounds;
+pub mod choice;
 pub mod conditions;
 pub mod cover;
 pub mod damage;

@@ -1,5 +1,6 @@
 //! Makes lists of calls. List `index` depends on the seed and the index only;
-//! 3,584 lists in a row have every shape once.
+//! 3,584 lists in a row have every shape once, and `CYCLE` of them have each
+//! shape in a long list too.
 
 use crate::held::HeldCall;
 use crate::lists::{self, Given, Record};
@@ -12,10 +13,23 @@ pub const SHAPES: usize = 7 * 8 * 64;
 /// One list in so many is long.
 const LONG_EVERY: usize = 16;
 
+/// Shapes and lengths repeat after so many lists.
+pub const CYCLE: usize = SHAPES * LONG_EVERY;
+
 /// The shape of a list, by its index.
 pub fn shape(index: usize) -> (u8, u8, u8) {
     let (n, c, m) = (index % 7, index / 7 % 8, index / 56 % 64);
     (2 + n as u8, 1 + c as u8, 1 + m as u8)
+}
+
+/// The long lists have other shapes in each round of all shapes.
+pub fn is_long(index: usize) -> bool {
+    (index + index / SHAPES) % LONG_EVERY == 0
+}
+
+/// An index of any shape and length, the seed's choice.
+pub fn drawn_index(seed: u64, place: usize) -> usize {
+    Rng::stream(seed ^ 0x6472_6177, place as u64).below(CYCLE)
 }
 
 pub fn make(seed: u64, index: usize) -> Vec<Record> {
@@ -26,9 +40,9 @@ pub fn make(seed: u64, index: usize) -> Vec<Record> {
         maker.refused_opening();
     }
     maker.push(Record::Open { n, c, m });
-    let length = match index % LONG_EVERY {
-        0 => rng.between(400, 1_000),
-        _ => rng.between(24, 64),
+    let length = match is_long(index) {
+        true => rng.between(400, 1_000),
+        false => rng.between(24, 64),
     };
     match rng.weighted(&[4, 5, 3]) {
         0 => maker.mixed(length),

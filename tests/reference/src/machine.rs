@@ -90,7 +90,8 @@ pub fn corrupt(s: &Store) -> bool {
         return true;
     }
     let (n, m) = (usize::from(s.n), usize::from(s.m));
-    let service = s.service.is_some_and(|v| v.lane >= s.n || v.block >= s.m || v.awaited > s.n - 1);
+    let service =
+        s.service.map_or(false, |v| v.lane >= s.n || v.block >= s.m || v.awaited > s.n - 1);
     let lane = s.lanes[..n].iter().any(|l| corrupt_lane(l, s.c, s.m));
     let present = s.blocks[..m].iter().any(|b| b.present[n..].contains(&true));
     service || lane || present
@@ -102,7 +103,7 @@ fn corrupt_lane(lane: &Lane, c: u8, m: u8) -> bool {
     let mut named = lane.order[..c].to_vec();
     named.sort_unstable();
     let order = named.iter().enumerate().any(|(i, &name)| i != usize::from(name));
-    let waiting = lane.waiting.is_some_and(|w| u16::from(w.word) >= 4 * u16::from(m));
+    let waiting = lane.waiting.map_or(false, |w| u16::from(w.word) >= 4 * u16::from(m));
     lines || order || waiting || corrupt_queue(&lane.returns, m) || corrupt_queue(&lane.down, m)
 }
 
@@ -243,7 +244,7 @@ fn close(s: &mut Store) -> Result<(), u8> {
 fn take_return(s: &mut Store, k: u8) -> Result<Answer, u8> {
     let message = s.lanes[usize::from(k)].returns.take().ok_or(NOTHING_PENDING)?;
     let kind = message.kind;
-    let expected = s.service.is_some_and(|v| v.block == message.block && v.awaited > 0);
+    let expected = s.service.map_or(false, |v| v.block == message.block && v.awaited > 0);
     if kind.is_answer() && !expected {
         return Err(UNEXPECTED);
     }

@@ -2,7 +2,7 @@
 
 use reference::cover::{self, Cover};
 use reference::summary::{Cases, Tapes};
-use reference::{held, judge, list_maker, lists, stores, tape, tapes};
+use reference::{bounds, choice, held, judge, list_maker, lists, stores, tape, tapes};
 use std::fs;
 use std::io::{self, BufWriter, Read, Write};
 use std::path::{Path, PathBuf};
@@ -12,14 +12,19 @@ const USAGE: &str = "usage:
   reference tape < TAPE
   reference held < CASES
   reference make-tapes SEED COUNT DIR
+  reference draw-tapes SEED COUNT DIR
   reference expect-tapes DIR
   reference make-held SEED COUNT FILE
+  reference choose-held SEED COUNT FILE
   reference differ-held CASES ANSWERS
+  reference bound-held CASES ANSWERS
   reference lists < LISTS
   reference make-lists SEED COUNT FILE
+  reference draw-lists SEED COUNT FILE
   reference count-lists LISTS
   reference cover-lists LISTS
   reference judge-lists LISTS ANSWERS
+  reference bound-lists LISTS ANSWERS
   reference differ-lists LISTS ANSWERS";
 
 type Outcome = Result<(), String>;
@@ -30,15 +35,20 @@ fn main() -> ExitCode {
     let result = match args[..] {
         ["tape"] => run_tape(),
         ["held"] => run_held(),
-        ["make-tapes", seed, count, dir] => make_tapes(seed, count, Path::new(dir)),
+        ["make-tapes", seed, count, dir] => make_tapes(seed, count, dir, in_turn),
+        ["draw-tapes", seed, count, dir] => make_tapes(seed, count, dir, tapes::drawn_index),
         ["expect-tapes", dir] => expect_tapes(Path::new(dir)),
         ["make-held", seed, count, file] => make_held(seed, count, Path::new(file)),
+        ["choose-held", seed, count, file] => choose_held(seed, count, Path::new(file)),
         ["differ-held", cases, answers] => differ_held(cases, answers),
+        ["bound-held", cases, answers] => bound_held(cases, answers),
         ["lists"] => run_lists(),
-        ["make-lists", seed, count, file] => make_lists(seed, count, Path::new(file)),
+        ["make-lists", seed, count, file] => make_lists(seed, count, file, in_turn),
+        ["draw-lists", seed, count, file] => make_lists(seed, count, file, list_maker::drawn_index),
         ["count-lists", lists] => count_lists(lists).map(|_| ()),
         ["cover-lists", lists] => cover_lists(lists),
         ["judge-lists", lists, answers] => judge_lists(lists, answers),
+        ["bound-lists", lists, answers] => bound_lists(lists, answers),
         ["differ-lists", lists, answers] => differ_lists(lists, answers),
         _ => Err(USAGE.to_string()),
     };
@@ -75,14 +85,21 @@ fn run_held() -> Outcome {
     io::stdout().write_all(&out).map_err(text)
 }
 
-fn make_tapes(seed: &str, count: &str, dir: &Path) -> Outcome {
-    let (seed, count) = (number(seed)?, number(count)?);
+/// The index of what is made at a place, by the seed and the place.
+type Choice = fn(u64, usize) -> usize;
+
+fn in_turn(_seed: u64, place: usize) -> usize {
+    place
+}
+
+fn make_tapes(seed: &str, count: &str, dir: &str, choice: Choice) -> Outcome {
+    let (seed, count, dir) = (number(seed)?, number(count)?, Path::new(dir));
     fs::create_dir_all(dir).map_err(text)?;
     let mut summary = Tapes::default();
-    for index in 0..count {
-        let bytes = tapes::make(seed, index);
+    for place in 0..count {
+        let bytes = tapes::make(seed, choice(seed, place));
         summary.add(&bytes);
-        fs::write(dir.join(format!("{index:04}.tape")), bytes).map_err(text)?;
+        fs::write(dir.join(format!("{place:04}.tape")), bytes).map_err(text)?;
     }
     print!("{summary}");
     Ok(())
@@ -92,7 +109,7 @@ fn make_tapes(seed: &str, count: &str, dir: &Path) -> Outcome {
 fn tape_files(dir: &Path) -> Result<Vec<PathBuf>, String> {
     let entries = fs::read_dir(dir).map_err(text)?;
     let mut files: Vec<PathBuf> = entries.filter_map(|e| Some(e.ok()?.path())).collect();
-    files.retain(|file| file.extension().is_some_and(|x| x == "tape"));
+    files.retain(|file| file.extension().map_or(false, |x| x == "tape"));
     files.sort();
     Ok(files)
 }
@@ -121,6 +138,14 @@ fn make_held(seed: &str, count: &str, file: &Path) -> Outcome {
     Ok(())
 }
 
+fn choose_held(seed: &str, count: &str, file: &Path) -> Outcome {
+    let cases = choice::choose(number(seed)?, number(count)?);
+    let bytes = cases.iter().flat_map(|case| held::encode_case(&case.store, case.call));
+    fs::write(file, bytes.collect::<Vec<u8>>()).map_err(text)?;
+    println!("{} cases chosen", cases.len());
+    Ok(())
+}
+
 fn differ_held(cases: &str, answers: &str) -> Outcome {
     let (cases, answers) = (fs::read(cases).map_err(text)?, fs::read(answers).map_err(text)?);
     let found = held::differences(&cases, &answers, 20)?;
@@ -131,15 +156,21 @@ fn differ_held(cases: &str, answers: &str) -> Outcome {
     Err(found.join("\n"))
 }
 
+fn bound_held(cases: &str, answers: &str) -> Outcome {
+    let (cases, answers) = (fs::read(cases).map_err(text)?, fs::read(answers).map_err(text)?);
+    print!("{}", bounds::of_held(&cases, &answers)?);
+    Ok(())
+}
+
 fn run_lists() -> Outcome {
     let out = lists::answers(&input()?)?;
     io::stdout().write_all(&out).map_err(text)
 }
 
-fn make_lists(seed: &str, count: &str, file: &Path) -> Outcome {
+fn make_lists(seed: &str, count: &str, file: &str, choice: Choice) -> Outcome {
     let (seed, count) = (number(seed)?, number(count)?);
     let mut out = BufWriter::new(fs::File::create(file).map_err(text)?);
-    for record in (0..count).flat_map(|index| list_maker::make(seed, index)) {
+    for record in (0..count).flat_map(|place| list_maker::make(seed, choice(seed, place))) {
         out.write_all(&record.bytes()).map_err(text)?;
     }
     out.flush().map_err(text)
@@ -165,6 +196,12 @@ fn cover_lists(file: &str) -> Outcome {
 fn judge_lists(file: &str, answers: &str) -> Outcome {
     let (input, answers) = (fs::read(file).map_err(text)?, fs::read(answers).map_err(text)?);
     print!("{}", judge::judge(&lists::read(&input, &answers)?)?);
+    Ok(())
+}
+
+fn bound_lists(file: &str, answers: &str) -> Outcome {
+    let (input, answers) = (fs::read(file).map_err(text)?, fs::read(answers).map_err(text)?);
+    print!("{}", bounds::of_lists(&lists::read(&input, &answers)?)?);
     Ok(())
 }
 

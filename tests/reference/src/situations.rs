@@ -24,8 +24,9 @@ pub const NAMES: [&str; 14] = [
 
 /// The situations that a case meets, given that it was not refused.
 pub fn met(s: &Store, call: HeldCall, answer: &HeldAnswer) -> Vec<&'static str> {
-    let (HeldCall::Machine(call), &HeldAnswer::Machine(answer)) = (call, answer) else {
-        return Vec::new();
+    let (call, answer) = match (call, answer) {
+        (HeldCall::Machine(call), &HeldAnswer::Machine(answer)) => (call, answer),
+        _ => return Vec::new(),
     };
     let lane = &s.lanes[usize::from(call.lane())];
     let holds: [bool; NAMES.len()] = std::array::from_fn(|i| match (call, i) {
@@ -55,7 +56,7 @@ fn begin(s: &Store, lane: &Lane, block: u8, answer: Answer, situation: usize) ->
 fn serve(s: &Store, k: u8, situation: usize) -> bool {
     let (after, _) = machine::call(s, Call::Serve(k)).expect("not refused");
     let orders = after.service.map_or(0, |service| service.awaited);
-    let shared = after.service.is_some_and(|v| v.command == Command::ReadShared);
+    let shared = after.service.map_or(false, |v| v.command == Command::ReadShared);
     match situation {
         3 => orders > 0 && s.lanes[usize::from(k)].down.is_full(),
         _ => orders > 1 && shared,
@@ -64,8 +65,9 @@ fn serve(s: &Store, k: u8, situation: usize) -> bool {
 
 fn take_return(s: &Store, k: u8, situation: usize) -> bool {
     let message = s.lanes[usize::from(k)].returns.places[0];
-    let Some(service) = s.service else {
-        return false;
+    let service = match s.service {
+        Some(service) => service,
+        None => return false,
     };
     let answer = message.kind.is_answer();
     match situation {
@@ -79,15 +81,15 @@ fn take_return(s: &Store, k: u8, situation: usize) -> bool {
 fn deliver(s: &Store, lane: &Lane, situation: usize) -> bool {
     let message = lane.down.places[0];
     let order = message.kind.is_order();
-    let waits = |command: Command| lane.waiting.is_some_and(|w| w.command == command);
-    let load = lane.waiting.is_some_and(|w| w.op.is_load());
+    let waits = |command: Command| lane.waiting.map_or(false, |w| w.command == command);
+    let load = lane.waiting.map_or(false, |w| w.op.is_load());
     match situation {
         9 => !order && lane.returns.is_full(),
         10 => order && copies(s, lane, message.block) > 1,
         11 => {
             let held = machine::search(lane, s.c, message.block);
             let update = message.kind == DownKind::Update;
-            update && held.is_some_and(|i| !lane.lines[i].private)
+            update && held.map_or(false, |i| !lane.lines[i].private)
         }
         12 => message.kind == DownKind::BareGrant && !waits(Command::Exclude),
         _ => !order && load && waits(Command::Exclude),

@@ -189,8 +189,9 @@ fn toward_serve(s: &mut Store, k: usize, rng: &mut Rng) {
 
 /// Many lanes have the block, and room for orders unlike k itself.
 fn toward_orders(s: &mut Store, k: usize, rng: &mut Rng) {
-    let Some(waiting) = s.lanes[k].waiting else {
-        return;
+    let waiting = match s.lanes[k].waiting {
+        Some(waiting) => waiting,
+        None => return,
     };
     let n = usize::from(s.n);
     let entry = &mut s.blocks[usize::from(waiting.block())];

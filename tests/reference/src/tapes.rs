@@ -1,6 +1,7 @@
 //! Makes tapes. The machine is run while a tape is made, so that most of its
 //! records do something. Tape `index` depends on the seed and the index only.
 
+use crate::list_maker::SHAPES;
 use crate::parts::*;
 use crate::rng::Rng;
 use crate::tape::{self, body_length, Record, LONGEST};
@@ -74,8 +75,13 @@ fn unknown_roles(kind: u8) -> [Role; 3] {
     ways.map(|(followed, opened)| Role::Unknown { kind, followed, opened })
 }
 
+/// An index of any role, and of any shape where it is General; the seed's choice.
+pub fn drawn_index(seed: u64, place: usize) -> usize {
+    Rng::stream(seed ^ 0x6472_6177, place as u64).below(CYCLE * SHAPES)
+}
+
 /// The role of a tape, and its rank among the General ones so far.
-fn role(index: usize) -> (Role, usize) {
+pub fn role(index: usize) -> (Role, usize) {
     let specials = special_roles();
     let (round, at) = (index / CYCLE, index % CYCLE);
     let rank = round * (CYCLE - specials.len()) + at.saturating_sub(specials.len());
@@ -103,15 +109,16 @@ fn random_bytes(mut rng: Rng) -> Vec<u8> {
     (0..rng.between(2_000, 8_000)).map(|_| rng.byte_below(8)).collect()
 }
 
-type Shape = (u8, u8, u8);
+pub type Shape = (u8, u8, u8);
 
-/// Every n, c and m in turn; each third tape any small shape.
-fn shape_of_rank(rank: usize, rng: &mut Rng) -> Shape {
+/// Every n, c and m in turn, and in 3,584 turns every shape; each third tape
+/// any small shape.
+pub fn shape_of_rank(rank: usize, rng: &mut Rng) -> Shape {
     if rank % 3 == 2 {
         return small_shape(rng);
     }
     let turn = rank / 3 * 2 + rank % 3;
-    let (n, c, m) = (2 + turn % 7, 1 + (turn + turn / 8) % 8, 1 + turn % 64);
+    let (n, c, m) = (2 + turn % 7, 1 + (turn + turn / 8 + turn / 64) % 8, 1 + turn % 64);
     (n as u8, c as u8, m as u8)
 }
 

@@ -1,8 +1,11 @@
 //! What the generators promise.
 
+use reference::bounds;
+use reference::choice;
 use reference::conditions::{self, REASONS, UNEXPECTED_REASONS};
 use reference::damage::{CORRUPTING, FAIR};
 use reference::held::{self, HeldAnswer, HeldCall, SETTLE_KIND};
+use reference::list_maker::SHAPES;
 use reference::machine;
 use reference::rng::Rng;
 use reference::situations;
@@ -42,6 +45,42 @@ fn tapes_cover_what_they_must() {
     for m in 1..=64 {
         assert!(summary.shapes.iter().any(|s| s.2 == m), "m {m}");
     }
+}
+
+/// Every role of a cycle, and General tapes of every rank of 3,584 turns.
+#[test]
+fn drawn_tapes_reach_every_role_and_shape() {
+    let (mut places, mut ranks) = (BTreeSet::new(), BTreeSet::new());
+    for index in (0..100_000).map(|place| tapes::drawn_index(1, place)) {
+        let (role, rank) = tapes::role(index);
+        places.insert(index % tapes::CYCLE);
+        if role == tapes::Role::General {
+            ranks.insert(rank % (SHAPES / 2 * 3));
+        }
+    }
+    assert_eq!((places.len(), ranks.len()), (tapes::CYCLE, SHAPES / 2 * 3));
+    let turns = (0..SHAPES / 2 * 3).filter(|rank| rank % 3 < 2);
+    let mut rng = Rng::new(1);
+    let shapes: BTreeSet<_> = turns.map(|rank| tapes::shape_of_rank(rank, &mut rng)).collect();
+    assert_eq!(shapes.len(), SHAPES);
+    assert_ne!(tapes::drawn_index(1, 0), tapes::drawn_index(2, 0));
+}
+
+#[test]
+fn held_counts_above_the_bound_are_found() {
+    let cases: Vec<_> = (0..2_000).map(|index| stores::make(1, index)).collect();
+    let settles = cases.iter().filter(|case| case.call == HeldCall::Settle);
+    let input: Vec<u8> = settles.flat_map(|c| held::encode_case(&c.store, c.call)).collect();
+    let mut answers = held::answers(&input).expect("well formed");
+    let bounded = bounds::of_held(&input, &answers).expect("within the bound");
+    assert!(bounded.settles >= 20 && bounded.reached > 0, "{bounded:?}");
+    let length = held::given_length(HeldCall::Settle);
+    let first = answers.chunks(length).position(|a| a[0] == held::SETTLED_TAG).expect("a settle");
+    answers[first * length + 4] = 1;
+    assert!(bounds::of_held(&input, &answers).is_err());
+    answers[first * length + 4] = 0;
+    answers.pop();
+    assert!(bounds::of_held(&input, &answers).is_err());
 }
 
 #[test]
@@ -137,6 +176,28 @@ fn cases_cover_what_they_must() {
     }
 }
 
+/// Few enough that their answers have less than a mebibyte, which is all
+/// that `rt try` lets a program write.
+#[test]
+fn chosen_cases_are_few_and_meet_much() {
+    let (mut summary, mut bytes) = (Cases::default(), 0);
+    for case in choice::choose(1, 20_000) {
+        summary.add(&case, &held::run(&case.store, case.call).answer);
+        bytes += held::given_length(case.call);
+    }
+    assert!(bytes < 1 << 20, "{bytes} bytes");
+    for kind in HELD_KINDS {
+        let never = |number: &&u8| summary.refused(kind, **number) == 0;
+        assert_eq!(conditions::applicable(kind).iter().find(never), None, "kind {kind}");
+    }
+    let alone = |reason| summary.reasons.get(reason).map_or(0, |counts| counts.1);
+    assert!(REASONS.iter().all(|reason| alone(reason) > 0));
+    let alone = |reason| summary.unexpected_reasons.get(reason).map_or(0, |counts| counts.1);
+    assert!(UNEXPECTED_REASONS.iter().all(|reason| alone(reason) > 0));
+    assert!(situations::NAMES.iter().all(|name| summary.situations.contains_key(name)));
+    assert!((0..=8).all(|count| summary.settled.contains_key(&count)), "{:?}", summary.settled);
+}
+
 /// Settle: each number and reason, each count of completions, and refusals
 /// that have steps and completions to undo.
 fn check_settles(summary: &Cases) {
@@ -228,7 +289,10 @@ fn picture_lengths_are_near_the_need() {
     let (mut exact, mut one_short) = (0, 0);
     for index in 0..20_000 {
         let case = stores::make(1, index);
-        let HeldCall::Picture(lent) = case.call else { continue };
+        let lent = match case.call {
+            HeldCall::Picture(lent) => lent,
+            _ => continue,
+        };
         assert!(lent <= 1_300);
         let mut buffer = [0; 1_300];
         if let Ok(need) = machine::picture(&case.store, &mut buffer) {

@@ -1,6 +1,7 @@
 //! Lists of calls: their bytes, what the maker promises, and what the judge
 //! of demand 3 finds.
 
+use reference::bounds::{self, Bounded};
 use reference::cover;
 use reference::held::{HeldAnswer, HeldCall};
 use reference::judge::judge;
@@ -127,6 +128,19 @@ fn the_judge_finds_lies() {
     }
 }
 
+/// The bound of two unserved operations of two lanes is 8.
+#[test]
+fn a_count_above_the_bound_is_found() {
+    let bounded = |steps| {
+        let mut all = answered(&two_stores());
+        all[3].1 = settled(steps, &[(0, 7), (1, 9)]);
+        bounds::of_lists(&all)
+    };
+    assert_eq!(bounded(6), Ok(Bounded { settles: 1, reached: 0 }));
+    assert_eq!(bounded(8), Ok(Bounded { settles: 1, reached: 1 }));
+    assert!(bounded(9).is_err());
+}
+
 /// A refused call feeds flat memory nothing, and the last begin that waited
 /// is the one that completes.
 #[test]
@@ -166,6 +180,19 @@ fn the_maker_is_deterministic_and_has_all_shapes() {
     assert_eq!(shapes.len(), SHAPES);
     let inside = |(n, c, m)| (2..=8).contains(&n) && (1..=8).contains(&c) && (1..=64).contains(&m);
     assert!(shapes.into_iter().all(inside));
+}
+
+/// Every shape, in short lists and in long ones, of one seed and of another.
+#[test]
+fn drawn_lists_reach_every_shape() {
+    for seed in [1, 2] {
+        let drawn = (0..12 * list_maker::CYCLE).map(|place| list_maker::drawn_index(seed, place));
+        let kinds: BTreeSet<_> =
+            drawn.map(|i| (list_maker::shape(i), list_maker::is_long(i))).collect();
+        assert_eq!(kinds.len(), 2 * SHAPES);
+    }
+    let few = |seed| (0..9).map(|place| list_maker::drawn_index(seed, place)).collect::<Vec<_>>();
+    assert_ne!(few(1), few(2));
 }
 
 #[test]

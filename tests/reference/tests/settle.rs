@@ -211,8 +211,9 @@ fn check_against_calls(s: &Store) -> (u32, Result<usize, u8>) {
         if now.quiet() {
             break None;
         }
-        let Some(step) = next_step(&now) else {
-            break Some(16);
+        let step = match next_step(&now) {
+            Some(step) => step,
+            None => break Some(16),
         };
         match machine::call(&now, step) {
             Err(number) => break Some(number),
