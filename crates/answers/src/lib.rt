@@ -20,7 +20,7 @@ pub enum Refusal {
     QueueFull, // 12, jam
     TapeTooLong, // 13, too long
     Corrupt, // 14, spoilt: the store breaks its own bounds
-    BufferTooShort, // 15, sheet short: the picture does not fit
+    BufferTooShort, // 15, sheet short: the picture, or a tape's text, may not fit
     Unexpected, // 16, stray: a message that nobody waits for, or a settle that is stuck
 }
 

@@ -3,12 +3,13 @@
 ghost use mathlib.Core.Path.{_≡_};
 ghost use Prim.Native.Nat.{_≤_};
 ghost use lib.ListN.{length};
-ghost use Rattle.machine.specs.Text.{printed};
+ghost use Rattle.machine.specs.Text.{printed, textMost};
 ghost use Rattle.text.specs.Written.{written};
 ghost use Rattle.benchtape.specs.Reading.{bytesOf};
 use libc::STDIN_FILENO;
 use libc::STDOUT_FILENO;
 use machine::Filled;
+use replay::TEXT_MOST;
 
 // What reading gives: how many bytes there are, or that a read failed.
 enum Reading {
@@ -37,16 +38,18 @@ fn read_tape(buf: &mut [u8]) -> Reading
 }
 
 // Room for the longest text.
-fn room() -> [u8; 1310720]
-    ensures { λ r. ⌜ 1310720 ≡ length r ⌝ }
+fn room() -> [u8; TEXT_MOST]
+    ensures { λ r. ⌜ textMost ≡ length r ⌝ }
 {
-    [0; 1310720]
+    [0; TEXT_MOST]
 }
 
 // The tape's text, at the start of a buffer with room for it; its length.
 fn text_of(tape: &[u8], out: &mut [u8]) -> usize
-    requires { ⌜ 1310720 ≤ length (now out) ⌝ }
-    ensures { λ r. ⌜ (r ≡ length (printed (now (tape .entry)))) × (now (out .exit) ≡ written (now (out .entry)) 0 (printed (now (tape .entry)))) × (r ≤ length (now (out .exit))) ⌝ }
+    requires { ⌜ textMost ≤ length (now out) ⌝ }
+    ensures { λ r. ⌜ (r ≡ length (printed (now (tape .entry))))
+        × (now (out .exit) ≡ written (now (out .entry)) 0 (printed (now (tape .entry))))
+        × (r ≤ length (now (out .exit))) ⌝ }
 {
     let answer = replay::print(tape, out);
     match answer {
@@ -57,7 +60,7 @@ fn text_of(tape: &[u8], out: &mut [u8]) -> usize
 
 // One read, the text, one write. A read or a write that fails is told on standard error, and nothing more is written.
 fn bench(tape: &mut [u8], out: &mut [u8])
-    requires { ⌜ 1310720 ≤ length (now out) ⌝ }
+    requires { ⌜ textMost ≤ length (now out) ⌝ }
 {
     let reading = read_tape(tape);
     let Reading::Bytes(n) = reading else {

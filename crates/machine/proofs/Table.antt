@@ -15,10 +15,10 @@ use Rattle.machine.specs.Deliver.{reply, deliverLane, deliverOf}
 use Rattle.machine.specs.Settle.{settleStep, boundOf, advance, ended, repeatStep, settleOf}
 use Rattle.machine.specs.Picture.{recordBytes, pictureBytes, pictureOf}
 use Rattle.machine.specs.Tape.{openRecord, recordOf, replayFrom, replayOf}
-use Rattle.machine.specs.Text.{decimalIn, answerText, lineText, linesText, endText, printed}
+use Rattle.machine.specs.Text.{decimalIn, answerText, lineText, linesText, endText, printed, printOf}
 use Rattle.machine.specs.Calls.{callOf, run}
 use Rattle.machine.specs.Table.{Row, rows, wholeTape, wholeText}
 
 pub cases : map (λ (r : Row). r .given) rows ≡ map (λ (r : Row). r .wanted) rows
-unfolding upTo anyTo countTo sumTo lowestTo gatherTo anyOf firstFrom badShape blankLane blankBlock freshOf openOf activeOf quietOf badLane badFlags corruptOf commitLane someFull postTo postAll commitMove complete hit evict miss beginLane beginOf ordered countOf close readyOf serveMove serveOf returnMove returnOf reply deliverLane deliverOf settleStep boundOf advance ended repeatStep settleOf recordBytes pictureBytes pictureOf parseOf openRecord recordOf replayFrom replayOf decimalIn answerText lineText linesText endText printed callOf run rows wholeTape wholeText
+unfolding upTo anyTo countTo sumTo lowestTo gatherTo anyOf firstFrom badShape blankLane blankBlock freshOf openOf activeOf quietOf badLane badFlags corruptOf commitLane someFull postTo postAll commitMove complete hit evict miss beginLane beginOf ordered countOf close readyOf serveMove serveOf returnMove returnOf reply deliverLane deliverOf settleStep boundOf advance ended repeatStep settleOf recordBytes pictureBytes pictureOf parseOf openRecord recordOf replayFrom replayOf decimalIn answerText lineText linesText endText printed printOf callOf run rows wholeTape wholeText
 cases = refl

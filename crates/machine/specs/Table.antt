@@ -1,6 +1,6 @@
 -- 01, "The contracts and the cases": the rows that are shown from the definitions, what each gives and what it must give; then a row or
 -- more for each of 01's races, for each store that it shuts out, and for other sentences of it. Assumes nothing.
-use Prim.Native.Nat.{ℕ, _*_}
+use Prim.Native.Nat.{ℕ}
 use mathlib.Core.Bool.{Bool, true, false}
 use mathlib.Core.List.{List, [], _∷_, _++_, map}
 use lib.ListN.{replicate, drop, set}
@@ -18,7 +18,7 @@ use Rattle.lanes.specs.declared.Waiting.{Waiting}
 use Rattle.lanes.specs.declared.Waiting.the-variants.{Unserved, Served}
 use Rattle.answers.specs.declared.Answer.{Answer}
 use Rattle.answers.specs.declared.Answer.the-variants.{Opened, Done, Wait, Step, Refused}
-use Rattle.answers.specs.declared.Refusal.the-variants.{Truncated, UnknownKind, NotOpen, AlreadyOpen, ReturnsPending, Corrupt, BufferTooShort}
+use Rattle.answers.specs.declared.Refusal.the-variants.{Corrupt, BufferTooShort}
 use Rattle.answers.specs.declared.Completion.{Completion}
 use Rattle.answers.specs.Completions.{completionOf}
 use Rattle.answers.specs.Refusals.{numberOf}
@@ -28,7 +28,7 @@ use Rattle.store.specs.Opening.{freshOf, openOf, zeros, line}
 use Rattle.store.specs.Quiet.{laneAt, blockAt, quietOf}
 use Rattle.machine.specs.declared.Settled.{Settled}
 use Rattle.machine.specs.declared.Settled.the-variants.{Steps}
-use Rattle.machine.specs.declared.Filled.the-variants.{Length}
+use Rattle.machine.specs.declared.Filled.the-variants as Filled
 use Rattle.machine.specs.Change.{withWaiting, withReturns, withDowns, withLane, posted}
 use Rattle.machine.specs.Begin.{bareReturn}
 use Rattle.machine.specs.Serve.{bareDown}
@@ -36,10 +36,10 @@ use Rattle.machine.specs.Deliver.{withLine}
 use Rattle.machine.specs.Settle.{lane, boundOf}
 use Rattle.machine.specs.Flags.{lineIn}
 use Rattle.machine.specs.Calls.{Call, Begin, Serve, Return, Deliver, Settle, Reply, Entry, run}
-use Rattle.machine.specs.Fill.{Filling, unwritten}
+use Rattle.machine.specs.Fill.{Filling}
 use Rattle.machine.specs.Picture.{pictureOf}
 use Rattle.machine.specs.Tape.{replayOf}
-use Rattle.machine.specs.Text.{tapeMost, printed, textMost}
+use Rattle.machine.specs.Text.{printed, textMost, printOf}
 
 -- an answer in 01's words: open; done with lane and value; wait; step; refused with the number; a settle with its count and its completions
 pub data Said : Type 0 where
@@ -50,11 +50,10 @@ pub data Said : Type 0 where
   refused : ℕ → Said
   settled : ℕ → List Completion → Said
 
--- what a row shows: the answer of an opening with n, c and m of its store, the answers of a list of calls, a tape's lines, bytes, a word, a number, a flag, or what a lent buffer is filled with
+-- what a row shows: the answer of an opening with n, c and m of its store, the answers of a list of calls or of a tape, bytes, a word, a number, a flag, or what a lent buffer is filled with
 pub data Shown : Type 0 where
   Opening : Said → ℕ → ℕ → ℕ → Shown
   Says : List Said → Shown
-  Lines : List Answer → Shown
   Bytes : List ℕ → Shown
   Word : ℕ → Shown
   Number : ℕ → Shown
@@ -81,6 +80,10 @@ said (Reply.Settles (Settled.Refused r) cs) = refused (numberOf r)
 -- an opening; a refused one has the blank store
 abbrev pub opening : ℕ → ℕ → ℕ → Shown
 opening n c m = let r = openOf n c m in Opening (wordOf (r .answer)) (r .store .n) (r .store .c) (r .store .m)
+
+-- a tape's answers
+abbrev pub reads : List ℕ → List Said → Row
+reads tape answers = record { given = Says (map wordOf (replayOf tape)); wanted = Says answers }
 
 -- the store of an opening
 abbrev pub opened : ℕ → ℕ → ℕ → Store
@@ -160,28 +163,28 @@ wholeTape =
     7 ∷ 0 ∷
     []
 
--- .. its 19 lines
-abbrev pub wholeLines : List Answer
-wholeLines =
-    Opened ∷
-    Wait ∷
-    Step ∷
-    Done (of 0 7) ∷
-    Wait ∷
-    Step ∷
-    Step ∷
-    Step ∷
-    Done (of 1 7) ∷
-    Wait ∷
-    Wait ∷
-    Refused ReturnsPending ∷
-    Step ∷
-    Step ∷
-    Step ∷
-    Step ∷
-    Done (of 1 7) ∷
-    Step ∷
-    Done (of 0 0) ∷
+-- .. its 19 answers
+abbrev pub wholeAnswers : List Said
+wholeAnswers =
+    opens ∷
+    wait ∷
+    step ∷
+    done 0 7 ∷
+    wait ∷
+    step ∷
+    step ∷
+    step ∷
+    done 1 7 ∷
+    wait ∷
+    wait ∷
+    refused 11 ∷
+    step ∷
+    step ∷
+    step ∷
+    step ∷
+    done 1 7 ∷
+    step ∷
+    done 0 0 ∷
     []
 
 -- .. and its text, a line to a line
@@ -221,7 +224,7 @@ casesOf01 =
     record { given = opening 2 1 65; wanted = Opening (refused 5) 0 0 0 } ∷
     on (opened 2 1 1) (load 0 3 says wait ∷ []) ∷
     on (opened 2 1 1) (load 0 4 says refused 7 ∷ []) ∷
-    record { given = Lines (replayOf wholeTape); wanted = Lines wholeLines } ∷
+    reads wholeTape wholeAnswers ∷
     record { given = Bytes (printed wholeTape); wanted = Bytes wholeText } ∷
     -- add of 1 to 4,294,967,295 leaves 0
     record { given = Word (applyOf (Op.Add 1) 4294967295 .word); wanted = Word 0 } ∷
@@ -483,12 +486,35 @@ sentences =
     Settle says settled 8 (of 0 7 ∷ of 1 7 ∷ of 2 7 ∷ []) ∷
     []) ∷
     -- after refusal 1 or 2 no more records are read
-    record { given = Lines (replayOf (0 ∷ 2 ∷ 1 ∷ 1 ∷ 2 ∷ 0 ∷ [])); wanted = Lines (Opened ∷ Refused Truncated ∷ []) } ∷
-    record { given = Lines (replayOf (8 ∷ 0 ∷ 2 ∷ 1 ∷ 1 ∷ [])); wanted = Lines (Refused UnknownKind ∷ []) } ∷
-    -- a tape that is not open, and one that is open already; the empty tape; room for 20 bytes of text for each byte of a tape
-    record { given = Lines (replayOf (5 ∷ 0 ∷ 0 ∷ 2 ∷ 1 ∷ 1 ∷ 0 ∷ 9 ∷ 9 ∷ 9 ∷ [])); wanted = Lines (Refused NotOpen ∷ Opened ∷ Refused AlreadyOpen ∷ []) } ∷
+    reads (0 ∷ 2 ∷ 1 ∷ 1 ∷ 2 ∷ 0 ∷ []) (opens ∷ refused 1 ∷ []) ∷
+    reads (8 ∷ 0 ∷ 2 ∷ 1 ∷ 1 ∷ []) (refused 2 ∷ []) ∷
+    -- 2 before 1, 1 before 3, 3, 5 and then an opening, 4 before 5
+    reads (255 ∷ []) (refused 2 ∷ []) ∷
+    reads (5 ∷ []) (refused 1 ∷ []) ∷
+    reads (5 ∷ 0 ∷ 0 ∷ 1 ∷ 1 ∷ 1 ∷ 0 ∷ 2 ∷ 1 ∷ 1 ∷ 0 ∷ 9 ∷ 9 ∷ 9 ∷ []) (refused 3 ∷ refused 5 ∷ opens ∷ refused 4 ∷ []) ∷
+    -- v in four bytes, low byte first; every kind
+    reads
+    (0 ∷ 2 ∷ 1 ∷ 1 ∷
+    2 ∷ 0 ∷ 0 ∷ 255 ∷ 255 ∷ 255 ∷ 255 ∷
+    5 ∷ 0 ∷
+    7 ∷ 0 ∷
+    3 ∷ 0 ∷ 0 ∷ 1 ∷ 2 ∷ 3 ∷ 4 ∷
+    4 ∷ 0 ∷ 0 ∷ 255 ∷ 0 ∷ 0 ∷ 1 ∷
+    1 ∷ 0 ∷ 0 ∷
+    6 ∷ 0 ∷
+    [])
+    (opens ∷ wait ∷ step ∷ done 0 4294967295 ∷ done 0 4294967295 ∷ done 0 67305985 ∷ done 0 84083456 ∷ refused 9 ∷ []) ∷
+    -- a number of ten digits, the empty tape, 65,536 bytes and one more
+    record {
+      given = Bytes (printed (0 ∷ 2 ∷ 1 ∷ 1 ∷ 2 ∷ 0 ∷ 0 ∷ 255 ∷ 255 ∷ 255 ∷ 255 ∷ 5 ∷ 0 ∷ 7 ∷ 0 ∷ []));
+      wanted = Bytes (48 ∷ 32 ∷ 111 ∷ 112 ∷ 101 ∷ 110 ∷ 10 ∷ 49 ∷ 32 ∷ 119 ∷ 97 ∷ 105 ∷ 116 ∷ 10 ∷ 50 ∷ 32 ∷ 115 ∷ 116 ∷ 101 ∷ 112 ∷ 10 ∷ 51 ∷ 32 ∷ 100 ∷ 111 ∷ 110 ∷ 101 ∷ 32 ∷ 48 ∷ 32 ∷ 52 ∷ 50 ∷ 57 ∷ 52 ∷ 57 ∷ 54 ∷ 55 ∷ 50 ∷ 57 ∷ 53 ∷ 10 ∷ 101 ∷ 110 ∷ 100 ∷ 32 ∷ 52 ∷ 10 ∷ []);
+    } ∷
     record { given = Bytes (printed []); wanted = Bytes (101 ∷ 110 ∷ 100 ∷ 32 ∷ 48 ∷ 10 ∷ []) } ∷
-    record { given = Word textMost; wanted = Word (20 * tapeMost) } ∷
+    record { given = Bytes (printed (8 ∷ replicate 65535 0)); wanted = Bytes (48 ∷ 32 ∷ 114 ∷ 101 ∷ 102 ∷ 117 ∷ 115 ∷ 101 ∷ 100 ∷ 32 ∷ 50 ∷ 10 ∷ 101 ∷ 110 ∷ 100 ∷ 32 ∷ 49 ∷ 10 ∷ []) } ∷
+    record { given = Bytes (printed (8 ∷ replicate 65536 0)); wanted = Bytes (114 ∷ 101 ∷ 102 ∷ 117 ∷ 115 ∷ 101 ∷ 100 ∷ 32 ∷ 49 ∷ 51 ∷ 10 ∷ []) } ∷
+    -- room for 20 bytes of text for each byte of a tape; a buffer without it is as it was
+    record { given = Number textMost; wanted = Number 1310720 } ∷
+    record { given = Fills (printOf [] (replicate 6 255)); wanted = Fills (record { answer = Filled.Refused BufferTooShort; buffer = replicate 6 255 }) } ∷
     []
 
 -- stores that no opening gives: lane k with a GONE of block a more in its return queue, with a message more in its down queue, with
@@ -564,12 +590,12 @@ pictures =
     record {
       given = pictured stored 20;
       wanted = Fills (record {
-        answer = Length 19;
+        answer = Filled.Length 19;
         buffer = 16 ∷ 1 ∷ 0 ∷ 0 ∷ 0 ∷ 0 ∷ 0 ∷ 0 ∷ 0 ∷ 0 ∷ 0 ∷ 2 ∷ 1 ∷ 0 ∷ 0 ∷ 0 ∷ 0 ∷ 0 ∷ 0 ∷ 255 ∷ [];
       });
     } ∷
-    record { given = pictured stored 18; wanted = Fills (unwritten BufferTooShort (replicate 18 255)) } ∷
-    record { given = pictured (freshOf 9 1 1) 20; wanted = Fills (unwritten Corrupt (replicate 20 255)) } ∷
+    record { given = pictured stored 18; wanted = Fills (record { answer = Filled.Refused BufferTooShort; buffer = replicate 18 255 }) } ∷
+    record { given = pictured (freshOf 9 1 1) 20; wanted = Fills (record { answer = Filled.Refused Corrupt; buffer = replicate 20 255 }) } ∷
     []
 
 -- each condition of 14, and the store just within it

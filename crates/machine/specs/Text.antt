@@ -60,10 +60,10 @@ printed tape =
     let lines = replayOf tape in
     cond (ltb tapeMost (length tape)) (refusedText TapeTooLong ++ (10 ∷ [])) (linesText 0 lines ++ endText (length lines))
 
--- room for the longest text there is: 20 bytes for each byte of a tape. `text-fits` (proofs/Room.antt) says that it is enough
+-- room for every tape's text: 20 bytes for each byte of the longest tape. `text-fits` (proofs/Lengths.antt) says that it is enough
 abbrev pub textMost : ℕ
 textMost = 1310720
 
--- a tape's text into a lent buffer; one that may not hold the longest text is refused by 15
+-- a tape's text into a lent buffer; one that is shorter than this room is refused by 15
 unfoldable pub printOf : List ℕ → List ℕ → Filling
 printOf tape buffer = cond (ltb (length buffer) textMost) (unwritten BufferTooShort buffer) (filledWith (printed tape) buffer)

@@ -1,3 +1,3 @@
 pub mod Records
-pub mod Sheets
+pub mod Pictures
 pub mod Places

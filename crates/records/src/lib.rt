@@ -9,24 +9,24 @@ use words::Op;
 use words::WordNo;
 
 // The kind bytes.
-pub const OPEN: u8 = 0;
+const OPEN: u8 = 0;
 
-pub const LOAD: u8 = 1;
+const LOAD: u8 = 1;
 
-pub const STORE: u8 = 2;
+const STORE: u8 = 2;
 
-pub const EXCHANGE: u8 = 3;
+const EXCHANGE: u8 = 3;
 
-pub const ADD: u8 = 4;
+const ADD: u8 = 4;
 
-pub const SERVE: u8 = 5;
+const SERVE: u8 = 5;
 
-pub const RETURN: u8 = 6;
+const RETURN: u8 = 6;
 
-pub const DELIVER: u8 = 7;
+const DELIVER: u8 = 7;
 
 // The first that no record has.
-pub const NO_KIND: u8 = 8;
+const NO_KIND: u8 = 8;
 
 // The step that a kind byte picks.
 pub enum Kind {

@@ -1,5 +1,5 @@
 // A tape's text. One store serves a whole tape: it is lent from record to record and changed there. Only `print` is open to others; apply
-// and print_records ask for what it has checked.
+// asks for a store that a tape can have, print_records for what `print` has checked.
 ghost use mathlib.Core.Path.{_≡_};
 ghost use Prim.Native.Nat.{_≤_};
 ghost use lib.ListN.{length};
@@ -14,9 +14,9 @@ use records::Record;
 use store::Store;
 
 // A tape's length at most.
-pub const TAPE_MOST: usize = 65536;
+const TAPE_MOST: usize = 65536;
 
-// Room for the longest text there is: 20 bytes for each byte of a tape.
+// Room for every tape's text: 20 bytes for each byte of the longest tape.
 pub const TEXT_MOST: usize = 1310720;
 
 // The thin function: a record is done on the store that is lent to it.

@@ -1,4 +1,5 @@
-// A tape's record on a store, without the check of 14: for our own crates above, which show that a tape's stores never are corrupt (Steady).
+// A tape's record on a store, without the check of 14: for our own crates above, which show that a tape's store once open is never corrupt
+// (Steady).
 ghost use mathlib.Core.Path.{_≡_};
 ghost use Rattle.answers.specs.declared.Refusal.the-variants.{NotOpen};
 ghost use Rattle.machine.specs.Change.{refuse};

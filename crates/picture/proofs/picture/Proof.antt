@@ -3,7 +3,7 @@ use native.Mathlib.Omega.{arith}
 use mathlib.Core.Path.{refl, sym, _∙_}
 use Rattle.machine.proofs.Sound.{sound}
 use Rattle.picture.proofs.Records.{valid-most, picture-length}
-use Rattle.picture.proofs.Sheets.{picture-corrupt, picture-short, picture-fits}
+use Rattle.picture.proofs.Pictures.{picture-corrupt, picture-short, picture-fits}
 use borrow.Author.Needs.{needs}
 use Rattle.picture.proofs.picture.Statement.{statement}
 use Rattle.picture.proofs.picture.Tie as tie
