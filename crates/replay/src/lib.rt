@@ -20,7 +20,7 @@ const TAPE_MOST: usize = 65536;
 pub const TEXT_MOST: usize = 1310720;
 
 // The thin function: a record is done on the store that is lent to it.
-pub fn apply(store: &mut Store, rec: Record) -> Answer
+fn apply(store: &mut Store, rec: Record) -> Answer
     requires { ⌜ Steady (now store) ⌝ }
     ensures { λ r. ⌜ (r ≡ recordOf (now (store .entry)) rec .answer) × (now (store .exit) ≡ recordOf (now (store .entry)) rec .store) ⌝ }
 {
