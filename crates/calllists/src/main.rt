@@ -4,9 +4,9 @@ ghost use Prim.Native.Nat.{_≤_};
 ghost use lib.ListN.{length};
 use libc::STDIN_FILENO;
 use libc::STDOUT_FILENO;
+use replybytes::Reply;
 use store::Outcome;
 use store::Store;
-use storebytes::Reply;
 use words::LaneNo;
 use words::WordNo;
 
@@ -16,7 +16,7 @@ const RECORD_BYTES: usize = 8;
 // The proved loop has to end: more records than any input has.
 const MOST_RECORDS: u32 = 100000000;
 
-// The kinds of record that are no call of storebytes.
+// The kinds of record that are no call of replybytes.
 const OPEN: u8 = 0;
 
 const SETTLE: u8 = 17;
@@ -31,14 +31,14 @@ struct Turn {
 
 fn write_reply(r: Reply) {
     let mut out = [0u8; 8];
-    storebytes::put_reply(&mut out, r);
+    replybytes::put_reply(&mut out, r);
     io::write_all(STDOUT_FILENO, &out);
 }
 
 // Writes the answer and hands on the store.
 fn told(o: Outcome) -> Store {
     let a = o.answer;
-    let r = storebytes::call_reply(a);
+    let r = replybytes::call_reply(a);
     write_reply(r);
     o.store
 }
@@ -48,10 +48,10 @@ fn settled(s: Store) -> Store {
     let o = settle::settle(s);
     let a = o.answer;
     let d = o.completions;
-    let r = storebytes::settle_reply(a, d.len);
+    let r = replybytes::settle_reply(a, d.len);
     write_reply(r);
     let mut out = [0u8; 40];
-    storebytes::put_completions(&mut out, 0, d);
+    replybytes::put_completions(&mut out, 0, d);
     io::write_all(STDOUT_FILENO, &out);
     o.store
 }
@@ -81,7 +81,7 @@ fn answer(s: Store, bytes: &[u8]) -> Store
     let k = LaneNo(bytes[1]);
     let w = WordNo(bytes[2]);
     let v = storebytes::word_from(bytes, 3);
-    let o = storebytes::called(s, kind, k, w, v);
+    let o = replybytes::called(s, kind, k, w, v);
     told(o)
 }
 

@@ -5,8 +5,8 @@ ghost use lib.ListN.{length};
 use libc::STDIN_FILENO;
 use libc::STDOUT_FILENO;
 use machine::Filled;
+use replybytes::Reply;
 use store::Store;
-use storebytes::Reply;
 use words::LaneNo;
 use words::WordNo;
 
@@ -21,15 +21,15 @@ const UNWRITTEN: u8 = 165;
 // The proved loop has to end: more cases than any input has.
 const MOST_CASES: u32 = 1000000;
 
-// The kinds of call that storebytes does not take.
+// The kinds of call that replybytes does not take.
 const PICTURE: u8 = 16;
 
 const SETTLE: u8 = 17;
 
 fn picture_reply(p: Filled) -> Reply {
     match p {
-        Filled::Length(n) => storebytes::reply_of(5, 0, (n % 65536) as u32),
-        Filled::Refused(r) => storebytes::refused(r),
+        Filled::Length(n) => replybytes::reply_of(5, 0, (n % 65536) as u32),
+        Filled::Refused(r) => replybytes::refused(r),
     }
 }
 
@@ -43,7 +43,7 @@ fn write_after(r: Reply, s: Store) {
 fn put_after(out: &mut [u8], r: Reply, s: Store)
     requires { ⌜ 3553 ≤ length (now out) ⌝ }
 {
-    storebytes::put_reply(out, r);
+    replybytes::put_reply(out, r);
     storebytes::put_store(out, 8, s);
 }
 
@@ -68,10 +68,10 @@ fn answer_settle(s: Store) {
     let a = o.answer;
     let d = o.completions;
     let after = o.store;
-    let r = storebytes::settle_reply(a, d.len);
+    let r = replybytes::settle_reply(a, d.len);
     write_after(r, after);
     let mut out = [0u8; 40];
-    storebytes::put_completions(&mut out, 0, d);
+    replybytes::put_completions(&mut out, 0, d);
     io::write_all(STDOUT_FILENO, &out);
 }
 
@@ -92,10 +92,10 @@ fn answer(case: &[u8])
         answer_settle(s);
         return;
     }
-    let o = storebytes::called(s, kind, k, w, v);
+    let o = replybytes::called(s, kind, k, w, v);
     let a = o.answer;
     let after = o.store;
-    let r = storebytes::call_reply(a);
+    let r = replybytes::call_reply(a);
     write_after(r, after);
 }
 

@@ -1,8 +1,7 @@
-// A call from its kind, and what a call answers as bytes.
+// A call from its kind, and what a call answers as bytes, in the format of tests/reference/README.md. Nothing here is proved of the bytes but
+// that the functions are safe and end.
 ghost use Prim.Native.Nat.{_+_, _≤_};
 ghost use lib.ListN.{length};
-use super::encode::put;
-use super::encode::put_word;
 use answers::Answer;
 use answers::Completion;
 use answers::Refusal;
@@ -10,6 +9,8 @@ use machine::Settled;
 use settle::Completions;
 use store::Outcome;
 use store::Store;
+use storebytes::put;
+use storebytes::put_word;
 use words::LaneNo;
 use words::WordNo;
 

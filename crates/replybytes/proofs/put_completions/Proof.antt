@@ -1,10 +1,10 @@
--- `storebytes::replies::put_completions` meets its contract. Assumes nothing.
+-- `replybytes::put_completions` meets its contract. Assumes nothing.
 use Prim.Native.Nat.{_≤_, _-_}
 use borrow.Author.Needs.{needs}
 use mathlib.Core.Path.{_≡_}
 use lib.ListN.{length}
-use Rattle.storebytes.proofs.replies.put_completions.Statement.{statement}
-use Rattle.storebytes.proofs.replies.put_completions.Tie as tie
+use Rattle.replybytes.proofs.put_completions.Statement.{statement}
+use Rattle.replybytes.proofs.put_completions.Tie as tie
 
 abbrev Inv-loop : tie.InvT-loop
 Inv-loop out₀ at d listed i₀ out i = (i ≤ 8) × (length out ≡ length out₀)
