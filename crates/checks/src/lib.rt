@@ -4,7 +4,7 @@ ghost use mathlib.Core.Path.{_≡_};
 ghost use Prim.Native.Nat.{_<_, _≤_};
 ghost use Rattle.words.specs.Folds.{anyTo};
 ghost use Rattle.words.specs.Units.{blockOf};
-ghost use Rattle.store.specs.Quiet.{laneAt, blockAt};
+ghost use Rattle.store.specs.Stores.{laneAt, blockAt};
 ghost use Rattle.machine.specs.Corruption.{badBlock, badLine, badLines, badPlace, badReturns, badDowns, badWaiting, badUse, badOrder, badLane, badFlag, badFlags, badControl, corruptOf};
 use lanes::Lane;
 use lanes::Operation;

@@ -20,7 +20,7 @@ use Rattle.answers.specs.declared.Refusal.the-variants.{QueueFull}
 use Rattle.answers.specs.Refusals.{refusedOf}
 use Rattle.store.specs.declared.Store.{Store}
 use Rattle.store.specs.declared.Control.{Control}
-use Rattle.store.specs.Quiet.{noLane}
+use Rattle.store.specs.Stores.{noLane}
 use Rattle.machine.specs.declared.Move.{Move}
 use Rattle.machine.specs.Change.{refuse, goesTo, someFull, posted, postTo, postAll, commitMove}
 use Rattle.commit.specs.Moves.{lengthAt, lengthsOf, fullBy, moveAnswer}

@@ -4,8 +4,11 @@
 ghost use mathlib.Core.Path.{_≡_};
 ghost use Prim.Native.Nat.{_≤_, _<_};
 ghost use Rattle.lanes.specs.UseOrder.{placeAt};
-ghost use Rattle.machine.specs.Change.{refuseLane, withWaiting};
-ghost use Rattle.machine.specs.Begin.{isLoad, complete, waits, hit, readOf, bareReturn, wordsReturn, ejectOf, invalid, evict, miss, beginLane};
+ghost use Rattle.lanes.specs.Lanes.{withWaiting};
+ghost use Rattle.machine.specs.Change.{refuseLane};
+ghost use Rattle.words.specs.Operations.{isLoad};
+ghost use Rattle.words.specs.Lines.{invalid};
+ghost use Rattle.machine.specs.Begin.{complete, waits, hit, readOf, bareReturn, wordsReturn, ejectOf, evict, miss, beginLane};
 use answers::Answer;
 use answers::Refusal;
 use lanes::Command;

@@ -6,10 +6,10 @@ use mathlib.Core.List.{List, [], _∷_}
 use lib.Dec.{eqb}
 use lib.ListN.{getD, set}
 use Rattle.words.specs.declared.Line.{Line}
-use Rattle.words.specs.Lines.{noLine}
 use Rattle.words.specs.declared.BlockNo.{BlockNo}
 use Rattle.words.specs.declared.WordNo.{WordNo}
 use Rattle.words.specs.declared.Op.{Op}
+use Rattle.words.specs.Lines.{noLine}
 use Rattle.words.specs.Units.{blockOf, placeOf}
 use Rattle.words.specs.Operations.{applyOf}
 use Rattle.queues.specs.declared.ReturnMessage.{ReturnMessage}
@@ -25,7 +25,7 @@ use Rattle.store.specs.declared.Store.{Store}
 use Rattle.store.specs.declared.Block.{Block}
 use Rattle.store.specs.declared.Lookup.{Lookup}
 use Rattle.store.specs.Control.{serviceOf}
-use Rattle.store.specs.Quiet.{laneAt, blockAt}
+use Rattle.store.specs.Stores.{laneAt, blockAt}
 
 -- what a lane has of the block (the field's I, S and M)
 pub data Status : Type 0 where

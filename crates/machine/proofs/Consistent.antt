@@ -4,23 +4,23 @@ use Prim.Native.Nat.{ℕ, _<_}
 use mathlib.Core.Path.{_≡_, refl, fun-ext}
 use mathlib.Core.Bool.{false, cond}
 use mathlib.Core.List.{List}
-use borrow.Author.Tests.{leb-false}
 use lib.Dec.{leb, ltb}
-use Rattle.words.proofs.Folds.{pick}
+use borrow.Author.Tests.{leb-false}
 use Rattle.words.specs.declared.LaneNo.{LaneNo}
+use Rattle.words.proofs.Folds.{pick}
 use Rattle.lanes.specs.declared.Waiting.{Waiting}
 use Rattle.lanes.specs.declared.Waiting.the-variants.{Idle, Unserved, Served}
 use Rattle.answers.specs.declared.Refusal.{Refusal}
 use Rattle.answers.specs.declared.Refusal.the-variants.{NoSuchLane, Corrupt}
 use Rattle.store.specs.declared.Store.{Store}
 use Rattle.store.specs.declared.Outcome.{Outcome}
-use Rattle.store.specs.Quiet.{laneAt}
+use Rattle.store.specs.Stores.{laneAt}
 use Rattle.machine.specs.Corruption.{corruptOf}
 use Rattle.machine.specs.Change.{refuse, guarded}
 use Rattle.machine.specs.Settle.{doneIn}
 use Rattle.machine.specs.Flat.{flatBlock}
-use Rattle.machine.proofs.Owes.{Pending, Rests, Completes}
 use Rattle.machine.specs.Sized.{Sized}
+use Rattle.machine.proofs.Owes.{Pending, Rests, Completes}
 use Rattle.machine.proofs.BlockState.{Status, project}
 use Rattle.machine.proofs.Invariant.{Inv}
 use Rattle.machine.proofs.Searches.{Unique}

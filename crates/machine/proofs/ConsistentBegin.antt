@@ -1,17 +1,18 @@
 -- Begin keeps a store consistent, and pays what it owes. Assumes nothing.
 use Prim.Native.Nat.{ℕ, _*_, _<_}
-use native.Mathlib.Omega.{arith}
 use mathlib.Core.Logic.{_⊎_, inl, inr, _≢_}
 use mathlib.Core.Path.{_≡_, refl, sym, ap, _∙_}
 use mathlib.Core.Bool.{Bool, true, false, cond}
 use mathlib.Core.List.{List}
-use borrow.Author.Tests.{leb-false}
 use lib.Dec.{leb}
-use Rattle.words.proofs.Folds.{pick}
+use borrow.Author.Tests.{leb-false}
+use native.Mathlib.Omega.{arith}
 use Rattle.words.specs.declared.LaneNo.{LaneNo}
 use Rattle.words.specs.declared.WordNo.{WordNo}
 use Rattle.words.specs.declared.Op.{Op}
 use Rattle.words.specs.Units.{blockOf}
+use Rattle.words.specs.Operations.{isLoad}
+use Rattle.words.proofs.Folds.{pick}
 use Rattle.lanes.specs.declared.Lane.{Lane}
 use Rattle.lanes.specs.declared.Command.{Command}
 use Rattle.lanes.specs.declared.Command.the-variants.{ReadShared, ReadExclusive, Exclude}
@@ -21,10 +22,10 @@ use Rattle.answers.specs.declared.Refusal.{Refusal}
 use Rattle.answers.specs.declared.Refusal.the-variants.{NoSuchWord, LaneBusy}
 use Rattle.store.specs.declared.Store.{Store}
 use Rattle.store.specs.declared.Outcome.{Outcome}
-use Rattle.store.specs.Quiet.{laneAt}
+use Rattle.store.specs.Stores.{laneAt, withLane}
 use Rattle.machine.specs.declared.LaneStep.{LaneStep}
-use Rattle.machine.specs.Change.{refuse, withLane, commitLane}
-use Rattle.machine.specs.Begin.{isLoad, readOf, beginLane, beginOf}
+use Rattle.machine.specs.Change.{refuse, commitLane}
+use Rattle.machine.specs.Begin.{readOf, beginLane, beginOf}
 use Rattle.machine.specs.Flat.{flatAfter, flatBlock}
 use Rattle.machine.proofs.Tests.{on}
 use Rattle.machine.proofs.Sets.{same?}

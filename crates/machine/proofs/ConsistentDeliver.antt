@@ -1,9 +1,9 @@
 -- Deliver keeps a store consistent; what completes has flat memory's value. Assumes nothing.
 use Prim.Native.Nat.{ℕ, _<_}
-use native.Mathlib.Omega.{arith}
 use mathlib.Core.Logic.{_⊎_, inl, inr, _≢_}
 use mathlib.Core.Path.{_≡_, refl, ap, _∙_}
 use mathlib.Core.List.{List, _∷_}
+use native.Mathlib.Omega.{arith}
 use Rattle.words.specs.declared.LaneNo.{LaneNo}
 use Rattle.words.specs.declared.BlockNo.{BlockNo}
 use Rattle.words.specs.declared.WordNo.{WordNo}
@@ -15,9 +15,9 @@ use Rattle.queues.specs.declared.DownKind.the-variants.{Update, Purge, Grant, B
 use Rattle.queues.specs.Queues.{headDown}
 use Rattle.lanes.specs.declared.Lane.{Lane}
 use Rattle.store.specs.declared.Store.{Store}
-use Rattle.store.specs.Quiet.{laneAt}
+use Rattle.store.specs.Stores.{laneAt, withLane}
 use Rattle.machine.specs.declared.LaneStep.{LaneStep}
-use Rattle.machine.specs.Change.{withLane, commitLane}
+use Rattle.machine.specs.Change.{commitLane}
 use Rattle.machine.specs.Deliver.{deliverLane, deliverOf}
 use Rattle.machine.specs.Flat.{flatValue, flatAfter, flatBlock}
 use Rattle.machine.proofs.KeepsLane.{clash}

@@ -1,22 +1,21 @@
 -- A lane put back into a consistent store: what the blocks see, which lanes wait, and the lines' blocks. Assumes nothing.
 use Prim.Native.Nat.{ℕ, _<_}
-use native.Mathlib.Omega.{arith}
 use mathlib.Core.Logic.{_⊎_, inl, inr, _≢_}
 use mathlib.Core.Path.{_≡_, refl, sym, ap, _∙_, fun-ext}
 use mathlib.Core.Bool.{cond}
 use mathlib.Core.List.{List}
-use borrow.Author.Tests.{eq-eqb, ne-eqb, lt-ltb}
 use lib.Dec.{ltb}
 use lib.ListN.{length, getD, set}
+use borrow.Author.Tests.{eq-eqb, ne-eqb, lt-ltb}
+use native.Mathlib.Omega.{arith}
 use Rattle.lanes.specs.declared.Lane.{Lane}
 use Rattle.store.specs.declared.Store.{Store}
-use Rattle.store.specs.Quiet.{noLane, laneAt}
-use Rattle.machine.specs.Change.{withLane}
+use Rattle.store.specs.Stores.{noLane, laneAt, withLane}
+use Rattle.machine.specs.Sized.{LaneSized}
 use Rattle.machine.proofs.Sets.{same?, set-cases}
 use Rattle.machine.proofs.Sound.{sound}
 use Rattle.machine.proofs.Owes.{Pending, Rests, upd}
 use Rattle.machine.proofs.Updates.{upd-self}
-use Rattle.machine.specs.Sized.{LaneSized}
 use Rattle.machine.proofs.BlockState.{Seen, seen, blockNo, project}
 use Rattle.machine.proofs.Moves.{putLane}
 use Rattle.machine.proofs.Searches.{Unique}

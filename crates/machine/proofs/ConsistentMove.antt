@@ -4,24 +4,24 @@ use mathlib.Core.Logic.{_⊎_, inl, inr, _≢_}
 use mathlib.Core.Path.{_≡_, refl, ap, _∙_}
 use mathlib.Core.Bool.{Bool, true, false, cond}
 use mathlib.Core.List.{List}
-use borrow.Author.Tests.{eq-eqb, ne-eqb}
 use lib.Dec.{eqb}
 use lib.ListN.{length, set}
-use Rattle.words.proofs.Folds.{pick}
+use borrow.Author.Tests.{eq-eqb, ne-eqb}
 use Rattle.words.specs.declared.LaneNo.{LaneNo}
 use Rattle.words.specs.declared.BlockNo.{BlockNo}
+use Rattle.words.proofs.Folds.{pick}
 use Rattle.queues.specs.declared.DownMessage.{DownMessage}
 use Rattle.lanes.specs.declared.Lane.{Lane}
 use Rattle.answers.specs.declared.Answer.the-variants.{Step}
 use Rattle.answers.specs.declared.Refusal.the-variants.{QueueFull}
 use Rattle.store.specs.declared.Store.{Store}
 use Rattle.store.specs.Control.{serviceOf}
-use Rattle.store.specs.Quiet.{laneAt}
+use Rattle.store.specs.Stores.{laneAt}
 use Rattle.machine.specs.declared.Move.{Move}
 use Rattle.machine.specs.Change.{goesTo, someFull, posted, commitMove}
 use Rattle.machine.specs.Flat.{flatBlock}
-use Rattle.machine.proofs.Sets.{same?}
 use Rattle.machine.specs.Sized.{LaneSized}
+use Rattle.machine.proofs.Sets.{same?}
 use Rattle.machine.proofs.BlockState.{Status, seen, blockNo, project}
 use Rattle.machine.proofs.Invariant.{Inv}
 use Rattle.machine.proofs.Project.{Moves, movedStore, lane-sent, project-there}

@@ -1,12 +1,12 @@
 -- An opening that isn't refused gives a consistent store, with flat memory all 0. Assumes nothing.
 use Prim.Native.Nat.{ℕ, zero, suc, _+_, _-_, _*_, _<_, _≤_}
-use native.Mathlib.Omega.{arith}
 use mathlib.Core.Logic.{_⊎_, inl, inr}
 use mathlib.Core.Path.{_≡_, refl, sym, ap, _∙_, fun-ext}
 use mathlib.Core.Bool.{Bool, true, false, cond}
 use mathlib.Core.List.{_∷_}
 use lib.Dec.{ltb}
 use lib.ListN.{length, getD, take, drop, replicate, getD-replicate, List·getD-eq-default}
+use native.Mathlib.Omega.{arith}
 use Rattle.words.specs.declared.BlockNo.{BlockNo}
 use Rattle.words.specs.Lines.{noLine}
 use Rattle.words.proofs.Folds.{below?}
@@ -15,7 +15,7 @@ use Rattle.lanes.specs.declared.Waiting.the-variants.{Idle}
 use Rattle.answers.specs.declared.Answer.the-variants.{Opened}
 use Rattle.store.specs.declared.Block.{Block}
 use Rattle.store.specs.Opening.{badShape, zeros, blankLine, blankLane, blankBlock, freshOf, openOf}
-use Rattle.store.specs.Quiet.{noLane, noBlock, laneAt, blockAt}
+use Rattle.store.specs.Stores.{noLane, noBlock, laneAt, blockAt}
 use Rattle.machine.specs.Flat.{flatOf, flatBlock}
 use Rattle.machine.proofs.Tests.{on}
 use Rattle.machine.proofs.KeepsLane.{clash}

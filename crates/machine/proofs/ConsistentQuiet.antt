@@ -1,15 +1,15 @@
 -- A consistent store that is quiet: no lane waits, it shows flat memory's words, and the four properties of the flags hold.
 -- Assumes nothing.
 use Prim.Native.Nat.{ℕ, zero, suc, _<_, _≤_}
-use native.Mathlib.Omega.{arith}
-use native.Mathlib.Nat.{eq-or-lt-of-le}
 use mathlib.Core.Logic.{_⊎_, inl, inr, _≢_}
 use mathlib.Core.Path.{_≡_, refl, sym, ap, _∙_}
 use mathlib.Core.Bool.{Bool, true, false, cond, not, _||_, _&&_}
 use mathlib.Core.List.{List, []}
-use borrow.Author.Tests.{ltb-false, ltb-true}
 use lib.Dec.{ltb}
 use lib.ListN.{length, List·getD-eq-default}
+use borrow.Author.Tests.{ltb-false, ltb-true}
+use native.Mathlib.Omega.{arith}
+use native.Mathlib.Nat.{eq-or-lt-of-le}
 use Rattle.words.specs.Lines.{holdsOf}
 use Rattle.words.specs.Folds.{upTo, anyTo}
 use Rattle.words.proofs.Folds.{below?, any-false, any-true, any-never, or-left, or-right, pick}
@@ -21,7 +21,8 @@ use Rattle.lanes.specs.Search.{searchOf}
 use Rattle.lanes.specs.Waits.{idleOf}
 use Rattle.store.specs.declared.Store.{Store}
 use Rattle.store.specs.Control.{busyOf}
-use Rattle.store.specs.Quiet.{laneAt, blockAt, activeOf, quietOf}
+use Rattle.store.specs.Stores.{laneAt, blockAt}
+use Rattle.store.specs.Quiet.{activeOf, quietOf}
 use Rattle.machine.specs.Flat.{flatBlock}
 use Rattle.machine.specs.Flags.{lineIn, presentIn, hasCopy, owns, shownOf, Flags}
 use Rattle.machine.proofs.Tests.{on}

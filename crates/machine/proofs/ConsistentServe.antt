@@ -1,13 +1,13 @@
 -- Serve keeps a store consistent. Assumes nothing.
 use Prim.Native.Nat.{ℕ, _<_, _≤_}
-use native.Mathlib.Omega.{arith}
 use mathlib.Core.Logic.{_⊎_, inl, inr, _≢_}
 use mathlib.Core.Path.{_≡_, refl, sym, ap, _∙_, fun-ext}
 use mathlib.Core.Bool.{Bool, true, false, cond}
 use mathlib.Core.List.{List, []}
-use borrow.Author.Tests.{eq-eqb, ne-eqb, eqb-true, ltb-false}
 use lib.Dec.{eqb, ltb}
 use lib.ListN.{length, length-set, List·getD-eq-default}
+use borrow.Author.Tests.{eq-eqb, ne-eqb, eqb-true, ltb-false}
+use native.Mathlib.Omega.{arith}
 use Rattle.words.specs.declared.LaneNo.{LaneNo}
 use Rattle.words.specs.declared.BlockNo.{BlockNo}
 use Rattle.words.specs.Folds.{countTo}
@@ -19,6 +19,7 @@ use Rattle.lanes.specs.declared.Command.{Command}
 use Rattle.lanes.specs.declared.Operation.{Operation}
 use Rattle.lanes.specs.declared.Waiting.{Waiting}
 use Rattle.lanes.specs.declared.Waiting.the-variants.{Idle, Unserved, Served}
+use Rattle.lanes.specs.Lanes.{withWaiting}
 use Rattle.answers.specs.declared.Answer.the-variants.{Step}
 use Rattle.answers.specs.declared.Refusal.the-variants.{NothingPending, ControlBusy, ReturnsPending}
 use Rattle.store.specs.declared.Store.{Store}
@@ -28,16 +29,16 @@ use Rattle.store.specs.declared.Control.{Control}
 use Rattle.store.specs.declared.Control.the-variants.{Free, Busy}
 use Rattle.store.specs.declared.Lookup.the-variants.{Nothing}
 use Rattle.store.specs.Control.{busyOf, serviceOf}
-use Rattle.store.specs.Quiet.{laneAt, blockAt}
+use Rattle.store.specs.Stores.{laneAt, blockAt}
 use Rattle.machine.specs.declared.Ready.{Ready}
-use Rattle.machine.specs.Change.{withWaiting, nobody, only, goesTo}
+use Rattle.machine.specs.Change.{nobody, only, goesTo}
 use Rattle.machine.specs.Serve.{bareDown, orderOf, sendsOf, ordered, countOf, closedBlock, grantOf, close, readyWith, readyOf, serviceFor, serveMove, serveReady, serveOf}
 use Rattle.machine.specs.Flat.{flatBlock}
+use Rattle.machine.specs.Sized.{LaneSized}
 use Rattle.machine.proofs.Sound.{sound}
 use Rattle.machine.proofs.KeepsLane.{clash}
 use Rattle.machine.proofs.Sums.{sum-zero, count-sum}
 use Rattle.machine.proofs.Owes.{upd}
-use Rattle.machine.specs.Sized.{LaneSized}
 use Rattle.machine.proofs.BlockState.{Status, Seen, seen, blockNo, project}
 use Rattle.machine.proofs.Invariant.{Inv}
 use Rattle.machine.proofs.Moves.{waitSeen, sendAll, serveState}

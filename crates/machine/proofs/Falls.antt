@@ -1,12 +1,12 @@
 -- 01, "Settle": a step of settle that is not refused lowers the bound, on every store that is not corrupt, reached or not; and it
 -- completes as many operations as wait no more. Assumes nothing.
 use Prim.Native.Nat.{ℕ, _+_, _*_, _<_, _≤_}
-use native.Mathlib.Omega.{arith}
 use mathlib.Core.Path.{_≡_, refl}
 use mathlib.Core.Bool.{true, false, not, cond, true≢false}
-use borrow.Author.Tests.{leb-false}
 use lib.Dec.{leb, ltb}
 use lib.ListN.{length}
+use borrow.Author.Tests.{leb-false}
+use native.Mathlib.Omega.{arith}
 use Rattle.words.specs.declared.LaneNo.{LaneNo}
 use Rattle.words.specs.Units.{blockOf}
 use Rattle.words.specs.Folds.{countTo}
@@ -22,7 +22,7 @@ use Rattle.answers.specs.Refusals.{refusedOf}
 use Rattle.store.specs.declared.Store.{Store}
 use Rattle.store.specs.declared.Outcome.{Outcome}
 use Rattle.store.specs.Control.{busyOf}
-use Rattle.store.specs.Quiet.{laneAt, blockAt}
+use Rattle.store.specs.Stores.{laneAt, blockAt}
 use Rattle.machine.specs.declared.Ready.{Ready}
 use Rattle.machine.specs.declared.Ready.the-variants.{Go, No}
 use Rattle.machine.specs.Corruption.{corruptOf}
@@ -31,10 +31,10 @@ use Rattle.machine.specs.Serve.{readyWith, readyOf, serveReady, serveOf}
 use Rattle.machine.specs.Return.{returnHead, returnOf}
 use Rattle.machine.specs.Deliver.{deliverOf}
 use Rattle.machine.specs.Settle.{settleStep, boundOf, doneIn}
+use Rattle.machine.specs.Sized.{Sized}
 use Rattle.machine.proofs.Counts.{step-most}
 use Rattle.machine.proofs.Sums.{count-sum, sum-most}
 use Rattle.machine.proofs.Sound.{sound}
-use Rattle.machine.specs.Sized.{Sized}
 use Rattle.machine.proofs.SizedKeeps.{serve-move-lane, return-move-lane}
 use Rattle.machine.proofs.FallsLane.{weight, weight-most, deliver-lane-takes}
 use Rattle.machine.proofs.FallsStore.{bound-sum, Advancing, commit-lane-advances, commit-move-advances}

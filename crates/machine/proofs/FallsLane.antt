@@ -1,14 +1,14 @@
 -- What a lane adds to settle's bound, and what a lane's part of a step makes of it. Assumes nothing.
 use Prim.Native.Nat.{ℕ, zero, suc, _+_, _-_, _*_, _<_, _≤_}
-use native.Mathlib.Omega.{arith}
-use native.Mathlib.Nat.{zero-add}
 use mathlib.Core.Path.{_≡_, refl, sym, ap}
 use mathlib.Core.Bool.{Bool, true, false, not, cond, _&&_, true≢false}
 use mathlib.Core.List.{List}
-use borrow.Author.Tests.{leb-false, eqb-false}
 use lib.Dec.{leb, ltb, eqb}
 use lib.ListN.{length, getD, set}
 use lib.Seq.{getD-set-same, getD-set-other}
+use borrow.Author.Tests.{leb-false, eqb-false}
+use native.Mathlib.Omega.{arith}
+use native.Mathlib.Nat.{zero-add}
 use Rattle.words.specs.declared.LaneNo.{LaneNo}
 use Rattle.words.specs.declared.LineNo.{LineNo}
 use Rattle.words.specs.declared.BlockNo.{BlockNo}
@@ -17,6 +17,7 @@ use Rattle.words.specs.declared.Line.{Line}
 use Rattle.words.specs.declared.Op.{Op}
 use Rattle.words.specs.Units.{blockOf}
 use Rattle.words.specs.Folds.{countTo}
+use Rattle.words.specs.Lines.{invalid}
 use Rattle.words.proofs.Folds.{by-cond, pick}
 use Rattle.queues.specs.declared.ReturnMessage.{ReturnMessage}
 use Rattle.queues.specs.declared.DownMessage.{DownMessage}
@@ -32,18 +33,19 @@ use Rattle.lanes.specs.declared.Found.{Found}
 use Rattle.lanes.specs.declared.Found.the-variants.{At, Nothing}
 use Rattle.lanes.specs.Search.{lineAt, searchOf, vacantOf}
 use Rattle.lanes.specs.Waits.{idleOf, unservedOf}
-use Rattle.answers.specs.Refusals.{refusedOf}
+use Rattle.lanes.specs.Lanes.{withWaiting, withReturns, withDowns, withLine}
 use Rattle.answers.specs.declared.Refusal.{Refusal}
 use Rattle.answers.specs.declared.Refusal.the-variants.{NothingPending, QueueFull, Unexpected}
+use Rattle.answers.specs.Refusals.{refusedOf}
 use Rattle.machine.specs.declared.LaneStep.{LaneStep}
 use Rattle.machine.specs.declared.Ready.{Ready}
 use Rattle.machine.specs.declared.Ready.the-variants.{Go, No}
-use Rattle.machine.specs.Change.{refuseLane, withWaiting, withReturns, withDowns, posted}
-use Rattle.machine.specs.Begin.{complete, invalid}
-use Rattle.machine.specs.Deliver.{reply, withLine, shared, updateAt, purgeAt, fillAt, grantAt, bareAt, servedOn, grantTo, bareTo, deliverKind, deliverLane}
+use Rattle.machine.specs.Change.{refuseLane, posted}
+use Rattle.machine.specs.Begin.{complete}
+use Rattle.machine.specs.Deliver.{reply, shared, updateAt, purgeAt, fillAt, grantAt, bareAt, servedOn, grantTo, bareTo, deliverKind, deliverLane}
 use Rattle.machine.specs.Settle.{isOrder, downsOf, doneIn}
-use Rattle.machine.proofs.Tests.{on}
 use Rattle.machine.specs.Sized.{LaneSized}
+use Rattle.machine.proofs.Tests.{on}
 
 -- what a down message adds: an order is answered, a grant is not
 abbrev pub price : DownKind → ℕ

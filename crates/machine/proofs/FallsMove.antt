@@ -1,11 +1,11 @@
 -- Memory's part of serve and of return lowers what the lane, the messages sent and the service add to settle's bound. Assumes nothing.
 use Prim.Native.Nat.{ℕ, _+_, _*_, _<_, _≤_}
-use native.Mathlib.Omega.{arith}
 use mathlib.Core.Path.{_≡_, refl, _∙_}
 use mathlib.Core.Bool.{true, false, true≢false}
 use lib.Dec.{eqb}
 use lib.ListN.{getD-replicate}
 use lib.Seq.{getD-set-other}
+use native.Mathlib.Omega.{arith}
 use Rattle.words.specs.declared.LaneNo.{LaneNo}
 use Rattle.words.specs.declared.BlockNo.{BlockNo}
 use Rattle.words.specs.Folds.{countTo}
@@ -18,6 +18,7 @@ use Rattle.lanes.specs.declared.Operation.{Operation}
 use Rattle.lanes.specs.declared.Command.{Command}
 use Rattle.lanes.specs.declared.Command.the-variants.{ReadShared, ReadExclusive, Exclude}
 use Rattle.lanes.specs.declared.Waiting.the-variants.{Unserved, Served}
+use Rattle.lanes.specs.Lanes.{withWaiting, withReturns}
 use Rattle.answers.specs.Refusals.{refusedOf}
 use Rattle.store.specs.declared.Block.{Block}
 use Rattle.store.specs.declared.Service.{Service}
@@ -29,7 +30,7 @@ use Rattle.store.specs.declared.Counted.{Counted}
 use Rattle.store.specs.declared.Counted.the-variants.{Awaits, Closes, NotAwaited}
 use Rattle.store.specs.Control.{busyOf, lowered, countedOf, answerOf}
 use Rattle.machine.specs.declared.Move.{Move}
-use Rattle.machine.specs.Change.{withWaiting, withReturns, nobody, only, goesTo}
+use Rattle.machine.specs.Change.{nobody, only, goesTo}
 use Rattle.machine.specs.Serve.{orderOf, ordered, countOf, grantOf, close, serviceFor, serveMove}
 use Rattle.machine.specs.Return.{takenBy, isAnswer, sendNothing, answered, returnMove}
 use Rattle.machine.proofs.Sums.{count-zero, count-one, count-mono}

@@ -1,11 +1,11 @@
 -- 01, "Settle": its count is at most the bound, and its completions are at most the operations that wait. The definition repeats
 -- often enough: more repetitions change nothing. Assumes nothing.
 use Prim.Native.Nat.{ℕ, zero, suc, _+_, _<_, _≤_}
-use native.Mathlib.Omega.{arith}
 use mathlib.Core.Path.{_≡_, refl, sym, ap, _∙_}
 use mathlib.Core.Bool.{true, false, _||_, true≢false}
 use mathlib.Core.List.{[]}
 use lib.ListN.{length, length-append}
+use native.Mathlib.Omega.{arith}
 use Rattle.words.proofs.Folds.{pick}
 use Rattle.answers.specs.declared.Answer.{Answer}
 use Rattle.answers.specs.declared.Answer.the-variants.{Opened, Done, Wait, Step}
@@ -17,11 +17,11 @@ use Rattle.store.specs.Quiet.{quietOf}
 use Rattle.machine.specs.declared.Settled.the-variants.{Steps}
 use Rattle.machine.specs.Corruption.{corruptOf}
 use Rattle.machine.specs.Settle.{Progress, settleStep, boundOf, doneIn, advance, ended, repeatStep, Settlement, refuseSettle, reached, unlessRefused, settleOf}
+use Rattle.machine.specs.Sized.{Sized}
 use Rattle.machine.proofs.Tests.{on}
 use Rattle.machine.proofs.Sound.{sound}
 use Rattle.machine.proofs.KeepsLane.{clash}
 use Rattle.machine.proofs.KeepsRepeat.{settle-step-keeps}
-use Rattle.machine.specs.Sized.{Sized}
 use Rattle.machine.proofs.SizedKeeps.{settle-step-sized, sized-whole}
 use Rattle.machine.proofs.Falls.{waitingIn, settle-falls, settle-completes}
 

@@ -1,12 +1,12 @@
 -- Settle's bound is what the lanes and the control add; what a lane, or memory's part of a call, put back makes of it. Assumes nothing.
 use Prim.Native.Nat.{ℕ, _+_, _*_, _<_, _≤_}
-use native.Mathlib.Omega.{arith}
-use native.Mathlib.Nat.{add-zero}
 use mathlib.Core.Path.{_≡_, refl, sym, ap, _∙_}
 use mathlib.Core.Bool.{Bool, true, false, cond, _&&_, true≢false}
 use mathlib.Core.List.{List}
 use lib.ListN.{length, getD, set}
 use lib.Seq.{getD-set-same, getD-set-other}
+use native.Mathlib.Omega.{arith}
+use native.Mathlib.Nat.{add-zero}
 use Rattle.words.specs.declared.LaneNo.{LaneNo}
 use Rattle.words.specs.declared.BlockNo.{BlockNo}
 use Rattle.words.specs.Folds.{countTo, sumTo}
@@ -15,21 +15,21 @@ use Rattle.queues.specs.declared.DownMessage.{DownMessage}
 use Rattle.queues.specs.Queues.{fullAt}
 use Rattle.lanes.specs.declared.Lane.{Lane}
 use Rattle.lanes.specs.Waits.{unservedOf}
-use Rattle.answers.specs.Refusals.{refusedOf}
 use Rattle.answers.specs.declared.Refusal.the-variants.{QueueFull}
+use Rattle.answers.specs.Refusals.{refusedOf}
 use Rattle.store.specs.declared.Store.{Store}
 use Rattle.store.specs.declared.Control.{Control}
 use Rattle.store.specs.declared.Outcome.{Outcome}
 use Rattle.store.specs.Control.{busyOf}
-use Rattle.store.specs.Quiet.{noLane, laneAt}
+use Rattle.store.specs.Stores.{noLane, laneAt}
 use Rattle.machine.specs.declared.LaneStep.{LaneStep}
 use Rattle.machine.specs.declared.Move.{Move}
 use Rattle.machine.specs.Change.{refuse, commitLane, goesTo, someFull, posted, postAll, commitMove}
 use Rattle.machine.specs.Settle.{downsOf, boundOf, doneIn}
+use Rattle.machine.specs.Sized.{LaneSized, Sized}
 use Rattle.machine.proofs.Tests.{and-right}
 use Rattle.machine.proofs.Sums.{sum-same, sum-change, sum-grown, sum-weights}
 use Rattle.machine.proofs.Posts.{post-all-at}
-use Rattle.machine.specs.Sized.{LaneSized, Sized}
 use Rattle.machine.proofs.SizedKeeps.{LanesSized, set-lane-sized, lanes-sized}
 use Rattle.machine.proofs.FallsLane.{price, weight, waits, posted-weight, posted-waits, Takes}
 

@@ -8,6 +8,7 @@ use mathlib.Core.List.{List, [], _∷_}
 use lib.Dec.{eqb}
 use lib.ListN.{length, getD}
 use Rattle.words.specs.Folds.{sumTo}
+use Rattle.words.specs.Operations.{isLoad}
 use Rattle.queues.specs.declared.ReturnMessage.{ReturnMessage}
 use Rattle.queues.specs.declared.ReturnKind.{ReturnKind}
 use Rattle.queues.specs.declared.ReturnKind.the-variants.{Eject, WriteEject, Updated, Purged, PurgedWords, Gone}
@@ -23,7 +24,6 @@ use Rattle.store.specs.declared.Block.{Block}
 use Rattle.store.specs.declared.Service.{Service}
 use Rattle.store.specs.declared.Lookup.{Lookup}
 use Rattle.store.specs.declared.Lookup.the-variants.{Of, Nothing}
-use Rattle.machine.specs.Begin.{isLoad}
 use Rattle.machine.specs.Return.{isAnswer}
 use Rattle.machine.specs.Settle.{isOrder}
 use Rattle.machine.proofs.BlockState.{Status, Invalid, Shared, Modified, held, dirty, Seen, BlockState}

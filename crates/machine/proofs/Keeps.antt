@@ -5,16 +5,16 @@
 -- these two laws also want the 8 places of each lane's order. A store of the program has them (its arrays are of 8), an opening
 -- gives them and every step keeps them, corrupt or not. Assumes nothing.
 use Prim.Native.Nat.{ℕ, _<_, _≤_}
-use native.Mathlib.Omega.{arith}
 use mathlib.Core.Path.{_≡_}
 use mathlib.Core.Bool.{false}
 use lib.ListN.{length}
+use native.Mathlib.Omega.{arith}
 use Rattle.words.specs.declared.LaneNo.{LaneNo}
 use Rattle.words.specs.declared.WordNo.{WordNo}
 use Rattle.words.specs.declared.Op.{Op}
 use Rattle.store.specs.declared.Store.{Store}
 use Rattle.store.specs.Opening.{badShape, freshOf}
-use Rattle.store.specs.Quiet.{laneAt}
+use Rattle.store.specs.Stores.{laneAt}
 use Rattle.machine.specs.Corruption.{corruptOf}
 use Rattle.machine.specs.Begin.{beginOf}
 use Rattle.machine.specs.Serve.{serveOf}

@@ -1,20 +1,21 @@
 -- Begin keeps a store within bounds. Assumes nothing.
 use Prim.Native.Nat.{ℕ, zero, suc, _+_, _*_, _<_, _≤_}
-use native.Mathlib.Omega.{arith}
 use mathlib.Core.Logic.{_⊎_, inl, inr, _≢_}
 use mathlib.Core.Path.{_≡_, refl}
 use mathlib.Core.Bool.{Bool, true, false, not, cond, _||_}
 use mathlib.Core.List.{List}
-use borrow.Author.Tests.{leb-false, not-false}
 use lib.Dec.{leb}
 use lib.ListN.{getD, set}
+use borrow.Author.Tests.{leb-false, not-false}
+use native.Mathlib.Omega.{arith}
 use Rattle.words.specs.declared.LaneNo.{LaneNo}
 use Rattle.words.specs.declared.LineNo.{LineNo}
 use Rattle.words.specs.declared.WordNo.{WordNo}
 use Rattle.words.specs.declared.Line.{Line}
 use Rattle.words.specs.declared.Op.{Op}
-use Rattle.words.specs.Lines.{noLine}
+use Rattle.words.specs.Lines.{noLine, invalid}
 use Rattle.words.specs.Units.{blockOf}
+use Rattle.words.specs.Operations.{isLoad}
 use Rattle.words.proofs.Folds.{by-cond, pick}
 use Rattle.queues.specs.declared.ReturnMessage.{ReturnMessage}
 use Rattle.queues.specs.Queues.{noReturn}
@@ -25,14 +26,14 @@ use Rattle.lanes.specs.declared.Found.the-variants.{At, Nothing}
 use Rattle.lanes.specs.Search.{lineAt, firstFrom, searchOf, vacantOf}
 use Rattle.lanes.specs.UseOrder.{placeAt}
 use Rattle.lanes.specs.Waits.{idleOf}
+use Rattle.lanes.specs.Lanes.{withLine}
 use Rattle.answers.specs.declared.Refusal.the-variants.{NoSuchWord, LaneBusy}
 use Rattle.store.specs.declared.Store.{Store}
 use Rattle.store.specs.declared.Outcome.{Outcome}
-use Rattle.store.specs.Quiet.{laneAt}
+use Rattle.store.specs.Stores.{laneAt}
 use Rattle.machine.specs.declared.LaneStep.{LaneStep}
 use Rattle.machine.specs.Change.{refuse, refuseLane}
-use Rattle.machine.specs.Begin.{isLoad, complete, waits, hit, readOf, ejectOf, invalid, evict, missWith, miss, beginAt, beginLane, beginOf}
-use Rattle.machine.specs.Deliver.{withLine}
+use Rattle.machine.specs.Begin.{complete, waits, hit, readOf, ejectOf, evict, missWith, miss, beginAt, beginLane, beginOf}
 use Rattle.machine.proofs.Tests.{on}
 use Rattle.machine.proofs.Sets.{same?}
 use Rattle.machine.proofs.KeepsLane.{LaneFit, clash, join-keeps, with-line, with-returns, with-unserved, complete-keeps}

@@ -1,14 +1,14 @@
 -- Deliver keeps a store within bounds. Assumes nothing.
 use Prim.Native.Nat.{ℕ, _<_, _≤_}
-use native.Mathlib.Omega.{arith}
 use mathlib.Core.Path.{_≡_, refl}
 use mathlib.Core.Bool.{true, false}
 use lib.ListN.{getD}
+use native.Mathlib.Omega.{arith}
 use Rattle.words.specs.declared.LaneNo.{LaneNo}
 use Rattle.words.specs.declared.LineNo.{LineNo}
 use Rattle.words.specs.declared.BlockNo.{BlockNo}
 use Rattle.words.specs.declared.Line.{Line}
-use Rattle.words.specs.Lines.{holdsOf}
+use Rattle.words.specs.Lines.{holdsOf, invalid}
 use Rattle.words.proofs.Folds.{by-cond, pick}
 use Rattle.queues.specs.declared.ReturnMessage.{ReturnMessage}
 use Rattle.queues.specs.declared.ReturnKind.the-variants.{Updated, Gone}
@@ -21,17 +21,18 @@ use Rattle.lanes.specs.declared.Operation.{Operation}
 use Rattle.lanes.specs.declared.Found.{Found}
 use Rattle.lanes.specs.declared.Found.the-variants.{At, Nothing}
 use Rattle.lanes.specs.Search.{lineAt, searchOf, vacantOf}
+use Rattle.lanes.specs.Lanes.{withDowns, withLine}
 use Rattle.lanes.proofs.Firsts.{first-bound}
-use Rattle.answers.specs.Refusals.{refusedOf}
 use Rattle.answers.specs.declared.Refusal.the-variants.{NothingPending}
+use Rattle.answers.specs.Refusals.{refusedOf}
 use Rattle.store.specs.declared.Store.{Store}
-use Rattle.store.specs.Quiet.{laneAt}
+use Rattle.store.specs.Stores.{laneAt}
 use Rattle.machine.specs.declared.LaneStep.{LaneStep}
 use Rattle.machine.specs.declared.Ready.{Ready}
 use Rattle.machine.specs.declared.Ready.the-variants.{Go, No}
-use Rattle.machine.specs.Change.{refuseLane, withDowns}
-use Rattle.machine.specs.Begin.{invalid, bareReturn, wordsReturn}
-use Rattle.machine.specs.Deliver.{withLine, shared, updateAt, purgedOf, purgeAt, claimed, fillAt, grantAt, bareAt, servedOn, grantTo, bareTo, deliverKind, deliverLane, deliverOf}
+use Rattle.machine.specs.Change.{refuseLane}
+use Rattle.machine.specs.Begin.{bareReturn, wordsReturn}
+use Rattle.machine.specs.Deliver.{shared, updateAt, purgedOf, purgeAt, claimed, fillAt, grantAt, bareAt, servedOn, grantTo, bareTo, deliverKind, deliverLane, deliverOf}
 use Rattle.machine.proofs.KeepsLane.{LaneFit, clash, with-line, complete-keeps, reply-keeps, taken-keeps, head-inside}
 use Rattle.machine.proofs.KeepsStore.{Fit, lane-fit, guarded-keeps, commit-lane-keeps}
 

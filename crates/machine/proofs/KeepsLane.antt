@@ -1,14 +1,14 @@
 -- What every step does to a lane, a block and the control keeps them within bounds. Assumes nothing.
 use Prim.Native.Nat.{ℕ, _+_, _-_, _<_, _≤_}
-use native.Mathlib.Omega.{arith}
 use mathlib.Core.Logic.{_⊎_, inl, inr, _≢_}
 use mathlib.Core.Path.{_≡_}
 use mathlib.Core.Bool.{true, false}
 use mathlib.Core.List.{List}
-use borrow.Author.Tests.{leb-false, eqb-false}
 use lib.Dec.{leb, eqb}
 use lib.ListN.{length, getD, set}
 use lib.Seq.{getD-set-other}
+use borrow.Author.Tests.{leb-false, eqb-false}
+use native.Mathlib.Omega.{arith}
 use Rattle.words.specs.declared.LaneNo.{LaneNo}
 use Rattle.words.specs.declared.LineNo.{LineNo}
 use Rattle.words.specs.declared.WordNo.{WordNo}
@@ -25,9 +25,10 @@ use Rattle.queues.specs.Queues.{noReturn, noDown, takeReturn, takeDown}
 use Rattle.lanes.specs.declared.Lane.{Lane}
 use Rattle.lanes.specs.declared.Operation.{Operation}
 use Rattle.lanes.specs.declared.Waiting.the-variants.{Unserved, Served}
-use Rattle.machine.specs.Change.{withWaiting, withReturns, withDowns, posted}
+use Rattle.lanes.specs.Lanes.{withWaiting, withReturns, withDowns, withLine}
+use Rattle.machine.specs.Change.{posted}
 use Rattle.machine.specs.Begin.{complete}
-use Rattle.machine.specs.Deliver.{withLine, reply}
+use Rattle.machine.specs.Deliver.{reply}
 use Rattle.machine.proofs.Tests.{on}
 use Rattle.machine.proofs.Sets.{same?, set-cases, set-here}
 use Rattle.machine.proofs.Orders.{used-length, used-keeps}

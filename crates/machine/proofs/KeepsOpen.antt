@@ -1,13 +1,13 @@
 -- Opening gives a store within bounds. Assumes nothing.
 use Prim.Native.Nat.{ℕ, zero, suc, _<_, _≤_}
-use native.Mathlib.Omega.{arith}
 use mathlib.Core.Path.{_≡_, refl, sym, _∙_}
 use mathlib.Core.Bool.{false, true≢false}
 use lib.ListN.{getD, getD-replicate}
+use native.Mathlib.Omega.{arith}
 use Rattle.words.specs.Lines.{noLine}
 use Rattle.lanes.specs.UseOrder.{placeAt}
 use Rattle.store.specs.Opening.{badShape, blankLine, blankLane, blankBlock, freshOf}
-use Rattle.store.specs.Quiet.{noLane, noBlock, laneAt, blockAt}
+use Rattle.store.specs.Stores.{noLane, noBlock, laneAt, blockAt}
 use Rattle.machine.proofs.Shape.{shape-bounds}
 use Rattle.machine.proofs.Sound.{Ordered, BlockSound}
 use Rattle.machine.proofs.KeepsLane.{clash, LaneFit}

@@ -1,10 +1,10 @@
 -- Return keeps a store within bounds. Assumes nothing.
 use Prim.Native.Nat.{ℕ, _<_, _≤_}
-use native.Mathlib.Omega.{arith}
 use mathlib.Core.Path.{refl}
 use mathlib.Core.List.{List}
 use lib.Dec.{eqb}
 use lib.ListN.{getD}
+use native.Mathlib.Omega.{arith}
 use Rattle.words.specs.declared.LaneNo.{LaneNo}
 use Rattle.words.specs.declared.BlockNo.{BlockNo}
 use Rattle.words.proofs.Folds.{by-cond, pick}
@@ -13,6 +13,7 @@ use Rattle.queues.specs.declared.ReturnKind.{ReturnKind}
 use Rattle.queues.specs.declared.ReturnKind.the-variants.{Eject, WriteEject, Updated, Purged, PurgedWords, Gone}
 use Rattle.queues.specs.Queues.{emptyAt, headReturn, takeReturn, noReturn}
 use Rattle.lanes.specs.declared.Lane.{Lane}
+use Rattle.lanes.specs.Lanes.{withReturns}
 use Rattle.answers.specs.declared.Refusal.the-variants.{NothingPending}
 use Rattle.store.specs.declared.Store.{Store}
 use Rattle.store.specs.declared.Block.{Block}
@@ -24,8 +25,8 @@ use Rattle.store.specs.declared.Counted.{Counted}
 use Rattle.store.specs.declared.Counted.the-variants.{Awaits, Closes}
 use Rattle.store.specs.declared.Outcome.{Outcome}
 use Rattle.store.specs.Control.{lowered, countedOf, answerOf}
-use Rattle.store.specs.Quiet.{laneAt, blockAt}
-use Rattle.machine.specs.Change.{refuse, withReturns}
+use Rattle.store.specs.Stores.{laneAt, blockAt}
+use Rattle.machine.specs.Change.{refuse}
 use Rattle.machine.specs.Return.{takenBy, isAnswer, sendNothing, answered, returnMove, returnHead, returnOf}
 use Rattle.machine.proofs.Sound.{BlockSound, ControlSound}
 use Rattle.machine.proofs.KeepsLane.{LaneFit, returned-keeps, head-inside}

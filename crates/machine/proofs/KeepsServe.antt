@@ -1,11 +1,11 @@
 -- Serve and close keep a store within bounds. Assumes nothing.
 use Prim.Native.Nat.{ℕ, _<_, _≤_}
-use native.Mathlib.Omega.{arith}
 use mathlib.Core.Path.{_≡_, refl}
 use mathlib.Core.Bool.{Bool, true, false}
 use mathlib.Core.List.{List}
 use lib.Dec.{ltb, eqb}
 use lib.ListN.{getD, set, getD-replicate}
+use native.Mathlib.Omega.{arith}
 use Rattle.words.specs.declared.LaneNo.{LaneNo}
 use Rattle.words.specs.Units.{blockOf}
 use Rattle.words.proofs.Folds.{by-cond}
@@ -16,15 +16,16 @@ use Rattle.lanes.specs.declared.Command.{Command}
 use Rattle.lanes.specs.declared.Command.the-variants.{ReadShared, ReadExclusive, Exclude}
 use Rattle.lanes.specs.declared.Waiting.{Waiting}
 use Rattle.lanes.specs.declared.Waiting.the-variants.{Idle, Unserved, Served}
+use Rattle.lanes.specs.Lanes.{withWaiting}
 use Rattle.store.specs.declared.Store.{Store}
 use Rattle.store.specs.declared.Block.{Block}
 use Rattle.store.specs.declared.Service.{Service}
 use Rattle.store.specs.declared.Control.{Control}
 use Rattle.store.specs.declared.Control.the-variants.{Free, Busy}
 use Rattle.store.specs.Control.{busyOf}
-use Rattle.store.specs.Quiet.{laneAt, blockAt}
+use Rattle.store.specs.Stores.{laneAt, blockAt}
 use Rattle.machine.specs.declared.Ready.{Ready}
-use Rattle.machine.specs.Change.{withWaiting, nobody, goesTo}
+use Rattle.machine.specs.Change.{nobody, goesTo}
 use Rattle.machine.specs.Serve.{sendsOf, ordered, countOf, closedBlock, close, readyWith, readyOf, serviceFor, serveMove, serveReady, serveOf}
 use Rattle.machine.proofs.Sets.{set-cases, set-here}
 use Rattle.machine.proofs.Counts.{count-less, count-past}

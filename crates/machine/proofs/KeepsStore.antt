@@ -3,24 +3,24 @@ use Prim.Native.Nat.{ℕ, zero, suc, _<_, _≤_}
 use mathlib.Core.Path.{_≡_}
 use mathlib.Core.Bool.{Bool, false, cond}
 use mathlib.Core.List.{List}
-use borrow.Author.Tests.{leb-false}
 use lib.Dec.{leb}
 use lib.ListN.{length, getD, set}
+use borrow.Author.Tests.{leb-false}
 use Rattle.words.specs.declared.LaneNo.{LaneNo}
 use Rattle.words.specs.declared.BlockNo.{BlockNo}
 use Rattle.words.specs.Folds.{upTo}
 use Rattle.words.proofs.Folds.{by-cond, pick}
 use Rattle.queues.specs.declared.DownMessage.{DownMessage}
 use Rattle.lanes.specs.declared.Lane.{Lane}
-use Rattle.answers.specs.Refusals.{refusedOf}
 use Rattle.answers.specs.declared.Refusal.the-variants.{NoSuchLane, QueueFull, Corrupt}
+use Rattle.answers.specs.Refusals.{refusedOf}
 use Rattle.store.specs.declared.Store.{Store}
 use Rattle.store.specs.declared.Outcome.{Outcome}
-use Rattle.store.specs.Quiet.{noLane, noBlock, laneAt}
+use Rattle.store.specs.Stores.{noLane, noBlock, laneAt, withLane}
 use Rattle.machine.specs.declared.LaneStep.{LaneStep}
 use Rattle.machine.specs.declared.Move.{Move}
 use Rattle.machine.specs.Corruption.{corruptOf}
-use Rattle.machine.specs.Change.{refuse, guarded, withLane, commitLane, goesTo, someFull, posted, postTo, postAll, commitMove}
+use Rattle.machine.specs.Change.{refuse, guarded, commitLane, goesTo, someFull, posted, postTo, postAll, commitMove}
 use Rattle.machine.proofs.Sets.{set-cases}
 use Rattle.machine.proofs.Sound.{LaneSound, BlockSound, ControlSound, Sound, sound}
 use Rattle.machine.proofs.KeepsLane.{LaneFit, posted-keeps}

@@ -1,23 +1,23 @@
 -- A move of one lane keeps the protocol's invariant where the lane pays what it owes: the rest is the lanes that it leaves as they
 -- were. Assumes nothing.
 use Prim.Native.Nat.{ℕ, _+_}
-use native.Mathlib.Omega.{arith}
 use mathlib.Core.Logic.{inl, inr, _≢_}
 use mathlib.Core.Path.{_≡_, refl, sym, ap, _∙_, subst, fun-ext}
 use mathlib.Core.Bool.{true, false}
 use mathlib.Core.List.{List, [], _∷_}
-use borrow.Author.Tests.{eq-eqb, ne-eqb}
 use lib.Seq.{set-getD}
+use borrow.Author.Tests.{eq-eqb, ne-eqb}
+use native.Mathlib.Omega.{arith}
 use Rattle.words.specs.declared.WordNo.{WordNo}
 use Rattle.words.specs.declared.Op.{Op}
 use Rattle.words.specs.declared.Op.the-variants as Op
 use Rattle.words.specs.Folds.{sumTo}
 use Rattle.words.specs.Units.{placeOf}
+use Rattle.words.specs.Operations.{isLoad}
 use Rattle.queues.specs.declared.DownMessage.{DownMessage}
 use Rattle.store.specs.declared.Service.{Service}
 use Rattle.store.specs.declared.Lookup.{Lookup}
 use Rattle.store.specs.declared.Lookup.the-variants.{Of, Nothing}
-use Rattle.machine.specs.Begin.{isLoad}
 use Rattle.machine.proofs.KeepsLane.{clash}
 use Rattle.machine.proofs.Tests.{on}
 use Rattle.machine.proofs.Sets.{same?}

@@ -1,17 +1,18 @@
 -- The moves of begin keep the protocol's invariant: hit, wait, eviction. Assumes nothing.
 use Prim.Native.Nat.{ℕ}
-use native.Mathlib.Omega.{arith}
 use mathlib.Core.Path.{_≡_, refl, sym, ap, _∙_, subst}
 use mathlib.Core.Bool.{Bool, true, false, cond, _||_}
 use mathlib.Core.List.{List}
+use native.Mathlib.Omega.{arith}
 use Rattle.words.specs.declared.BlockNo.{BlockNo}
 use Rattle.words.specs.declared.WordNo.{WordNo}
 use Rattle.words.specs.declared.Op.{Op}
+use Rattle.words.specs.Operations.{isLoad}
 use Rattle.queues.specs.declared.ReturnMessage.{ReturnMessage}
 use Rattle.queues.specs.declared.ReturnKind.the-variants.{Eject, WriteEject}
 use Rattle.lanes.specs.declared.Operation.{Operation}
 use Rattle.lanes.specs.declared.Waiting.the-variants.{Idle, Unserved}
-use Rattle.machine.specs.Begin.{isLoad, bareReturn, wordsReturn}
+use Rattle.machine.specs.Begin.{bareReturn, wordsReturn}
 use Rattle.machine.specs.Return.{isAnswer}
 use Rattle.machine.proofs.KeepsLane.{clash}
 use Rattle.machine.proofs.Tests.{on}

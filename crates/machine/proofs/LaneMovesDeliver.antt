@@ -1,11 +1,12 @@
 -- The moves of deliver keep the protocol's invariant: an order taken, a grant taken; and a grant meets flat memory's words. Assumes
 -- nothing.
 use Prim.Native.Nat.{ℕ, _+_}
-use native.Mathlib.Omega.{arith}
 use mathlib.Core.Path.{_≡_, refl, sym, ap, _∙_, subst}
 use mathlib.Core.Bool.{Bool, true, false}
 use mathlib.Core.List.{List, [], _∷_}
+use native.Mathlib.Omega.{arith}
 use Rattle.words.specs.declared.BlockNo.{BlockNo}
+use Rattle.words.specs.Operations.{isLoad}
 use Rattle.words.proofs.Folds.{or-left, or-right}
 use Rattle.queues.specs.declared.ReturnMessage.{ReturnMessage}
 use Rattle.queues.specs.declared.ReturnKind.{ReturnKind}
@@ -18,7 +19,7 @@ use Rattle.lanes.specs.declared.Command.the-variants.{ReadShared, ReadExclusive
 use Rattle.lanes.specs.declared.Operation.{Operation}
 use Rattle.lanes.specs.declared.Waiting.{Waiting}
 use Rattle.lanes.specs.declared.Waiting.the-variants.{Idle, Unserved, Served}
-use Rattle.machine.specs.Begin.{isLoad, bareReturn, wordsReturn}
+use Rattle.machine.specs.Begin.{bareReturn, wordsReturn}
 use Rattle.machine.specs.Return.{isAnswer}
 use Rattle.machine.specs.Settle.{isOrder}
 use Rattle.machine.proofs.KeepsLane.{clash}

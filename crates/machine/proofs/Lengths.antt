@@ -1,13 +1,13 @@
 -- How long a tape's text is at most, and that the room for it is enough. Assumes nothing.
 use Prim.Native.Nat.{ℕ, zero, suc, _+_, _*_, _/_, _<_, _≤_}
-use native.Mathlib.Omega.{arith}
 use mathlib.Core.Logic.{_⊎_, inl, inr}
 use mathlib.Core.Bool.{true, false}
 use mathlib.Core.Path.{_≡_, refl, sym, _∙_}
 use mathlib.Core.List.{List, [], _∷_, _++_}
-use borrow.Author.Tests.{eq-eqb, eqb-false, ltb-false}
 use lib.Dec.{ltb, eqb}
 use lib.ListN.{length, drop, length-append, length-drop}
+use borrow.Author.Tests.{eq-eqb, eqb-false, ltb-false}
+use native.Mathlib.Omega.{arith}
 use Rattle.words.proofs.Folds.{by-cond, pick}
 use Rattle.records.specs.Records.{parseOf}
 use Rattle.records.proofs.Parsing.{Takes, parse-takes}

@@ -17,7 +17,7 @@ use Rattle.lanes.specs.Waits.{unservedOf}
 use Rattle.store.specs.declared.Store.{Store}
 use Rattle.store.specs.declared.Service.{Service}
 use Rattle.store.specs.declared.Control.the-variants.{Busy}
-use Rattle.store.specs.Quiet.{laneAt}
+use Rattle.store.specs.Stores.{laneAt}
 use Rattle.machine.specs.Return.{isAnswer}
 use Rattle.machine.proofs.BlockState.{project}
 use Rattle.machine.proofs.Queued.{returnsIn}

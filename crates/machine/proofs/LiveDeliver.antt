@@ -1,14 +1,14 @@
 -- Deliver is never refused where a message is under way to the lane: an order finds room for its answer, and a grant the operation
 -- that it is for and a line. Assumes nothing.
 use Prim.Native.Nat.{ℕ, zero, suc, _+_, _<_, _≤_}
-use native.Mathlib.Omega.{arith}
 use mathlib.Core.Logic.{_⊎_, inl, inr, _≢_}
 use mathlib.Core.Path.{_≡_, refl, sym, ap, _∙_}
 use mathlib.Core.Bool.{Bool, true, false, cond, not, _||_}
 use mathlib.Core.List.{List, [], _∷_}
-use borrow.Author.Tests.{eq-eqb, eqb-true, lt-leb}
 use lib.Dec.{eqb}
 use lib.ListN.{length, getD}
+use borrow.Author.Tests.{eq-eqb, eqb-true, lt-leb}
+use native.Mathlib.Omega.{arith}
 use Rattle.words.specs.declared.LaneNo.{LaneNo}
 use Rattle.words.specs.declared.BlockNo.{BlockNo}
 use Rattle.words.specs.Units.{blockOf}
@@ -27,15 +27,16 @@ use Rattle.lanes.specs.declared.Found.{Found}
 use Rattle.lanes.specs.declared.Found.the-variants.{At, Nothing}
 use Rattle.lanes.specs.Search.{searchOf, vacantOf}
 use Rattle.lanes.specs.Waits.{unservedOf}
+use Rattle.lanes.specs.Lanes.{withDowns}
 use Rattle.answers.specs.Refusals.{refusedOf}
 use Rattle.store.specs.declared.Store.{Store}
 use Rattle.store.specs.declared.Outcome.{Outcome}
-use Rattle.store.specs.Quiet.{laneAt}
+use Rattle.store.specs.Stores.{laneAt}
 use Rattle.machine.specs.declared.LaneStep.{LaneStep}
 use Rattle.machine.specs.declared.Ready.{Ready}
 use Rattle.machine.specs.declared.Ready.the-variants.{Go}
 use Rattle.machine.specs.Corruption.{corruptOf}
-use Rattle.machine.specs.Change.{guarded, withDowns, commitLane}
+use Rattle.machine.specs.Change.{guarded, commitLane}
 use Rattle.machine.specs.Begin.{complete}
 use Rattle.machine.specs.Return.{isAnswer}
 use Rattle.machine.specs.Deliver.{reply, updateAt, purgeAt, fillAt, grantAt, bareAt, servedOn, grantTo, bareTo, deliverKind, deliverLane, deliverOf}

@@ -1,9 +1,9 @@
 -- An opening gives a live store, and every call keeps a consistent one live; so does every list of calls. Assumes nothing.
 use Prim.Native.Nat.{ℕ, zero, suc, _*_, _<_, _≤_}
-use native.Mathlib.Omega.{arith}
 use mathlib.Core.Path.{_≡_, refl}
 use mathlib.Core.List.{List}
 use lib.Dec.{leb, ltb}
+use native.Mathlib.Omega.{arith}
 use Rattle.words.specs.declared.LaneNo.{LaneNo}
 use Rattle.words.specs.declared.WordNo.{WordNo}
 use Rattle.words.specs.declared.BlockNo.{BlockNo}
@@ -17,9 +17,9 @@ use Rattle.answers.specs.Refusals.{refusedOf}
 use Rattle.store.specs.declared.Store.{Store}
 use Rattle.store.specs.declared.Outcome.{Outcome}
 use Rattle.store.specs.Opening.{blankLane, freshOf, openOf}
-use Rattle.store.specs.Quiet.{noLane, laneAt}
+use Rattle.store.specs.Stores.{noLane, laneAt, withLane}
 use Rattle.machine.specs.declared.LaneStep.{LaneStep}
-use Rattle.machine.specs.Change.{withLane, commitLane}
+use Rattle.machine.specs.Change.{commitLane}
 use Rattle.machine.specs.Begin.{beginLane, beginOf}
 use Rattle.machine.specs.Deliver.{deliverOf}
 use Rattle.machine.specs.Settle.{settleStep, boundOf, Progress, advance, ended, repeatStep, Settlement, settleOf}

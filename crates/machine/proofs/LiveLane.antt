@@ -1,13 +1,13 @@
 -- What a lane's part of a call leaves of `LaneLive`: begin and deliver keep it. Assumes nothing.
 use Prim.Native.Nat.{ℕ, _+_, _<_, _≤_}
-use native.Mathlib.Omega.{arith}
 use mathlib.Core.Path.{_≡_, refl, ap, sym, _∙_}
 use mathlib.Core.Bool.{Bool, true, false, cond, not, _||_, true≢false}
 use mathlib.Core.List.{List, [], _∷_, _++_}
-use borrow.Author.Tests.{eq-eqb}
 use lib.Dec.{eqb}
 use lib.ListN.{getD, set}
 use lib.Seq.{getD-set-same}
+use borrow.Author.Tests.{eq-eqb}
+use native.Mathlib.Omega.{arith}
 use Rattle.words.specs.declared.LaneNo.{LaneNo}
 use Rattle.words.specs.declared.LineNo.{LineNo}
 use Rattle.words.specs.declared.WordNo.{WordNo}
@@ -15,8 +15,9 @@ use Rattle.words.specs.declared.BlockNo.{BlockNo}
 use Rattle.words.specs.declared.Line.{Line}
 use Rattle.words.specs.declared.Op.{Op}
 use Rattle.words.specs.Units.{blockOf}
-use Rattle.words.specs.Lines.{noLine, holdsOf}
+use Rattle.words.specs.Lines.{noLine, holdsOf, invalid}
 use Rattle.words.specs.Folds.{anyTo}
+use Rattle.words.specs.Operations.{isLoad}
 use Rattle.words.proofs.Folds.{by-cond, any-true, any-false, any-never, pick}
 use Rattle.queues.specs.declared.ReturnMessage.{ReturnMessage}
 use Rattle.queues.specs.declared.DownMessage.{DownMessage}
@@ -35,18 +36,19 @@ use Rattle.lanes.specs.declared.Found.the-variants.{At, Nothing}
 use Rattle.lanes.specs.Search.{lineAt, searchOf, vacantOf}
 use Rattle.lanes.specs.UseOrder.{placeAt}
 use Rattle.lanes.specs.Waits.{idleOf, unservedOf}
+use Rattle.lanes.specs.Lanes.{withDowns}
 use Rattle.answers.specs.declared.Refusal.{Refusal}
 use Rattle.answers.specs.declared.Refusal.the-variants.{LaneBusy, NothingPending, QueueFull, Unexpected}
 use Rattle.machine.specs.declared.LaneStep.{LaneStep}
 use Rattle.machine.specs.declared.Ready.{Ready}
 use Rattle.machine.specs.declared.Ready.the-variants.{Go, No}
-use Rattle.machine.specs.Change.{refuseLane, withDowns, posted}
-use Rattle.machine.specs.Begin.{isLoad, complete, waits, hit, readOf, ejectOf, invalid, evict, missWith, miss, beginAt, beginLane}
+use Rattle.machine.specs.Change.{refuseLane, posted}
+use Rattle.machine.specs.Begin.{complete, waits, hit, readOf, ejectOf, evict, missWith, miss, beginAt, beginLane}
 use Rattle.machine.specs.Deliver.{reply, shared, updateAt, purgedOf, purgeAt, fillAt, grantAt, bareAt, servedOn, grantTo, bareTo, deliverKind, orAsBefore, deliverLane}
 use Rattle.machine.specs.Return.{isAnswer}
+use Rattle.machine.specs.Sized.{LaneSized}
 use Rattle.machine.proofs.Tests.{on}
 use Rattle.machine.proofs.Sets.{set-cases}
-use Rattle.machine.specs.Sized.{LaneSized}
 use Rattle.machine.proofs.Queued.{returnsIn, push-returns}
 use Rattle.machine.proofs.Searches.{holds-valid, found-holds, vacant-invalid}
 use Rattle.machine.proofs.SeenBegin.{evicted, idle-waiting, push-room}

@@ -1,21 +1,22 @@
 -- Serve keeps a store live. Assumes nothing.
 use Prim.Native.Nat.{ℕ, _<_, _≤_}
-use native.Mathlib.Omega.{arith}
 use mathlib.Core.Logic.{_≢_}
 use mathlib.Core.Path.{_≡_, refl, sym, ap, _∙_}
 use mathlib.Core.Bool.{Bool}
 use mathlib.Core.List.{List}
-use borrow.Author.Tests.{eqb-true, eqb-false, ltb-false}
 use lib.Dec.{eqb, ltb}
-use Rattle.words.proofs.Folds.{pick}
+use borrow.Author.Tests.{eqb-true, eqb-false, ltb-false}
+use native.Mathlib.Omega.{arith}
 use Rattle.words.specs.declared.LaneNo.{LaneNo}
 use Rattle.words.specs.declared.BlockNo.{BlockNo}
 use Rattle.words.specs.Units.{blockOf}
+use Rattle.words.proofs.Folds.{pick}
 use Rattle.queues.specs.declared.DownMessage.{DownMessage}
 use Rattle.lanes.specs.declared.Lane.{Lane}
 use Rattle.lanes.specs.declared.Operation.{Operation}
 use Rattle.lanes.specs.declared.Waiting.{Waiting}
 use Rattle.lanes.specs.declared.Waiting.the-variants.{Idle, Unserved, Served}
+use Rattle.lanes.specs.Lanes.{withWaiting}
 use Rattle.answers.specs.declared.Answer.the-variants.{Step}
 use Rattle.store.specs.declared.Store.{Store}
 use Rattle.store.specs.declared.Block.{Block}
@@ -24,10 +25,10 @@ use Rattle.store.specs.declared.Control.{Control}
 use Rattle.store.specs.declared.Control.the-variants.{Free, Busy}
 use Rattle.store.specs.declared.Outcome.{Outcome}
 use Rattle.store.specs.Control.{busyOf, serviceOf}
-use Rattle.store.specs.Quiet.{laneAt, blockAt}
+use Rattle.store.specs.Stores.{laneAt, blockAt}
 use Rattle.machine.specs.declared.Ready.{Ready}
 use Rattle.machine.specs.declared.Move.{Move}
-use Rattle.machine.specs.Change.{withWaiting, only, commitMove}
+use Rattle.machine.specs.Change.{only, commitMove}
 use Rattle.machine.specs.Serve.{bareDown, orderOf, ordered, countOf, grantOf, close, readyWith, readyOf, serviceFor, serveMove, serveReady, serveOf}
 use Rattle.machine.proofs.Sound.{sound}
 use Rattle.machine.proofs.Owes.{upd}

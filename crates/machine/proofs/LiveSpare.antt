@@ -1,13 +1,13 @@
 -- The places past the n lanes stay as an opening leaves them: with empty queues. A call on such a lane is refused, and no message
 -- goes to one. Assumes nothing.
 use Prim.Native.Nat.{ℕ, zero, suc, _*_, _<_, _≤_}
-use native.Mathlib.Omega.{arith}
 use mathlib.Core.Path.{_≡_, refl, sym, ap, _∙_}
 use mathlib.Core.Bool.{Bool, true, false}
 use mathlib.Core.List.{List, [], _∷_}
 use lib.Dec.{leb, ltb, eqb}
 use lib.ListN.{getD, set}
 use lib.Seq.{getD-set-other}
+use native.Mathlib.Omega.{arith}
 use Rattle.words.specs.declared.LaneNo.{LaneNo}
 use Rattle.words.specs.declared.BlockNo.{BlockNo}
 use Rattle.words.specs.declared.WordNo.{WordNo}
@@ -22,6 +22,7 @@ use Rattle.lanes.specs.declared.Lane.{Lane}
 use Rattle.lanes.specs.declared.Operation.{Operation}
 use Rattle.lanes.specs.declared.Waiting.{Waiting}
 use Rattle.lanes.specs.declared.Waiting.the-variants.{Idle, Unserved, Served}
+use Rattle.lanes.specs.Lanes.{withReturns}
 use Rattle.answers.specs.Refusals.{refusedOf}
 use Rattle.store.specs.declared.Store.{Store}
 use Rattle.store.specs.declared.Block.{Block}
@@ -34,12 +35,12 @@ use Rattle.store.specs.declared.Lookup.the-variants.{Of, Nothing}
 use Rattle.store.specs.declared.Outcome.{Outcome}
 use Rattle.store.specs.Control.{busyOf, lowered, countedOf, answerOf}
 use Rattle.store.specs.Opening.{badShape, blankLane, freshOf, openOf}
-use Rattle.store.specs.Quiet.{noLane, laneAt, blockAt}
+use Rattle.store.specs.Stores.{noLane, laneAt, blockAt, withLane}
 use Rattle.machine.specs.declared.LaneStep.{LaneStep}
 use Rattle.machine.specs.declared.Ready.{Ready}
 use Rattle.machine.specs.declared.Move.{Move}
 use Rattle.machine.specs.Corruption.{corruptOf}
-use Rattle.machine.specs.Change.{withLane, withReturns, commitLane, nobody, only, goesTo, someFull, postTo, postAll, commitMove}
+use Rattle.machine.specs.Change.{commitLane, nobody, only, goesTo, someFull, postTo, postAll, commitMove}
 use Rattle.machine.specs.Begin.{beginOf}
 use Rattle.machine.specs.Serve.{ordered, countOf, close, readyWith, readyOf, serveMove, serveReady, serveOf}
 use Rattle.machine.specs.Return.{takenBy, isAnswer, answered, returnMove, returnOf}

@@ -1,14 +1,14 @@
 -- A step of settle is not refused where the store is not quiet: there is a message to deliver or to return, or a command to serve, and
 -- the first of these that settle takes goes through. Assumes nothing.
 use Prim.Native.Nat.{ℕ, zero, suc, _<_, _≤_}
-use native.Mathlib.Omega.{arith}
-use native.Mathlib.Nat.{eq-or-lt-of-le}
 use mathlib.Core.Logic.{_⊎_, inl, inr, _≢_}
 use mathlib.Core.Path.{_≡_, refl, ap}
 use mathlib.Core.Bool.{Bool, true, false, cond, not}
 use mathlib.Core.List.{List}
-use borrow.Author.Tests.{ltb-true, ltb-false, eq-eqb}
 use lib.Dec.{ltb}
+use borrow.Author.Tests.{ltb-true, ltb-false, eq-eqb}
+use native.Mathlib.Omega.{arith}
+use native.Mathlib.Nat.{eq-or-lt-of-le}
 use Rattle.words.specs.Units.{blockOf}
 use Rattle.words.specs.Folds.{lowestTo}
 use Rattle.words.proofs.Folds.{below?, any-never, pick}
@@ -21,7 +21,8 @@ use Rattle.store.specs.declared.Store.{Store}
 use Rattle.store.specs.declared.Outcome.{Outcome}
 use Rattle.store.specs.declared.Control.{Control}
 use Rattle.store.specs.declared.Control.the-variants.{Free, Busy}
-use Rattle.store.specs.Quiet.{laneAt, activeOf, quietOf}
+use Rattle.store.specs.Stores.{laneAt}
+use Rattle.store.specs.Quiet.{activeOf, quietOf}
 use Rattle.machine.specs.Settle.{lane, settleStep}
 use Rattle.machine.proofs.KeepsLane.{clash}
 use Rattle.machine.proofs.Sound.{sound}

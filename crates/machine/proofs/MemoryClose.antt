@@ -1,14 +1,15 @@
 -- Memory closes a service that awaits no answer: the grant is sent, and the invariant of its block is kept. Assumes nothing.
 use Prim.Native.Nat.{ℕ, _<_}
-use native.Mathlib.Omega.{arith}
 use mathlib.Core.Logic.{_⊎_, inl, inr, _≢_}
 use mathlib.Core.Path.{_≡_, refl, sym, ap, _∙_, fun-ext}
 use mathlib.Core.Bool.{Bool, true, false, cond}
 use mathlib.Core.List.{List, []}
-use borrow.Author.Tests.{eq-eqb, ne-eqb}
 use lib.Seq.{getD-set-same, getD-set-other}
-use Rattle.words.proofs.Folds.{pick}
+use borrow.Author.Tests.{eq-eqb, ne-eqb}
+use native.Mathlib.Omega.{arith}
 use Rattle.words.specs.declared.LaneNo.{LaneNo}
+use Rattle.words.specs.Operations.{isLoad}
+use Rattle.words.proofs.Folds.{pick}
 use Rattle.queues.specs.declared.DownMessage.{DownMessage}
 use Rattle.queues.specs.declared.DownKind.the-variants.{Grant, BareGrant}
 use Rattle.lanes.specs.declared.Command.{Command}
@@ -18,7 +19,6 @@ use Rattle.lanes.specs.declared.Waiting.the-variants.{Served}
 use Rattle.store.specs.declared.Block.{Block}
 use Rattle.store.specs.declared.Service.{Service}
 use Rattle.store.specs.declared.Lookup.the-variants.{Of, Nothing}
-use Rattle.machine.specs.Begin.{isLoad}
 use Rattle.machine.specs.Change.{nobody, only}
 use Rattle.machine.specs.Serve.{closedBlock, grantOf}
 use Rattle.machine.specs.Settle.{isOrder}

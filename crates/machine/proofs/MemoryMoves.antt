@@ -1,12 +1,12 @@
 -- What memory's moves on a block share: the conjuncts of one lane together, a move that puts another view of one lane, another lane,
 -- block and service, and lanes that owe nothing. Assumes nothing.
 use Prim.Native.Nat.{ℕ, _+_, _<_, _≤_}
-use native.Mathlib.Omega.{arith}
 use mathlib.Core.Logic.{_⊎_, inl, inr, _≢_}
 use mathlib.Core.Path.{_≡_, refl, sym, ap, _∙_}
 use mathlib.Core.Bool.{true, false, cond}
 use mathlib.Core.List.{List, [], _∷_, _++_}
 use borrow.Author.Tests.{eq-eqb, ne-eqb}
+use native.Mathlib.Omega.{arith}
 use Rattle.words.specs.Folds.{sumTo}
 use Rattle.words.proofs.Folds.{below?}
 use Rattle.queues.specs.declared.DownMessage.{DownMessage}

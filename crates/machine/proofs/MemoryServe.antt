@@ -1,14 +1,15 @@
 -- Memory serves an operation: the orders are sent, the service is open, and the invariant of its block is kept. Assumes nothing.
 use Prim.Native.Nat.{ℕ, _+_, _<_}
-use native.Mathlib.Omega.{arith}
 use mathlib.Core.Logic.{_⊎_, inl, inr, _≢_}
 use mathlib.Core.Path.{_≡_, refl, sym, ap, _∙_}
 use mathlib.Core.Bool.{Bool, true, false, cond, _||_}
 use mathlib.Core.List.{List, [], _∷_, _++_}
 use borrow.Author.Tests.{eq-eqb, ne-eqb}
+use native.Mathlib.Omega.{arith}
 use Rattle.words.specs.declared.LaneNo.{LaneNo}
 use Rattle.words.specs.Units.{blockOf}
 use Rattle.words.specs.Folds.{sumTo}
+use Rattle.words.specs.Operations.{isLoad}
 use Rattle.words.proofs.Folds.{or-left, or-right, pick}
 use Rattle.queues.specs.declared.ReturnMessage.{ReturnMessage}
 use Rattle.queues.specs.declared.ReturnKind.{ReturnKind}
@@ -24,7 +25,6 @@ use Rattle.lanes.specs.declared.Waiting.the-variants.{Unserved, Served}
 use Rattle.store.specs.declared.Service.{Service}
 use Rattle.store.specs.declared.Lookup.{Lookup}
 use Rattle.store.specs.declared.Lookup.the-variants.{Of, Nothing}
-use Rattle.machine.specs.Begin.{isLoad}
 use Rattle.machine.specs.Change.{goesTo}
 use Rattle.machine.specs.Serve.{bareDown, orderOf, ordered, countOf, serviceFor}
 use Rattle.machine.specs.Return.{isAnswer}

@@ -7,6 +7,7 @@ use Rattle.words.specs.declared.BlockNo.{BlockNo}
 use Rattle.words.specs.declared.WordNo.{WordNo}
 use Rattle.words.specs.declared.Op.{Op}
 use Rattle.words.specs.Units.{blockOf}
+use Rattle.words.specs.Operations.{isLoad}
 use Rattle.queues.specs.declared.ReturnMessage.{ReturnMessage}
 use Rattle.queues.specs.declared.ReturnKind.the-variants.{Eject, WriteEject, Updated, Purged, PurgedWords, Gone}
 use Rattle.queues.specs.declared.DownMessage.{DownMessage}
@@ -17,7 +18,7 @@ use Rattle.store.specs.declared.Service.{Service}
 use Rattle.store.specs.declared.Lookup.{Lookup}
 use Rattle.store.specs.declared.Lookup.the-variants.{Of, Nothing}
 use Rattle.machine.specs.Change.{only, goesTo}
-use Rattle.machine.specs.Begin.{isLoad, bareReturn, wordsReturn}
+use Rattle.machine.specs.Begin.{bareReturn, wordsReturn}
 use Rattle.machine.specs.Serve.{bareDown, orderOf, ordered, countOf, closedBlock, grantOf, serviceFor}
 use Rattle.machine.specs.Return.{takenBy}
 use Rattle.machine.proofs.Owes.{upd}

@@ -1,17 +1,17 @@
 -- A use of a line keeps a use order one: each turn changes two places over. Assumes nothing.
 use Prim.Native.Nat.{ℕ, zero, suc, _+_, _-_, _<_, _≤_}
-use native.Mathlib.Omega.{arith}
 use mathlib.Core.Logic.{_⊎_, inl, inr, _≢_}
 use mathlib.Core.Path.{_≡_, refl, ap, sym, _∙_}
 use mathlib.Core.Bool.{cond}
 use mathlib.Core.List.{List}
-use borrow.Author.Tests.{eq-eqb, ne-eqb}
 use lib.Dec.{eqb}
 use lib.ListN.{length, set, length-set}
 use lib.Seq.{getD-set-same, getD-set-other}
-use Rattle.words.proofs.Folds.{pick}
+use borrow.Author.Tests.{eq-eqb, ne-eqb}
+use native.Mathlib.Omega.{arith}
 use Rattle.words.specs.declared.LineNo.{LineNo}
 use Rattle.words.specs.Folds.{upTo}
+use Rattle.words.proofs.Folds.{pick}
 use Rattle.lanes.specs.UseOrder.{placeAt, carryOf, usedOf}
 use Rattle.machine.proofs.Sets.{same?}
 use Rattle.machine.proofs.Sound.{Ordered}

@@ -1,17 +1,17 @@
 -- What a lane is after a message was sent to some lanes: lane j alone tells. Assumes nothing.
 use Prim.Native.Nat.{ℕ, zero, suc, _<_, _≤_}
-use native.Mathlib.Omega.{arith}
 use mathlib.Core.Logic.{_⊎_, inl, inr, _≢_}
 use mathlib.Core.Path.{_≡_, refl, _∙_}
 use mathlib.Core.Bool.{Bool, true, false, cond}
 use mathlib.Core.List.{List}
 use lib.ListN.{length, getD, set, length-set}
 use lib.Seq.{getD-set-same, getD-set-other}
+use native.Mathlib.Omega.{arith}
 use Rattle.words.specs.Folds.{upTo}
 use Rattle.words.proofs.Folds.{by-cond}
 use Rattle.queues.specs.declared.DownMessage.{DownMessage}
 use Rattle.lanes.specs.declared.Lane.{Lane}
-use Rattle.store.specs.Quiet.{noLane}
+use Rattle.store.specs.Stores.{noLane}
 use Rattle.machine.specs.Change.{goesTo, posted, postTo, postAll}
 use Rattle.machine.proofs.Sets.{same?}
 

@@ -1,15 +1,15 @@
 -- A store after a lane, or a lane with a block, the control and a message to some lanes, was put back, as each block sees it.
 -- Assumes nothing.
 use Prim.Native.Nat.{ℕ, _+_, _<_, _≤_}
-use native.Mathlib.Omega.{arith}
 use mathlib.Core.Logic.{_⊎_, inl, inr, _≢_}
 use mathlib.Core.Path.{_≡_, refl, sym, ap, _∙_, fun-ext}
 use mathlib.Core.Bool.{Bool, true, false, cond, _&&_}
 use mathlib.Core.List.{List, [], _∷_, _++_}
-use borrow.Author.Tests.{eq-eqb, ne-eqb, leb-false, lt-leb}
 use lib.Dec.{eqb}
 use lib.ListN.{length, getD, set, length-set, List·getD-eq-default}
 use lib.Seq.{getD-set-same, getD-set-other}
+use borrow.Author.Tests.{eq-eqb, ne-eqb, leb-false, lt-leb}
+use native.Mathlib.Omega.{arith}
 use Rattle.words.specs.declared.LaneNo.{LaneNo}
 use Rattle.words.specs.declared.BlockNo.{BlockNo}
 use Rattle.words.proofs.Folds.{below?, any-false, by-cond}
@@ -19,15 +19,15 @@ use Rattle.lanes.specs.declared.Lane.{Lane}
 use Rattle.store.specs.declared.Store.{Store}
 use Rattle.store.specs.declared.Block.{Block}
 use Rattle.store.specs.Control.{serviceOf}
-use Rattle.store.specs.Quiet.{noLane, noBlock, laneAt, blockAt}
+use Rattle.store.specs.Stores.{noLane, noBlock, laneAt, blockAt, withLane}
 use Rattle.machine.specs.declared.Move.{Move}
-use Rattle.machine.specs.Change.{withLane, goesTo, someFull, posted, postAll}
+use Rattle.machine.specs.Change.{goesTo, someFull, posted, postAll}
+use Rattle.machine.specs.Sized.{LaneSized, Sized}
 use Rattle.machine.proofs.Tests.{on, and-right}
 use Rattle.machine.proofs.Sets.{same?}
 use Rattle.machine.proofs.KeepsLane.{clash}
 use Rattle.machine.proofs.Owes.{upd}
 use Rattle.machine.proofs.Updates.{upd-self}
-use Rattle.machine.specs.Sized.{LaneSized, Sized}
 use Rattle.machine.proofs.BlockState.{Seen, BlockState, downAbout, seen, blockNo, project}
 use Rattle.machine.proofs.Moves.{putLane, postSeen, sendAll}
 use Rattle.machine.proofs.Posts.{post-all-at, post-all-length}

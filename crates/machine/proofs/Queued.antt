@@ -1,13 +1,13 @@
 -- A queue as the list of its messages: what joins it stands last, and what leaves it stood first. Assumes nothing.
 use Prim.Native.Nat.{ℕ, zero, suc, _+_, _-_, _<_, _≤_}
-use native.Mathlib.Omega.{arith}
-use native.Mathlib.Numerals.{add-one}
 use mathlib.Core.Logic.{_≢_}
 use mathlib.Core.Path.{_≡_, refl, ap}
 use mathlib.Core.Bool.{Bool, true, false, cond}
 use mathlib.Core.List.{List, [], _∷_, _++_}
-use borrow.Author.Tests.{lt-leb, ne-eqb}
 use lib.ListN.{length, getD, set, take}
+use borrow.Author.Tests.{lt-leb, ne-eqb}
+use native.Mathlib.Omega.{arith}
+use native.Mathlib.Numerals.{add-one}
 use Rattle.queues.specs.declared.ReturnMessage.{ReturnMessage}
 use Rattle.queues.specs.declared.ReturnQueue.{ReturnQueue}
 use Rattle.queues.specs.declared.DownMessage.{DownMessage}

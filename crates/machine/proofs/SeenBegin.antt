@@ -1,13 +1,13 @@
 -- What the lane's part of begin does to the lane, as each block sees it. Assumes nothing.
 use Prim.Native.Nat.{ℕ, _<_, _≤_}
-use native.Mathlib.Omega.{arith}
 use mathlib.Core.Logic.{_≢_}
 use mathlib.Core.Path.{_≡_, refl, ap, sym, _∙_}
 use mathlib.Core.Bool.{Bool, true, false, cond, _||_}
 use mathlib.Core.List.{[], _∷_, _++_}
-use borrow.Author.Tests.{leb-false, eq-eqb, ne-eqb}
 use lib.Dec.{leb}
 use lib.ListN.{length, set}
+use borrow.Author.Tests.{leb-false, eq-eqb, ne-eqb}
+use native.Mathlib.Omega.{arith}
 use Rattle.words.specs.declared.LaneNo.{LaneNo}
 use Rattle.words.specs.declared.LineNo.{LineNo}
 use Rattle.words.specs.declared.WordNo.{WordNo}
@@ -15,8 +15,8 @@ use Rattle.words.specs.declared.BlockNo.{BlockNo}
 use Rattle.words.specs.declared.Line.{Line}
 use Rattle.words.specs.declared.Op.{Op}
 use Rattle.words.specs.Units.{blockOf}
-use Rattle.words.specs.Lines.{holdsOf}
-use Rattle.words.specs.Operations.{performOf}
+use Rattle.words.specs.Lines.{holdsOf, invalid}
+use Rattle.words.specs.Operations.{performOf, isLoad}
 use Rattle.words.proofs.Folds.{or-left, or-right, pick}
 use Rattle.queues.specs.declared.ReturnMessage.{ReturnMessage}
 use Rattle.queues.specs.declared.ReturnQueue.{ReturnQueue}
@@ -32,17 +32,18 @@ use Rattle.lanes.specs.declared.Found.the-variants.{At, Nothing}
 use Rattle.lanes.specs.Search.{lineAt, searchOf, vacantOf}
 use Rattle.lanes.specs.UseOrder.{placeAt}
 use Rattle.lanes.specs.Waits.{idleOf}
+use Rattle.lanes.specs.Lanes.{withWaiting}
 use Rattle.answers.specs.declared.Answer.the-variants.{Done, Wait, Refused}
 use Rattle.answers.specs.declared.Refusal.{Refusal}
 use Rattle.answers.specs.declared.Refusal.the-variants.{QueueFull}
 use Rattle.answers.specs.Completions.{completionOf}
 use Rattle.machine.specs.declared.LaneStep.{LaneStep}
-use Rattle.machine.specs.Change.{refuseLane, withWaiting}
-use Rattle.machine.specs.Begin.{isLoad, complete, waits, hit, readOf, ejectOf, invalid, evict, missWith, miss, beginAt, beginLane}
+use Rattle.machine.specs.Change.{refuseLane}
+use Rattle.machine.specs.Begin.{complete, waits, hit, readOf, ejectOf, evict, missWith, miss, beginAt, beginLane}
+use Rattle.machine.specs.Sized.{LaneSized}
 use Rattle.machine.proofs.Tests.{on}
 use Rattle.machine.proofs.KeepsLane.{clash}
 use Rattle.machine.proofs.KeepsBegin.{all-valid}
-use Rattle.machine.specs.Sized.{LaneSized}
 use Rattle.machine.proofs.BlockState.{Status, Invalid, Shared, Modified, held, dirty, Seen, keepIf, returnAbout, downAbout, waitingOn, seen, valueDone}
 use Rattle.machine.proofs.Moves.{hitSeen, waitSeen, evictSeen, ejection}
 use Rattle.machine.proofs.Queued.{returnsIn, downsIn, push-returns, keep-join}

@@ -1,20 +1,21 @@
 -- What the lane's part of deliver does to the lane, as each block sees it. Assumes nothing.
 use Prim.Native.Nat.{ℕ, _<_, _≤_}
-use native.Mathlib.Omega.{arith}
 use mathlib.Core.Logic.{_≢_}
 use mathlib.Core.Path.{_≡_, refl, ap, sym, _∙_}
 use mathlib.Core.Bool.{Bool, true, false, not, cond}
 use mathlib.Core.List.{List, [], _∷_}
-use borrow.Author.Tests.{eqb-true, eqb-false, eq-eqb, ne-eqb}
 use lib.Dec.{eqb}
 use lib.ListN.{length, set}
-use Rattle.words.proofs.Folds.{pick}
+use borrow.Author.Tests.{eqb-true, eqb-false, eq-eqb, ne-eqb}
+use native.Mathlib.Omega.{arith}
 use Rattle.words.specs.declared.LaneNo.{LaneNo}
 use Rattle.words.specs.declared.LineNo.{LineNo}
 use Rattle.words.specs.declared.BlockNo.{BlockNo}
 use Rattle.words.specs.declared.Line.{Line}
 use Rattle.words.specs.Units.{blockOf}
-use Rattle.words.specs.Lines.{holdsOf}
+use Rattle.words.specs.Lines.{holdsOf, invalid}
+use Rattle.words.specs.Operations.{isLoad}
+use Rattle.words.proofs.Folds.{pick}
 use Rattle.queues.specs.declared.ReturnMessage.{ReturnMessage}
 use Rattle.queues.specs.declared.ReturnKind.the-variants.{Updated, PurgedWords, Gone}
 use Rattle.queues.specs.declared.DownMessage.{DownMessage}
@@ -29,6 +30,7 @@ use Rattle.lanes.specs.declared.Waiting.the-variants.{Idle, Unserved, Served}
 use Rattle.lanes.specs.declared.Found.{Found}
 use Rattle.lanes.specs.declared.Found.the-variants.{At, Nothing}
 use Rattle.lanes.specs.Search.{lineAt, searchOf, vacantOf}
+use Rattle.lanes.specs.Lanes.{withDowns}
 use Rattle.answers.specs.declared.Answer.the-variants.{Done, Step}
 use Rattle.answers.specs.declared.Refusal.{Refusal}
 use Rattle.answers.specs.declared.Refusal.the-variants.{NothingPending, QueueFull, Unexpected}
@@ -36,12 +38,12 @@ use Rattle.answers.specs.Completions.{completionOf}
 use Rattle.machine.specs.declared.LaneStep.{LaneStep}
 use Rattle.machine.specs.declared.Ready.{Ready}
 use Rattle.machine.specs.declared.Ready.the-variants.{Go, No}
-use Rattle.machine.specs.Change.{refuseLane, withDowns}
-use Rattle.machine.specs.Begin.{isLoad, complete, invalid, bareReturn, wordsReturn}
+use Rattle.machine.specs.Change.{refuseLane}
+use Rattle.machine.specs.Begin.{complete, bareReturn, wordsReturn}
 use Rattle.machine.specs.Deliver.{reply, shared, updateAt, purgedOf, purgeAt, claimed, fillAt, grantAt, bareAt, servedOn, grantTo, bareTo, deliverKind, orAsBefore, deliverLane}
+use Rattle.machine.specs.Sized.{LaneSized}
 use Rattle.machine.proofs.Tests.{on}
 use Rattle.machine.proofs.KeepsLane.{clash}
-use Rattle.machine.specs.Sized.{LaneSized}
 use Rattle.machine.proofs.BlockState.{Status, Invalid, Shared, Modified, held, Seen, keepIf, returnAbout, downAbout, statusAt, wordsAt, waitingOn, seen, wordsDone, valueDone}
 use Rattle.machine.proofs.Moves.{answerSeen, updateSeen, purgeSeen, grantSeen}
 use Rattle.machine.proofs.Queued.{returnsIn, downsIn, take-downs, keep-head, keep-tail}

@@ -1,11 +1,11 @@
 -- An opening gives the arrays their declared lengths, and every step keeps them, whatever its answer. Assumes nothing.
 use Prim.Native.Nat.{ℕ, zero, suc, _*_, _<_, _≤_}
-use native.Mathlib.Omega.{arith}
 use mathlib.Core.Path.{_≡_, refl, _∙_}
 use mathlib.Core.Bool.{Bool, true, false, _||_}
 use mathlib.Core.List.{List}
 use lib.Dec.{leb, ltb, eqb}
 use lib.ListN.{length, getD, set, length-set, length-replicate, getD-replicate}
+use native.Mathlib.Omega.{arith}
 use Rattle.words.specs.declared.LaneNo.{LaneNo}
 use Rattle.words.specs.declared.LineNo.{LineNo}
 use Rattle.words.specs.declared.BlockNo.{BlockNo}
@@ -13,8 +13,9 @@ use Rattle.words.specs.declared.WordNo.{WordNo}
 use Rattle.words.specs.declared.Line.{Line}
 use Rattle.words.specs.declared.Op.{Op}
 use Rattle.words.specs.Units.{blockOf}
-use Rattle.words.specs.Operations.{performOf}
+use Rattle.words.specs.Operations.{performOf, isLoad}
 use Rattle.words.specs.Folds.{upTo}
+use Rattle.words.specs.Lines.{invalid}
 use Rattle.words.proofs.Folds.{by-cond}
 use Rattle.queues.specs.declared.ReturnMessage.{ReturnMessage}
 use Rattle.queues.specs.declared.ReturnKind.{ReturnKind}
@@ -40,8 +41,9 @@ use Rattle.lanes.specs.declared.Found.the-variants.{At, Nothing}
 use Rattle.lanes.specs.Search.{lineAt, searchOf, vacantOf}
 use Rattle.lanes.specs.UseOrder.{placeAt}
 use Rattle.lanes.specs.Waits.{idleOf}
-use Rattle.answers.specs.Refusals.{refusedOf}
+use Rattle.lanes.specs.Lanes.{withWaiting, withReturns, withDowns, withLine}
 use Rattle.answers.specs.declared.Refusal.the-variants.{NothingPending, LaneBusy}
+use Rattle.answers.specs.Refusals.{refusedOf}
 use Rattle.store.specs.declared.Store.{Store}
 use Rattle.store.specs.declared.Block.{Block}
 use Rattle.store.specs.declared.Control.{Control}
@@ -50,22 +52,22 @@ use Rattle.store.specs.declared.Counted.the-variants.{Awaits, Closes, NotAwaite
 use Rattle.store.specs.declared.Outcome.{Outcome}
 use Rattle.store.specs.Control.{answerOf}
 use Rattle.store.specs.Opening.{blankLane, blankBlock, freshOf}
-use Rattle.store.specs.Quiet.{noLane, noBlock, laneAt, blockAt}
+use Rattle.store.specs.Stores.{noLane, noBlock, laneAt, blockAt, withLane}
 use Rattle.machine.specs.declared.LaneStep.{LaneStep}
 use Rattle.machine.specs.declared.Ready.{Ready}
 use Rattle.machine.specs.declared.Ready.the-variants.{Go, No}
 use Rattle.machine.specs.declared.Move.{Move}
-use Rattle.machine.specs.Change.{refuseLane, withWaiting, withReturns, withDowns, withLane, commitLane, nobody, only, goesTo, someFull, posted, postTo, postAll, commitMove}
-use Rattle.machine.specs.Begin.{isLoad, complete, waits, hit, ejectOf, invalid, evict, missWith, miss, beginAt, beginLane, beginOf}
+use Rattle.machine.specs.Change.{refuseLane, commitLane, nobody, only, goesTo, someFull, posted, postTo, postAll, commitMove}
+use Rattle.machine.specs.Begin.{complete, waits, hit, ejectOf, evict, missWith, miss, beginAt, beginLane, beginOf}
 use Rattle.machine.specs.Serve.{ordered, countOf, closedBlock, close, readyOf, serveMove, serveReady, serveOf}
 use Rattle.machine.specs.Return.{takenBy, isAnswer, answered, returnMove, returnOf}
-use Rattle.machine.specs.Deliver.{reply, withLine, shared, updateAt, purgeAt, fillAt, grantAt, bareAt, servedOn, grantTo, bareTo, deliverKind, deliverLane, deliverOf}
+use Rattle.machine.specs.Deliver.{reply, shared, updateAt, purgeAt, fillAt, grantAt, bareAt, servedOn, grantTo, bareTo, deliverKind, deliverLane, deliverOf}
 use Rattle.machine.specs.Settle.{settleStep}
+use Rattle.machine.specs.Sized.{LaneSized, Sized}
 use Rattle.machine.proofs.Sets.{set-cases}
 use Rattle.machine.proofs.Orders.{used-length}
 use Rattle.machine.proofs.KeepsStore.{guarded-keeps}
 use Rattle.machine.proofs.Keeps.{Whole}
-use Rattle.machine.specs.Sized.{LaneSized, Sized}
 
 -- a message joins a queue, or the head leaves it: its places stay 2
 push-return-sized : (q : ReturnQueue) (x : ReturnMessage) → length (q .at) ≡ 2 → length (pushReturn q x .queue .at) ≡ 2

@@ -1,14 +1,14 @@
 -- What holds of a store that is not corrupt, with names: the bounds that a step needs. And back: a store that has all of it is not
 -- corrupt. Assumes nothing.
 use Prim.Native.Nat.{ℕ, zero, suc, _≤_, _<_}
-use native.Mathlib.Omega.{arith}
 use mathlib.Core.Logic.{_⊎_, inl, inr}
 use mathlib.Core.Path.{_≡_, refl, sym, _∙_, ap}
 use mathlib.Core.Bool.{Bool, true, false, _||_, _&&_}
 use mathlib.Core.List.{List}
-use borrow.Author.Tests.{ltb-false, leb-false, leb-true, ltb-true, eqb-false, lt-ltb, le-ltb, lt-leb, le-leb, ne-eqb}
 use lib.Dec.{leb, ltb, eqb}
 use lib.ListN.{getD}
+use borrow.Author.Tests.{ltb-false, leb-false, leb-true, ltb-true, eqb-false, lt-ltb, le-ltb, lt-leb, le-leb, ne-eqb}
+use native.Mathlib.Omega.{arith}
 use Rattle.words.specs.declared.LineNo.{LineNo}
 use Rattle.words.specs.Lines.{noLine}
 use Rattle.words.specs.Units.{blockOf}
@@ -25,7 +25,7 @@ use Rattle.store.specs.declared.Block.{Block}
 use Rattle.store.specs.declared.Service.{Service}
 use Rattle.store.specs.declared.Control.{Control}
 use Rattle.store.specs.declared.Control.the-variants.{Free, Busy}
-use Rattle.store.specs.Quiet.{laneAt, blockAt}
+use Rattle.store.specs.Stores.{laneAt, blockAt}
 use Rattle.machine.specs.Corruption.{badLine, badLane, badWaiting, badUse, badOrder, badFlag, badFlags, badControl, corruptOf}
 use Rattle.machine.proofs.Tests.{and-right, and-never, or-never, none-of}
 use Rattle.machine.proofs.Shape.{shape-bounds, bounds-shape}

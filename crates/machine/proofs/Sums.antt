@@ -1,10 +1,10 @@
 -- Sums over the numbers below n, and counts as sums. Assumes nothing.
 use Prim.Native.Nat.{ℕ, zero, suc, _+_, _*_, _<_, _≤_}
-use native.Mathlib.Omega.{arith}
-use native.Mathlib.Nat.{le-refl, add-zero, mul-add, mul-zero, mul-one, mul-suc}
 use mathlib.Core.Logic.{_⊎_, inl, inr, _≢_}
 use mathlib.Core.Path.{_≡_, refl, sym, ap, _∙_}
 use mathlib.Core.Bool.{Bool, true, false, cond}
+use native.Mathlib.Omega.{arith}
+use native.Mathlib.Nat.{le-refl, add-zero, mul-add, mul-zero, mul-one, mul-suc}
 use Rattle.words.specs.Folds.{countTo, sumTo}
 use Rattle.words.proofs.Folds.{count-none}
 use Rattle.machine.proofs.Sets.{same?}

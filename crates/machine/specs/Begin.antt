@@ -12,7 +12,8 @@ use Rattle.words.specs.declared.Line.{Line}
 use Rattle.words.specs.declared.Op.{Op}
 use Rattle.words.specs.declared.Op.the-variants as Op
 use Rattle.words.specs.Units.{blockOf}
-use Rattle.words.specs.Operations.{performOf}
+use Rattle.words.specs.Operations.{performOf, isLoad}
+use Rattle.words.specs.Lines.{invalid}
 use Rattle.queues.specs.declared.ReturnMessage.{ReturnMessage}
 use Rattle.queues.specs.declared.ReturnKind.{ReturnKind}
 use Rattle.queues.specs.declared.ReturnKind.the-variants.{Eject, WriteEject}
@@ -26,22 +27,16 @@ use Rattle.lanes.specs.declared.Found.the-variants.{At, Nothing}
 use Rattle.lanes.specs.Search.{lineAt, searchOf, vacantOf}
 use Rattle.lanes.specs.UseOrder.{placeAt, usedOf}
 use Rattle.lanes.specs.Waits.{idleOf}
+use Rattle.lanes.specs.Lanes.{withWaiting, withOrder, withLine, withReturns}
 use Rattle.answers.specs.declared.Answer.the-variants.{Done, Wait}
 use Rattle.answers.specs.declared.Refusal.the-variants.{NoSuchWord, LaneBusy, QueueFull}
 use Rattle.answers.specs.Completions.{completionOf}
 use Rattle.store.specs.declared.Store.{Store}
 use Rattle.store.specs.declared.Outcome.{Outcome}
 use Rattle.store.specs.Opening.{zeros}
-use Rattle.store.specs.Quiet.{laneAt}
+use Rattle.store.specs.Stores.{laneAt}
 use Rattle.machine.specs.declared.LaneStep.{LaneStep}
-use Rattle.machine.specs.Change.{refuse, refuseLane, guarded, commitLane, withWaiting}
-
--- the operation is load
-abbrev pub isLoad : Op → Bool
-isLoad Op.Load = true
-isLoad (Op.Store v) = false
-isLoad (Op.Exchange v) = false
-isLoad (Op.Add v) = false
+use Rattle.machine.specs.Change.{refuse, refuseLane, guarded, commitLane}
 
 -- Completing does the operation on that word of the line (line i, here with the contents x), gives the value so got, and is a use of the line; an operation that completes waits no more
 unfoldable pub complete : ℕ → LaneNo → LineNo → Line → Op → WordNo → Lane → LaneStep
@@ -49,7 +44,7 @@ complete c k i x op w l =
     let p = performOf x op w in
     record {
       answer = Done (completionOf k (p .value));
-      lane = record { lines = set (l .lines) (i .0) (p .line); order = usedOf c i (l .order); returns = l .returns; downs = l .downs; waiting = Idle };
+      lane = withWaiting Idle (withOrder (usedOf c i (l .order)) (withLine i (p .line) l));
     }
 
 -- the lane waits with a command
@@ -75,16 +70,12 @@ wordsReturn x a ws = record { kind = x; block = a; words = ws }
 abbrev pub ejectOf : Line → ReturnMessage
 ejectOf x = cond (x .private) (wordsReturn WriteEject (x .block) (x .words)) (bareReturn Eject (x .block))
 
--- VALID is reset; PRIVATE, block and words stay
-abbrev pub invalid : Line → Line
-invalid x = record { valid = false; private = x .private; block = x .block; words = x .words }
-
 -- eviction: line i is given up and the lane waits, unless its return queue is full
 unfoldable pub evict : LineNo → Op → WordNo → Lane → LaneStep
 evict i op w l =
     let p = pushReturn (l .returns) (ejectOf (lineAt l i)) in
     cond (p .full) (refuseLane QueueFull l)
-    (waits (readOf op) op w (record { lines = set (l .lines) (i .0) (invalid (lineAt l i)); order = l .order; returns = p .queue; downs = l .downs; waiting = l .waiting }))
+    (waits (readOf op) op w (withReturns (p .queue) (withLine i (invalid (lineAt l i)) l)))
 
 -- On a miss with all lines valid, the oldest line is given up
 abbrev pub missWith : Found → Op → WordNo → Lane → LaneStep

@@ -8,13 +8,11 @@ use lib.ListN.{getD, set, replicate}
 use Rattle.words.specs.declared.LaneNo.{LaneNo}
 use Rattle.words.specs.declared.BlockNo.{BlockNo}
 use Rattle.words.specs.Folds.{upTo, anyTo}
-use Rattle.queues.specs.declared.ReturnQueue.{ReturnQueue}
 use Rattle.queues.specs.declared.DownMessage.{DownMessage}
 use Rattle.queues.specs.declared.DownKind.the-variants.{Update}
-use Rattle.queues.specs.declared.DownQueue.{DownQueue}
 use Rattle.queues.specs.Queues.{fullAt, pushDown}
 use Rattle.lanes.specs.declared.Lane.{Lane}
-use Rattle.lanes.specs.declared.Waiting.{Waiting}
+use Rattle.lanes.specs.Lanes.{withDowns}
 use Rattle.answers.specs.declared.Answer.the-variants.{Refused}
 use Rattle.answers.specs.declared.Refusal.{Refusal}
 use Rattle.answers.specs.declared.Refusal.the-variants.{NoSuchLane, QueueFull, Corrupt}
@@ -24,7 +22,7 @@ use Rattle.store.specs.declared.Block.{Block}
 use Rattle.store.specs.declared.Control.{Control}
 use Rattle.store.specs.declared.Outcome.{Outcome}
 use Rattle.store.specs.Opening.{zeros}
-use Rattle.store.specs.Quiet.{noLane}
+use Rattle.store.specs.Stores.{noLane, withControl, withLanes, withLane, withBlock}
 use Rattle.machine.specs.declared.LaneStep.{LaneStep}
 use Rattle.machine.specs.declared.Move.{Move}
 use Rattle.machine.specs.Corruption.{corruptOf}
@@ -36,20 +34,6 @@ refuse r s = record { answer = Refused r; store = s }
 -- 14, then 6: the first checks of every call on a lane
 abbrev pub guarded : Store → LaneNo → Outcome → Outcome
 guarded s k r = cond (corruptOf s) (refuse Corrupt s) (cond (leb (s .n) (k .0)) (refuse NoSuchLane s) r)
-
--- a lane with another waiting operation, return queue, down queue
-abbrev pub withWaiting : Waiting → Lane → Lane
-withWaiting w l = record { lines = l .lines; order = l .order; returns = l .returns; downs = l .downs; waiting = w }
-
-abbrev pub withReturns : ReturnQueue → Lane → Lane
-withReturns q l = record { lines = l .lines; order = l .order; returns = q; downs = l .downs; waiting = l .waiting }
-
-abbrev pub withDowns : DownQueue → Lane → Lane
-withDowns q l = record { lines = l .lines; order = l .order; returns = l .returns; downs = q; waiting = l .waiting }
-
--- a store with another lane k
-abbrev pub withLane : Store → ℕ → Lane → Store
-withLane s k l = record { n = s .n; c = s .c; m = s .m; control = s .control; lanes = set (s .lanes) k l; blocks = s .blocks }
 
 -- a refusal of a lane's part
 abbrev pub refuseLane : Refusal → Lane → LaneStep
@@ -95,12 +79,12 @@ abbrev pub refuseMove : Refusal → Lane → Block → Control → Move
 refuseMove r l b x = record { answer = Refused r; lane = l; block = b; control = x; to = nobody; message = noMessage }
 
 -- lane k, block a, the control and the queues of those that a message goes to, after memory's part of a call
+abbrev pub moved : Store → LaneNo → BlockNo → Move → Store
+moved s k a v =
+    withBlock (withLanes (withControl s (v .control)) (postAll (v .to) (v .message) (set (s .lanes) (k .0) (v .lane)))) (a .0) (v .block)
+
 unfoldable pub commitMove : Store → LaneNo → BlockNo → Move → Outcome
 commitMove s k a v =
     let ls = set (s .lanes) (k .0) (v .lane) in
     cond (refusedOf (v .answer)) (record { answer = v .answer; store = s })
-    (cond (someFull (v .to) ls) (refuse QueueFull s)
-    (record {
-      answer = v .answer;
-      store = record { n = s .n; c = s .c; m = s .m; control = v .control; lanes = postAll (v .to) (v .message) ls; blocks = set (s .blocks) (a .0) (v .block) };
-    }))
+    (cond (someFull (v .to) ls) (refuse QueueFull s) (record { answer = v .answer; store = moved s k a v }))

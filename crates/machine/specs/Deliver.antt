@@ -9,6 +9,8 @@ use Rattle.words.specs.declared.BlockNo.{BlockNo}
 use Rattle.words.specs.declared.Line.{Line}
 use Rattle.words.specs.declared.Op.{Op}
 use Rattle.words.specs.Units.{blockOf}
+use Rattle.words.specs.Operations.{isLoad}
+use Rattle.words.specs.Lines.{invalid, withPrivate, filledLine}
 use Rattle.queues.specs.declared.ReturnMessage.{ReturnMessage}
 use Rattle.queues.specs.declared.ReturnKind.the-variants.{Updated, Purged, PurgedWords, Gone}
 use Rattle.queues.specs.declared.DownMessage.{DownMessage}
@@ -22,17 +24,18 @@ use Rattle.lanes.specs.declared.Waiting.the-variants.{Idle, Unserved, Served}
 use Rattle.lanes.specs.declared.Found.{Found}
 use Rattle.lanes.specs.declared.Found.the-variants.{At, Nothing}
 use Rattle.lanes.specs.Search.{lineAt, searchOf, vacantOf}
+use Rattle.lanes.specs.Lanes.{withReturns, withDowns, withLine}
 use Rattle.answers.specs.declared.Answer.the-variants.{Step}
-use Rattle.answers.specs.Refusals.{refusedOf}
 use Rattle.answers.specs.declared.Refusal.the-variants.{NothingPending, QueueFull, Unexpected}
+use Rattle.answers.specs.Refusals.{refusedOf}
 use Rattle.store.specs.declared.Store.{Store}
 use Rattle.store.specs.declared.Outcome.{Outcome}
-use Rattle.store.specs.Quiet.{laneAt}
+use Rattle.store.specs.Stores.{laneAt}
 use Rattle.machine.specs.declared.LaneStep.{LaneStep}
 use Rattle.machine.specs.declared.Ready.{Ready}
 use Rattle.machine.specs.declared.Ready.the-variants.{Go, No}
-use Rattle.machine.specs.Change.{refuseLane, guarded, commitLane, withReturns, withDowns}
-use Rattle.machine.specs.Begin.{isLoad, complete, invalid, bareReturn, wordsReturn}
+use Rattle.machine.specs.Change.{refuseLane, guarded, commitLane}
+use Rattle.machine.specs.Begin.{complete, bareReturn, wordsReturn}
 
 -- an answer joins the lane's return queue; 12 where that is full
 unfoldable pub reply : ReturnMessage → Lane → LaneStep
@@ -41,13 +44,9 @@ reply y l =
     cond (p .full) (refuseLane QueueFull l)
     (record { answer = Step; lane = withReturns (p .queue) l })
 
--- the lane with another line i
-abbrev pub withLine : LineNo → Line → Lane → Lane
-withLine i x l = record { lines = set (l .lines) (i .0) x; order = l .order; returns = l .returns; downs = l .downs; waiting = l .waiting }
-
 -- PRIVATE is reset
 abbrev pub shared : Line → Line
-shared x = record { valid = x .valid; private = false; block = x .block; words = x .words }
+shared x = withPrivate false x
 
 -- UPDATE on a held block: UPDATED with the words, PRIVATE reset. On a block not held: GONE
 abbrev pub updateAt : Found → BlockNo → Lane → LaneStep
@@ -65,12 +64,12 @@ purgeAt Nothing a l = reply (bareReturn Gone a) l
 
 -- PRIVATE is set if the operation isn't load, and reset if it is
 abbrev pub claimed : Op → Line → Line
-claimed op x = record { valid = x .valid; private = not (isLoad op); block = x .block; words = x .words }
+claimed op x = withPrivate (not (isLoad op)) x
 
 -- A grant with words fills the lowest-numbered line that is not valid, and the operation completes; 16 with no free line
 abbrev pub fillAt : Found → ℕ → LaneNo → DownMessage → Operation → Lane → LaneStep
 fillAt (At i) c k x o l =
-    complete c k i (claimed (o .op) (record { valid = true; private = false; block = x .block; words = x .words })) (o .op) (o .word) l
+    complete c k i (claimed (o .op) (filledLine (x .block) (x .words))) (o .op) (o .word) l
 fillAt Nothing c k x o l = refuseLane Unexpected l
 
 -- 16 for a grant with words on a held block

@@ -9,7 +9,7 @@ use Rattle.words.specs.declared.Line.{Line}
 use Rattle.words.specs.Lines.{noLine, holdsOf}
 use Rattle.words.specs.Folds.{upTo, anyTo}
 use Rattle.store.specs.declared.Store.{Store}
-use Rattle.store.specs.Quiet.{laneAt, blockAt}
+use Rattle.store.specs.Stores.{laneAt, blockAt}
 
 -- line i of lane k
 abbrev pub lineIn : Store → ℕ → ℕ → Line

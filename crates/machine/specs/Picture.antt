@@ -9,7 +9,7 @@ use Rattle.words.specs.Lines.{noLine}
 use Rattle.words.specs.Folds.{gatherTo}
 use Rattle.answers.specs.declared.Refusal.the-variants.{Corrupt, BufferTooShort}
 use Rattle.store.specs.declared.Store.{Store}
-use Rattle.store.specs.Quiet.{laneAt}
+use Rattle.store.specs.Stores.{laneAt}
 use Rattle.machine.specs.Corruption.{corruptOf}
 use Rattle.machine.specs.Fill.{Filling, unwritten, filledWith}
 

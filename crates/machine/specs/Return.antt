@@ -9,6 +9,7 @@ use Rattle.queues.specs.declared.ReturnKind.{ReturnKind}
 use Rattle.queues.specs.declared.ReturnKind.the-variants.{Eject, WriteEject, Updated, Purged, PurgedWords, Gone}
 use Rattle.queues.specs.Queues.{emptyAt, headReturn, takeReturn}
 use Rattle.lanes.specs.declared.Lane.{Lane}
+use Rattle.lanes.specs.Lanes.{withReturns}
 use Rattle.answers.specs.declared.Answer.the-variants.{Step}
 use Rattle.answers.specs.declared.Refusal.the-variants.{NothingPending, Unexpected}
 use Rattle.store.specs.declared.Store.{Store}
@@ -18,18 +19,19 @@ use Rattle.store.specs.declared.Counted.{Counted}
 use Rattle.store.specs.declared.Counted.the-variants.{Awaits, Closes, NotAwaited}
 use Rattle.store.specs.declared.Outcome.{Outcome}
 use Rattle.store.specs.Control.{answerOf}
-use Rattle.store.specs.Quiet.{laneAt, blockAt}
+use Rattle.store.specs.Stores.{laneAt, blockAt}
+use Rattle.store.specs.Blocks.{withContents, withPresent, withModified}
 use Rattle.machine.specs.declared.Move.{Move}
-use Rattle.machine.specs.Change.{refuse, refuseMove, guarded, commitMove, withReturns, nobody, noMessage}
+use Rattle.machine.specs.Change.{refuse, refuseMove, guarded, commitMove, nobody, noMessage}
 use Rattle.machine.specs.Serve.{close}
 
 -- resets k's PRESENT
 abbrev pub absent : LaneNo → Block → Block
-absent k b = record { words = b .words; present = set (b .present) (k .0) false; modified = b .modified }
+absent k b = withPresent (set (b .present) (k .0) false) b
 
 -- writes the words, resets MODIFIED
 abbrev pub written : List ℕ → Block → Block
-written ws b = record { words = ws; present = b .present; modified = false }
+written ws b = withModified false (withContents ws b)
 
 -- what a message makes of its block: EJECT resets k's PRESENT, WRITE-EJECT also writes the words and resets MODIFIED; UPDATED writes its
 -- words and resets MODIFIED; PURGED resets PRESENT, and if it has words writes them and resets MODIFIED; GONE resets PRESENT

@@ -17,6 +17,7 @@ use Rattle.lanes.specs.declared.Command.{Command}
 use Rattle.lanes.specs.declared.Command.the-variants.{ReadShared, ReadExclusive, Exclude}
 use Rattle.lanes.specs.declared.Waiting.{Waiting}
 use Rattle.lanes.specs.declared.Waiting.the-variants.{Idle, Unserved, Served}
+use Rattle.lanes.specs.Lanes.{withWaiting}
 use Rattle.answers.specs.declared.Answer.the-variants.{Step}
 use Rattle.answers.specs.declared.Refusal.the-variants.{NothingPending, ControlBusy, ReturnsPending}
 use Rattle.store.specs.declared.Store.{Store}
@@ -27,11 +28,12 @@ use Rattle.store.specs.declared.Control.the-variants.{Busy}
 use Rattle.store.specs.declared.Outcome.{Outcome}
 use Rattle.store.specs.Control.{busyOf}
 use Rattle.store.specs.Opening.{zeros}
-use Rattle.store.specs.Quiet.{laneAt, blockAt}
+use Rattle.store.specs.Stores.{laneAt, blockAt}
+use Rattle.store.specs.Blocks.{withPresent, withModified}
 use Rattle.machine.specs.declared.Ready.{Ready}
 use Rattle.machine.specs.declared.Ready.the-variants.{Go, No}
 use Rattle.machine.specs.declared.Move.{Move}
-use Rattle.machine.specs.Change.{refuse, guarded, commitMove, withWaiting, nobody, only, goesTo}
+use Rattle.machine.specs.Change.{refuse, guarded, commitMove, nobody, only, goesTo}
 
 -- a down message without words
 abbrev pub bareDown : DownKind → BlockNo → DownMessage
@@ -65,11 +67,11 @@ bareOf Exclude present = present
 
 -- Exclusive: k's PRESENT is set, every other PRESENT of the block is reset, MODIFIED is set
 abbrev pub exclusively : Block → LaneNo → Block
-exclusively b k = record { words = b .words; present = only k; modified = true }
+exclusively b k = withModified true (withPresent (only k) b)
 
 -- Shared: set k's PRESENT; exclusive as above
 abbrev pub closedBlock : Command → Block → LaneNo → Block
-closedBlock ReadShared b k = record { words = b .words; present = set (b .present) (k .0) true; modified = b .modified }
+closedBlock ReadShared b k = withPresent (set (b .present) (k .0) true) b
 closedBlock ReadExclusive b k = exclusively b k
 closedBlock Exclude b k = exclusively b k
 

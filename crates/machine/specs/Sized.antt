@@ -5,7 +5,7 @@ use mathlib.Core.Path.{_≡_}
 use lib.ListN.{length}
 use Rattle.lanes.specs.declared.Lane.{Lane}
 use Rattle.store.specs.declared.Store.{Store}
-use Rattle.store.specs.Quiet.{laneAt, blockAt}
+use Rattle.store.specs.Stores.{laneAt, blockAt}
 
 -- 8 lines, 8 places of the use order, 2 places in each queue
 pub record LaneSized (l : Lane) : Type 0 where

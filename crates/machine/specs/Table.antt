@@ -8,6 +8,7 @@ use Rattle.words.specs.declared.WordNo.{WordNo}
 use Rattle.words.specs.declared.BlockNo.{BlockNo}
 use Rattle.words.specs.declared.Op.the-variants as Op
 use Rattle.words.specs.Operations.{applyOf}
+use Rattle.words.specs.Lines.{filledLine}
 use Rattle.queues.specs.declared.DownKind.{DownKind}
 use Rattle.queues.specs.declared.DownKind.the-variants.{Purge, Grant, BareGrant}
 use Rattle.queues.specs.declared.ReturnKind.the-variants.{Gone}
@@ -16,6 +17,7 @@ use Rattle.lanes.specs.declared.Command.the-variants.{ReadShared, ReadExclusive
 use Rattle.lanes.specs.declared.Operation.{Operation}
 use Rattle.lanes.specs.declared.Waiting.{Waiting}
 use Rattle.lanes.specs.declared.Waiting.the-variants.{Unserved, Served}
+use Rattle.lanes.specs.Lanes.{withWaiting, withReturns, withDowns, withLine, withOrder}
 use Rattle.answers.specs.declared.Answer.{Answer}
 use Rattle.answers.specs.declared.Answer.the-variants.{Opened, Done, Wait, Step, Refused}
 use Rattle.answers.specs.declared.Refusal.the-variants.{Corrupt, BufferTooShort}
@@ -25,14 +27,14 @@ use Rattle.answers.specs.Refusals.{numberOf}
 use Rattle.store.specs.declared.Store.{Store}
 use Rattle.store.specs.declared.Control.the-variants.{Busy}
 use Rattle.store.specs.Opening.{freshOf, openOf, zeros, line}
-use Rattle.store.specs.Quiet.{laneAt, blockAt, quietOf}
+use Rattle.store.specs.Stores.{laneAt, blockAt, withLane}
+use Rattle.store.specs.Quiet.{quietOf}
 use Rattle.machine.specs.declared.Settled.{Settled}
 use Rattle.machine.specs.declared.Settled.the-variants.{Steps}
 use Rattle.machine.specs.declared.Filled.the-variants as Filled
-use Rattle.machine.specs.Change.{withWaiting, withReturns, withDowns, withLane, posted}
+use Rattle.machine.specs.Change.{posted}
 use Rattle.machine.specs.Begin.{bareReturn}
 use Rattle.machine.specs.Serve.{bareDown}
-use Rattle.machine.specs.Deliver.{withLine}
 use Rattle.machine.specs.Settle.{lane, boundOf}
 use Rattle.machine.specs.Flags.{lineIn}
 use Rattle.machine.specs.Calls.{Call, Begin, Serve, Return, Deliver, Settle, Reply, Entry, run}
@@ -539,7 +541,7 @@ serving k a awaited s = record {
 }
 
 abbrev pub filled : ℕ → ℕ → Store → Store
-filled k a s = withLane s k (withLine (line 0) (record { valid = true; private = false; block = block a; words = zeros }) (laneAt s k))
+filled k a s = withLane s k (withLine (line 0) (filledLine (block a) zeros) (laneAt s k))
 
 -- lane k with an operation on word w, unserved or served; with as many messages in its queues as the number says; with a use order; a block
 -- with PRESENT for lane k
@@ -558,7 +560,7 @@ sending len s = withLane s 0 (withDowns (record { len = len; at = laneAt s 0 .do
 abbrev pub ordered : ℕ → ℕ → Store → Store
 ordered i j s =
     let l = laneAt s 0 in
-    withLane s 0 (record { lines = l .lines; order = line i ∷ line j ∷ drop 2 (l .order); returns = l .returns; downs = l .downs; waiting = l .waiting })
+    withLane s 0 (withOrder (line i ∷ line j ∷ drop 2 (l .order)) l)
 
 abbrev pub flagged : ℕ → Store → Store
 flagged k s = record {

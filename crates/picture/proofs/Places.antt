@@ -12,7 +12,7 @@ use lib.Seq.{take-at, drop-at}
 use Rattle.words.specs.Lines.{noLine}
 use Rattle.words.specs.Folds.{sumTo, gatherTo}
 use Rattle.store.specs.declared.Store.{Store}
-use Rattle.store.specs.Quiet.{laneAt}
+use Rattle.store.specs.Stores.{laneAt}
 use Rattle.machine.specs.Picture.{recordBytes, pictureBytes}
 use Rattle.picture.specs.Records.{lineRecord, laneRecords, recordsAt, validIn, validAt}
 use Rattle.picture.proofs.Records.{record-length, line-valid, lane-length, lanes-length, picture-lanes}

@@ -15,7 +15,7 @@ use Rattle.words.specs.Folds.{countTo, sumTo, gatherTo}
 use Rattle.words.proofs.Folds.{count-most}
 use Rattle.lanes.specs.declared.Lane.{Lane}
 use Rattle.store.specs.declared.Store.{Store}
-use Rattle.store.specs.Quiet.{laneAt}
+use Rattle.store.specs.Stores.{laneAt}
 use Rattle.machine.specs.Picture.{recordBytes, pictureBytes}
 use Rattle.text.specs.Written.{written}
 use Rattle.text.proofs.Writing.{written-length, Wrote, wrote-then}

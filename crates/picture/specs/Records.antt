@@ -8,7 +8,7 @@ use Rattle.words.specs.Lines.{noLine}
 use Rattle.words.specs.Folds.{countTo, sumTo, gatherTo}
 use Rattle.lanes.specs.declared.Lane.{Lane}
 use Rattle.store.specs.declared.Store.{Store}
-use Rattle.store.specs.Quiet.{laneAt}
+use Rattle.store.specs.Stores.{laneAt}
 use Rattle.machine.specs.Picture.{recordBytes}
 
 -- the record of a line of lane k, where it is valid

@@ -15,7 +15,7 @@ use denote.Struct.Declared.{shape}
 use Rattle.lanes.proofs.Lane as L
 use Rattle.store.proofs.Block as B
 use Rattle.store.specs.declared.Store.{Store}
-use Rattle.store.specs.Quiet.{noLane, noBlock, laneAt, blockAt}
+use Rattle.store.specs.Stores.{noLane, noBlock, laneAt, blockAt}
 use Rattle.machine.specs.Sized.{LaneSized, Sized}
 
 -- what owning an array tells of its element at i

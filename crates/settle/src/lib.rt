@@ -6,7 +6,7 @@ ghost use mathlib.Core.List.{[]};
 ghost use Prim.Native.Nat.{_+_, _≤_};
 ghost use lib.ListN.{length};
 ghost use Rattle.words.specs.Folds.{lowestTo};
-ghost use Rattle.store.specs.Quiet.{laneAt};
+ghost use Rattle.store.specs.Stores.{laneAt};
 ghost use Rattle.machine.specs.Corruption.{corruptOf};
 ghost use Rattle.machine.specs.Settle.{settleStep, settleOf, boundOf, doneIn, refuseSettle};
 ghost use Rattle.settle.specs.Settles.{arrayOf, outcomeOf, CountWithin, enabledOf, stepOf, listedOf, refusalOf};

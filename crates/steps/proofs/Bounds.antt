@@ -19,7 +19,7 @@ use Rattle.store.specs.declared.Store.{Store}
 use Rattle.store.specs.declared.Control.{Control}
 use Rattle.store.specs.declared.Control.the-variants.{Free, Busy}
 use Rattle.store.specs.Control.{busyOf}
-use Rattle.store.specs.Quiet.{laneAt}
+use Rattle.store.specs.Stores.{laneAt}
 use Rattle.machine.specs.declared.Ready.the-variants.{Go, No}
 use Rattle.machine.specs.Corruption.{corruptOf}
 use Rattle.machine.specs.Serve.{readyWith, readyOf}

@@ -1,5 +1,5 @@
 -- 01, "Parts of a store": the control has at most one service. Assumes nothing.
-use Prim.Native.Nat.{_-_}
+use Prim.Native.Nat.{ℕ, _-_}
 use mathlib.Core.Bool.{Bool, true, false, cond}
 use lib.Dec.{eqb}
 use Rattle.words.specs.declared.BlockNo.{BlockNo}
@@ -21,9 +21,13 @@ abbrev pub serviceOf : Control → BlockNo → Lookup
 serviceOf Free a = Nothing
 serviceOf (Control.Busy v) a = cond (eqb (v .block .0) (a .0)) (Of v) Nothing
 
+-- a service with another awaited count: the one of its fields that changes
+abbrev pub withAwaited : ℕ → Service → Service
+withAwaited n v = record { lane = v .lane; block = v .block; command = v .command; awaited = n; bare = v .bare }
+
 -- the service with one answer fewer awaited
 abbrev pub lowered : Service → Service
-lowered v = record { lane = v .lane; block = v .block; command = v .command; awaited = v .awaited - 1; bare = v .bare }
+lowered v = withAwaited (v .awaited - 1) v
 
 -- an answer for the service looked up: each answer lowers the awaited count, and at 0 the service closes
 abbrev pub countedOf : Lookup → Counted

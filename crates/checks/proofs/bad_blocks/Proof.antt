@@ -6,7 +6,7 @@ use mathlib.Core.Bool.{false}
 use mathlib.Core.Path.{_≡_, sym, _∙_}
 use Rattle.words.specs.Folds.{anyTo}
 use Rattle.words.proofs.Folds.{any-none, any-more, any-true}
-use Rattle.store.specs.Quiet.{blockAt}
+use Rattle.store.specs.Stores.{blockAt}
 use Rattle.machine.specs.Corruption.{badFlags}
 use Rattle.checks.proofs.bad_blocks.Statement.{statement}
 use Rattle.checks.proofs.bad_blocks.Tie as tie

@@ -6,7 +6,7 @@ use mathlib.Core.Bool.{false}
 use mathlib.Core.Path.{_≡_, sym, _∙_}
 use Rattle.words.specs.Folds.{anyTo}
 use Rattle.words.proofs.Folds.{any-none, any-more, any-true}
-use Rattle.store.specs.Quiet.{laneAt}
+use Rattle.store.specs.Stores.{laneAt}
 use Rattle.machine.specs.Corruption.{badLane}
 use Rattle.checks.proofs.bad_lanes.Statement.{statement}
 use Rattle.checks.proofs.bad_lanes.Tie as tie

@@ -7,7 +7,7 @@ use lib.ListN.{getD}
 use Rattle.words.specs.Folds.{sumTo}
 use Rattle.words.specs.Lines.{noLine}
 use Rattle.words.proofs.Folds.{count-most}
-use Rattle.store.specs.Quiet.{laneAt}
+use Rattle.store.specs.Stores.{laneAt}
 use Rattle.picture.specs.Records.{validAt}
 use Rattle.picture.proofs.Records.{sum-none, sum-more, valid-most}
 use Rattle.picture.proofs.valid_lines.Statement.{statement}

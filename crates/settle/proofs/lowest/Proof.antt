@@ -4,7 +4,7 @@ use Prim.Native.Nat.{_≤_, _-_}
 use native.Mathlib.Omega.{arith}
 use mathlib.Core.Path.{_≡_, sym, _∙_}
 use Rattle.words.specs.Folds.{lowestTo}
-use Rattle.store.specs.Quiet.{laneAt}
+use Rattle.store.specs.Stores.{laneAt}
 use Rattle.settle.specs.Settles.{enabledOf}
 use Rattle.settle.proofs.Searches.{lowest-none, lowest-more, lowest-at}
 use Rattle.settle.proofs.lowest.Statement.{statement}

@@ -7,7 +7,8 @@ use mathlib.Core.Path.{_≡_, sym, _∙_}
 use lib.ListN.{length, length-map}
 use Rattle.words.specs.Folds.{anyTo}
 use Rattle.words.proofs.Folds.{any-none, any-more, any-true}
-use Rattle.store.specs.Quiet.{laneAt, activeOf, quietOf}
+use Rattle.store.specs.Stores.{laneAt}
+use Rattle.store.specs.Quiet.{activeOf, quietOf}
 use Rattle.store.proofs.Quieting.{active-past}
 use Rattle.store.proofs.quiet.Statement.{statement}
 use Rattle.store.proofs.quiet.Tie as tie
