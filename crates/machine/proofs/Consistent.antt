@@ -4,19 +4,15 @@ use Prim.Native.Nat.{ℕ, _<_}
 use mathlib.Core.Path.{_≡_, refl, fun-ext}
 use mathlib.Core.Bool.{false, cond}
 use mathlib.Core.List.{List}
-use lib.Dec.{leb, ltb}
-use borrow.Author.Tests.{leb-false}
-use Rattle.words.specs.declared.LaneNo.{LaneNo}
-use Rattle.words.proofs.Folds.{pick}
+use lib.Dec.{ltb}
 use Rattle.lanes.specs.declared.Waiting.{Waiting}
 use Rattle.lanes.specs.declared.Waiting.the-variants.{Idle, Unserved, Served}
 use Rattle.answers.specs.declared.Refusal.{Refusal}
-use Rattle.answers.specs.declared.Refusal.the-variants.{NoSuchLane, Corrupt}
 use Rattle.store.specs.declared.Store.{Store}
 use Rattle.store.specs.declared.Outcome.{Outcome}
 use Rattle.store.specs.Stores.{laneAt}
 use Rattle.machine.specs.Corruption.{corruptOf}
-use Rattle.machine.specs.Change.{refuse, guarded}
+use Rattle.machine.specs.Change.{refuse}
 use Rattle.machine.specs.Settle.{doneIn}
 use Rattle.machine.specs.Flat.{flatBlock}
 use Rattle.machine.specs.Sized.{Sized}
@@ -51,12 +47,6 @@ pub record StaysConsistent (s : Store) (f : List ℕ) (r : Outcome) : Type 0 whe
 -- a refusal changes nothing
 pub refused-consistent : (s : Store) (f : List ℕ) (x : Refusal) → Consistent s f → StaysConsistent s f (refuse x s)
 refused-consistent s f x i = record { flat = f; unique = i .unique; block = i .block; completes = (refl, refl) }
-
--- 14 and 6, then the rest of a call
-pub guarded-rule : (P : Outcome → Type 0) (s : Store) (k : LaneNo) (r : Outcome) → ((x : Refusal) → P (refuse x s)) → (k .0 < s .n → P r) → P (guarded s k r)
-guarded-rule P s k r stays next =
-    pick P (corruptOf s) (refuse Corrupt s) (cond (leb (s .n) (k .0)) (refuse NoSuchLane s) r) (λ _. stays Corrupt)
-    (λ _. pick P (leb (s .n) (k .0)) (refuse NoSuchLane s) r (λ _. stays NoSuchLane) (λ q. next (leb-false _ _ q)))
 
 -- the operations that wait, lane by lane
 pub pending-same : (s t : Store) → t .n ≡ s .n → ((j : ℕ) → pendingOf (laneAt t j .waiting) ≡ pendingOf (laneAt s j .waiting)) → pendingIn t ≡ pendingIn s

@@ -1,33 +1,26 @@
 -- Begin keeps a store consistent, and pays what it owes. Assumes nothing.
-use Prim.Native.Nat.{ℕ, _*_, _<_}
+use Prim.Native.Nat.{ℕ, _<_}
 use mathlib.Core.Logic.{_⊎_, inl, inr, _≢_}
 use mathlib.Core.Path.{_≡_, refl, sym, ap, _∙_}
 use mathlib.Core.Bool.{Bool, true, false, cond}
 use mathlib.Core.List.{List}
-use lib.Dec.{leb}
-use borrow.Author.Tests.{leb-false}
-use native.Mathlib.Omega.{arith}
 use Rattle.words.specs.declared.LaneNo.{LaneNo}
 use Rattle.words.specs.declared.WordNo.{WordNo}
 use Rattle.words.specs.declared.Op.{Op}
 use Rattle.words.specs.Units.{blockOf}
 use Rattle.words.specs.Operations.{isLoad}
-use Rattle.words.proofs.Folds.{pick}
 use Rattle.lanes.specs.declared.Lane.{Lane}
 use Rattle.lanes.specs.declared.Command.{Command}
 use Rattle.lanes.specs.declared.Command.the-variants.{ReadShared, ReadExclusive, Exclude}
 use Rattle.lanes.specs.declared.Waiting.the-variants.{Idle, Unserved}
-use Rattle.lanes.specs.Waits.{idleOf}
 use Rattle.answers.specs.declared.Refusal.{Refusal}
-use Rattle.answers.specs.declared.Refusal.the-variants.{NoSuchWord, LaneBusy}
 use Rattle.store.specs.declared.Store.{Store}
 use Rattle.store.specs.declared.Outcome.{Outcome}
 use Rattle.store.specs.Stores.{laneAt, withLane}
 use Rattle.machine.specs.declared.LaneStep.{LaneStep}
-use Rattle.machine.specs.Change.{refuse, commitLane}
-use Rattle.machine.specs.Begin.{readOf, beginLane, beginOf}
+use Rattle.machine.specs.Change.{refuse, commitLane, answerTo}
+use Rattle.machine.specs.Begin.{readOf, beginOf}
 use Rattle.machine.specs.Flat.{flatAfter, flatBlock}
-use Rattle.machine.proofs.Tests.{on}
 use Rattle.machine.proofs.Sets.{same?}
 use Rattle.machine.proofs.Sound.{sound}
 use Rattle.machine.proofs.Owes.{Pending, Rests, upd, fed, BeginOwes}
@@ -37,9 +30,10 @@ use Rattle.machine.proofs.Moves.{waitSeen, hitSeen, evictSeen}
 use Rattle.machine.proofs.Flats.{flat-value, flat-done, flat-other}
 use Rattle.machine.proofs.Searches.{Unique, same-block}
 use Rattle.machine.proofs.LaneMovesBegin.{hit-keeps, wait-keeps, evict-keeps}
-use Rattle.machine.proofs.SeenBegin.{HitCase, WaitCase, EvictCase, BeginCase, Hits, Excludes, Reads, Evicts, Refuses, asked, seen-idle, idle-waiting, begin-case}
-use Rattle.machine.proofs.Consistent.{Consistent, pendingOf, pendingIn, guarded-rule}
+use Rattle.machine.proofs.SeenBegin.{HitCase, WaitCase, EvictCase, BeginCase, Hits, Excludes, Reads, Evicts, Refuses, asked, seen-idle, begin-case}
+use Rattle.machine.proofs.Consistent.{Consistent, pendingOf, pendingIn}
 use Rattle.machine.proofs.ConsistentLane.{lane-sized, lane-project, lane-unseen, lane-unique, lane-pending, lane-pending-same, pending-here}
+use Rattle.machine.proofs.Rules.{begin-rule}
 
 -- what begin has to show, beside bounds and lengths; flat is flat memory after it
 pub record Begins (s : Store) (f : List ℕ) (k : LaneNo) (op : Op) (w : WordNo) (r : Outcome) : Type 0 where
@@ -82,7 +76,7 @@ module _ (s : Store) (f : List ℕ) (i : Consistent s f) (k : LaneNo) (h : k .0 
       go (inl e) = rw e here
       go (inr n) = there a b n
 
-  hit-begins : (r : LaneStep) → HitCase (s .c) k op w l r → Begins s f k op w (record { answer = r .answer; store = withLane s (k .0) (r .lane) })
+  hit-begins : (r : LaneStep) → HitCase (s .c) op w l r → Begins s f k op w (record { answer = answerTo k (r .answer); store = withLane s (k .0) (r .lane) })
   hit-begins r c =
       record {
         flat = flatAfter f (fed op w);
@@ -104,7 +98,7 @@ module _ (s : Store) (f : List ℕ) (i : Consistent s f) (k : LaneNo) (h : k .0 
   -- begin waits with command x: what is left is what the other blocks see
   wait-begins : (r : LaneStep) (x : Command) (y : Status) → WaitCase (s .c) op w x y l r → CommandFits y x (isLoad op) →
       ((a : ℕ) → a < s .m → a ≢ blockOf w .0 → (v : (ℕ → Status)) × Inv v (project (withLane s (k .0) (r .lane)) a) (flatBlock f a)) →
-      Begins s f k op w (record { answer = r .answer; store = withLane s (k .0) (r .lane) })
+      Begins s f k op w (record { answer = answerTo k (r .answer); store = withLane s (k .0) (r .lane) })
   wait-begins r x y c fits there =
       record {
         flat = f;
@@ -134,7 +128,7 @@ module _ (s : Store) (f : List ℕ) (i : Consistent s f) (k : LaneNo) (h : k .0 
             (evict-keeps (p .0) (project s a) (flatBlock f a) (k .0) (blockNo a) (p .1) (idle-at a) (rw x (c .copy))),
       )
 
-  evict-begins : (r : LaneStep) → EvictCase (s .c) op w l r → Begins s f k op w (record { answer = r .answer; store = withLane s (k .0) (r .lane) })
+  evict-begins : (r : LaneStep) → EvictCase (s .c) op w l r → Begins s f k op w (record { answer = answerTo k (r .answer); store = withLane s (k .0) (r .lane) })
   evict-begins r c = wait-begins r (readOf op) Invalid (c .wait) (read-fits (isLoad op)) (λ a b n. go a b n (same? a (c .victim .0)))
     where
       go : (a : ℕ) → a < s .m → a ≢ blockOf w .0 → (a ≡ c .victim .0) ⊎ (a ≢ c .victim .0) → (v : (ℕ → Status)) × Inv v (project (withLane s (k .0) (r .lane)) a) (flatBlock f a)
@@ -142,7 +136,7 @@ module _ (s : Store) (f : List ℕ) (i : Consistent s f) (k : LaneNo) (h : k .0 
       go a b n (inr m) = unseen r a b (c .others (blockNo a) n m)
 
   -- the lane's part, by what it does
-  case-begins : (r : LaneStep) → BeginCase (s .c) k op w l r → Begins s f k op w (commitLane s k r)
+  case-begins : (r : LaneStep) → BeginCase (s .c) op w l r → Begins s f k op w (commitLane s k r)
   unfolding commitLane
   case-begins r (Hits c) = rw (c .answer) (rw (c .answer) at (hit-begins r c))
   case-begins r (Excludes c) =
@@ -152,18 +146,10 @@ module _ (s : Store) (f : List ℕ) (i : Consistent s f) (k : LaneNo) (h : k .0 
   case-begins r (Evicts c) = rw (c .wait .answer) (rw (c .wait .answer) at (evict-begins r c))
   case-begins r (Refuses c) = rw (c .answer) (refused-begins s f k op w (c .reason) i)
 
--- 8, then the lane's part
-lane-begins : (s : Store) (f : List ℕ) (i : Consistent s f) (k : LaneNo) (h : k .0 < s .n) (op : Op) (w : WordNo) → blockOf w .0 < s .m →
-    Begins s f k op w (commitLane s k (beginLane (s .c) k op w (laneAt s (k .0))))
-unfolding beginLane commitLane
-lane-begins s f i k h op w inside =
-    on (idleOf (laneAt s (k .0) .waiting))
-    (λ e. case-begins s f i k h op w inside (idle-waiting _ e) _ (begin-case (s .c) k op w (laneAt s (k .0)) (lane-sized s f i (k .0) h) (sound s (i .sound) .c-high) (i .unique (k .0)) (sound s (i .sound) .lane (k .0) h .order .named 0 (sound s (i .sound) .c-low)) e))
-    (λ e. rw e (refused-begins s f k op w LaneBusy i))
-
 pub begin-consistent : (s : Store) (f : List ℕ) (k : LaneNo) (op : Op) (w : WordNo) → Consistent s f → Begins s f k op w (beginOf s k op w)
-unfolding beginOf
 begin-consistent s f k op w i =
-    guarded-rule (Begins s f k op w) s k _ (λ x. refused-begins s f k op w x i)
-    (λ h. pick (Begins s f k op w) (leb (4 * s .m) (w .0)) _ _ (λ _. refused-begins s f k op w NoSuchWord i)
-    (λ q. let b = leb-false (4 * s .m) (w .0) q in lane-begins s f i k h op w (omega arith)))
+    begin-rule (Begins s f k op w) s k op w (λ x. refused-begins s f k op w x i)
+    (λ r.
+    let a = sound s (i .sound) in
+    case-begins s f i k (r .lane) op w (r .inside) (r .idle) _
+    (begin-case (s .c) op w (laneAt s (k .0)) (lane-sized s f i (k .0) (r .lane)) (a .c-high) (i .unique (k .0)) (a .lane (k .0) (r .lane) .order .named 0 (a .c-low)) (r .idle)))

@@ -17,7 +17,7 @@ use Rattle.lanes.specs.declared.Lane.{Lane}
 use Rattle.store.specs.declared.Store.{Store}
 use Rattle.store.specs.Stores.{laneAt, withLane}
 use Rattle.machine.specs.declared.LaneStep.{LaneStep}
-use Rattle.machine.specs.Change.{commitLane}
+use Rattle.machine.specs.Change.{commitLane, answerTo}
 use Rattle.machine.specs.Deliver.{deliverLane, deliverOf}
 use Rattle.machine.specs.Flat.{flatValue, flatAfter, flatBlock}
 use Rattle.machine.proofs.KeepsLane.{clash}
@@ -30,8 +30,9 @@ use Rattle.machine.proofs.Moves.{putLane, updateSeen, purgeSeen, grantS
 use Rattle.machine.proofs.Flats.{flat-value, flat-done, flat-other}
 use Rattle.machine.proofs.LaneMovesDeliver.{update-keeps, purge-keeps, grant-keeps, bare-keeps, grant-words, bare-words}
 use Rattle.machine.proofs.SeenDeliver.{headBlock, Taken, OrderCase, GrantCase, DeliverCase, Updates, Purges, Grants, BareGrants, Refuses, deliver-case}
-use Rattle.machine.proofs.Consistent.{Consistent, pendingOf, pendingIn, StaysConsistent, refused-consistent, guarded-rule}
+use Rattle.machine.proofs.Consistent.{Consistent, pendingOf, pendingIn, StaysConsistent, refused-consistent}
 use Rattle.machine.proofs.ConsistentLane.{lane-sized, lane-project, lane-unseen, lane-unique, lane-pending, lane-pending-same, pending-here}
+use Rattle.machine.proofs.Rules.{deliver-rule}
 
 -- a lane of which a block sees a down message has one
 seen-filled : (c : ℕ) (a : BlockNo) (l : Lane) (m : DownMessage) (rest : List DownMessage) → seen c a l .downs ≡ m ∷ rest → 0 < l .downs .len
@@ -75,7 +76,7 @@ module _ (s : Store) (f : List ℕ) (i : Consistent s f) (k : LaneNo) (h : k .0 
   order-consistent : (y : DownKind) (F : Status → BlockNo → List DownMessage → Seen → Seen) →
       ((v : ℕ → Status) (b : BlockState) (g : List ℕ) (j : ℕ) (a : BlockNo) (m : DownMessage) (rest : List DownMessage) → Inv v b g → b .lane j .downs ≡ m ∷ rest → m .kind ≡ y →
       Inv v (putLane j (F (b .lane j .line) a rest (b .lane j)) b) g) →
-      OrderCase (s .c) y F l r → StaysConsistent s f (record { answer = r .answer; store = t })
+      OrderCase (s .c) y F l r → StaysConsistent s f (record { answer = answerTo k (r .answer); store = t })
   order-consistent y F keeps c =
       let p = i .block (x .0) (inside y (c .taken)) in
       record {
@@ -91,11 +92,11 @@ module _ (s : Store) (f : List ℕ) (i : Consistent s f) (k : LaneNo) (h : k .0 
       }
 
   -- a grant: the operation that its lane waits for completes, with the words ws, which are flat memory's
-  grant-consistent : (y : DownKind) (ws : List ℕ) (c : GrantCase (s .c) k y ws l r) →
+  grant-consistent : (y : DownKind) (ws : List ℕ) (c : GrantCase (s .c) y ws l r) →
       ((v : ℕ → Status) → Inv v (project s (x .0)) (flatBlock f (x .0)) →
       (ws ≡ flatBlock f (x .0)) ×
       Inv v (putLane (k .0) (grantSeen (c .operation) ws (c .taken .rest) (seen (s .c) x l)) (project s (x .0))) (wordsDone (c .operation .op) (c .operation .word) (flatBlock f (x .0)))) →
-      StaysConsistent s f (record { answer = r .answer; store = t })
+      StaysConsistent s f (record { answer = answerTo k (r .answer); store = t })
   grant-consistent y ws c keeps =
       let o = c .operation in
       let p = i .block (x .0) (inside y (c .taken)) in
@@ -116,7 +117,7 @@ module _ (s : Store) (f : List ℕ) (i : Consistent s f) (k : LaneNo) (h : k .0 
       }
 
   -- the lane's part, by the message
-  case-consistent : DeliverCase (s .c) k l r → StaysConsistent s f (commitLane s k r)
+  case-consistent : DeliverCase (s .c) l r → StaysConsistent s f (commitLane s k r)
   unfolding commitLane
   case-consistent (Updates c) = rw (c .answer) (rw (c .answer) at (order-consistent Update updateSeen update-keeps c))
   case-consistent (Purges c) = rw (c .answer) (rw (c .answer) at (order-consistent Purge purgeSeen purge-keeps c))
@@ -137,8 +138,7 @@ module _ (s : Store) (f : List ℕ) (i : Consistent s f) (k : LaneNo) (h : k .0 
   case-consistent (Refuses c) = rw (c .answer) (refused-consistent s f (c .reason) i)
 
 pub deliver-consistent : (s : Store) (f : List ℕ) (k : LaneNo) → Consistent s f → StaysConsistent s f (deliverOf s k)
-unfolding deliverOf
 deliver-consistent s f k i =
-    guarded-rule (StaysConsistent s f) s k _ (λ x. refused-consistent s f x i)
-    (λ h. case-consistent s f i k h (deliverLane (s .c) k (laneAt s (k .0)))
-    (deliver-case (s .c) k (laneAt s (k .0)) (lane-sized s f i (k .0) h) (sound s (i .sound) .c-high) (i .unique (k .0)) (sound s (i .sound) .lane (k .0) h .downs .short)))
+    deliver-rule (StaysConsistent s f) s k (λ x. refused-consistent s f x i)
+    (λ _ h. case-consistent s f i k h (deliverLane (s .c) (laneAt s (k .0)))
+    (deliver-case (s .c) (laneAt s (k .0)) (lane-sized s f i (k .0) h) (sound s (i .sound) .c-high) (i .unique (k .0)) (sound s (i .sound) .lane (k .0) h .downs .short)))

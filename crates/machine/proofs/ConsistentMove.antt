@@ -18,13 +18,13 @@ use Rattle.store.specs.declared.Store.{Store}
 use Rattle.store.specs.Control.{serviceOf}
 use Rattle.store.specs.Stores.{laneAt}
 use Rattle.machine.specs.declared.Move.{Move}
-use Rattle.machine.specs.Change.{goesTo, someFull, posted, commitMove}
+use Rattle.machine.specs.Change.{goesTo, someFull, posted, commitMove, movedStore}
 use Rattle.machine.specs.Flat.{flatBlock}
 use Rattle.machine.specs.Sized.{LaneSized}
 use Rattle.machine.proofs.Sets.{same?}
 use Rattle.machine.proofs.BlockState.{Status, seen, blockNo, project}
 use Rattle.machine.proofs.Invariant.{Inv}
-use Rattle.machine.proofs.Project.{Moves, movedStore, lane-sent, project-there}
+use Rattle.machine.proofs.Project.{Moves, lane-sent, project-there}
 use Rattle.machine.proofs.Consistent.{Consistent, pendingOf, StaysConsistent, refused-consistent, pending-same}
 
 -- what memory's part of a call changes: of its lane neither lines nor what it waits for; of its lane and the control nothing that

@@ -34,8 +34,9 @@ use Rattle.machine.proofs.BlockState.{Status, Invalid, Shared, Modified
 use Rattle.machine.proofs.Invariant.{Inv, viewOf}
 use Rattle.machine.proofs.BlockQuiet.{quiet-view}
 use Rattle.machine.proofs.Searches.{found-holds, search-at, holds-valid, valid-holds}
-use Rattle.machine.proofs.SeenBegin.{held-line, idle-waiting}
+use Rattle.machine.proofs.SeenBegin.{held-line}
 use Rattle.machine.proofs.Consistent.{Consistent, pendingIn}
+use Rattle.machine.proofs.Rules.{idle-waiting}
 
 -- a loop keeps what each turn keeps
 loop-keeps : {A : Type 0} (P : A → Type 0) (g : ℕ → A → A) (n : ℕ) (a : A) → ((k : ℕ) → k < n → (x : A) → P x → P (g k x)) → P a → P (upTo g n a)

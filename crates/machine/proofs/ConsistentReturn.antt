@@ -12,10 +12,10 @@ use Rattle.words.specs.declared.LaneNo.{LaneNo}
 use Rattle.words.specs.declared.BlockNo.{BlockNo}
 use Rattle.words.proofs.Folds.{pick}
 use Rattle.queues.specs.declared.ReturnMessage.{ReturnMessage}
-use Rattle.queues.specs.Queues.{emptyAt, headReturn, takeReturn}
+use Rattle.queues.specs.Queues.{headReturn, takeReturn}
 use Rattle.lanes.specs.declared.Lane.{Lane}
 use Rattle.lanes.specs.Lanes.{withReturns}
-use Rattle.answers.specs.declared.Refusal.the-variants.{NothingPending, Unexpected}
+use Rattle.answers.specs.declared.Refusal.the-variants.{Unexpected}
 use Rattle.store.specs.declared.Store.{Store}
 use Rattle.store.specs.declared.Block.{Block}
 use Rattle.store.specs.declared.Service.{Service}
@@ -43,9 +43,10 @@ use Rattle.machine.proofs.Directories.{nobody-none}
 use Rattle.machine.proofs.MemoryClose.{close-keeps}
 use Rattle.machine.proofs.MemoryReturn.{eject-returns, answer-returns}
 use Rattle.machine.proofs.Project.{project-here}
-use Rattle.machine.proofs.Consistent.{Consistent, StaysConsistent, refused-consistent, guarded-rule}
+use Rattle.machine.proofs.Consistent.{Consistent, StaysConsistent, refused-consistent}
 use Rattle.machine.proofs.ConsistentMove.{Shows, commit-consistent}
 use Rattle.machine.proofs.ConsistentServe.{send-none, grant-block, only-length}
+use Rattle.machine.proofs.Rules.{return-rule}
 
 -- a service looked up is the control's
 pub looked-up : (y : Control) (a : BlockNo) (v : Service) → serviceOf y a ≡ Of v → (y ≡ Busy v) × (v .block .0 ≡ a .0)
@@ -195,8 +196,5 @@ module _ (s : Store) (f : List ℕ) (i : Consistent s f) (k : LaneNo) (h : k .0 
       go e (Of v) q = answer-consistent e v q
 
 pub return-consistent : (s : Store) (f : List ℕ) (k : LaneNo) → Consistent s f → StaysConsistent s f (returnOf s k)
-unfolding returnOf
 return-consistent s f k i =
-    guarded-rule (StaysConsistent s f) s k _ (λ x. refused-consistent s f x i)
-    (λ h. pick (StaysConsistent s f) (emptyAt (laneAt s (k .0) .returns .len)) _ _ (λ _. refused-consistent s f NothingPending i)
-    (λ e. head-consistent s f i k h (eqb-false _ _ e)))
+    return-rule (StaysConsistent s f) s k (λ x. refused-consistent s f x i) (λ r. head-consistent s f i k (r .lane) (r .filled))

@@ -4,9 +4,9 @@ use mathlib.Core.Logic.{_⊎_, inl, inr, _≢_}
 use mathlib.Core.Path.{_≡_, refl, sym, ap, _∙_, fun-ext}
 use mathlib.Core.Bool.{Bool, true, false, cond}
 use mathlib.Core.List.{List, []}
-use lib.Dec.{eqb, ltb}
+use lib.Dec.{eqb}
 use lib.ListN.{length, length-set, List·getD-eq-default}
-use borrow.Author.Tests.{eq-eqb, ne-eqb, eqb-true, ltb-false}
+use borrow.Author.Tests.{eq-eqb, ne-eqb, eqb-true}
 use native.Mathlib.Omega.{arith}
 use Rattle.words.specs.declared.LaneNo.{LaneNo}
 use Rattle.words.specs.declared.BlockNo.{BlockNo}
@@ -17,11 +17,9 @@ use Rattle.queues.specs.declared.DownMessage.{DownMessage}
 use Rattle.lanes.specs.declared.Lane.{Lane}
 use Rattle.lanes.specs.declared.Command.{Command}
 use Rattle.lanes.specs.declared.Operation.{Operation}
-use Rattle.lanes.specs.declared.Waiting.{Waiting}
-use Rattle.lanes.specs.declared.Waiting.the-variants.{Idle, Unserved, Served}
+use Rattle.lanes.specs.declared.Waiting.the-variants.{Unserved, Served}
 use Rattle.lanes.specs.Lanes.{withWaiting}
 use Rattle.answers.specs.declared.Answer.the-variants.{Step}
-use Rattle.answers.specs.declared.Refusal.the-variants.{NothingPending, ControlBusy, ReturnsPending}
 use Rattle.store.specs.declared.Store.{Store}
 use Rattle.store.specs.declared.Block.{Block}
 use Rattle.store.specs.declared.Service.{Service}
@@ -30,9 +28,8 @@ use Rattle.store.specs.declared.Control.the-variants.{Free, Busy}
 use Rattle.store.specs.declared.Lookup.the-variants.{Nothing}
 use Rattle.store.specs.Control.{busyOf, serviceOf}
 use Rattle.store.specs.Stores.{laneAt, blockAt}
-use Rattle.machine.specs.declared.Ready.{Ready}
-use Rattle.machine.specs.Change.{nobody, only, goesTo}
-use Rattle.machine.specs.Serve.{bareDown, orderOf, sendsOf, ordered, countOf, closedBlock, grantOf, close, readyWith, readyOf, serviceFor, serveMove, serveReady, serveOf}
+use Rattle.machine.specs.Change.{nobody, only, goesTo, commitMove}
+use Rattle.machine.specs.Serve.{bareDown, orderOf, sendsOf, ordered, countOf, closedBlock, grantOf, close, serviceFor, serveMove, serveOf}
 use Rattle.machine.specs.Flat.{flatBlock}
 use Rattle.machine.specs.Sized.{LaneSized}
 use Rattle.machine.proofs.Sound.{sound}
@@ -45,8 +42,9 @@ use Rattle.machine.proofs.Moves.{waitSeen, sendAll, serveState}
 use Rattle.machine.proofs.MemoryClose.{close-keeps}
 use Rattle.machine.proofs.MemoryServe.{serve-opens}
 use Rattle.machine.proofs.Project.{project-here}
-use Rattle.machine.proofs.Consistent.{Consistent, StaysConsistent, refused-consistent, guarded-rule}
+use Rattle.machine.proofs.Consistent.{Consistent, StaysConsistent, refused-consistent}
 use Rattle.machine.proofs.ConsistentMove.{Shows, commit-consistent}
+use Rattle.machine.proofs.Rules.{serve-rule}
 
 -- none below n passes a test that counts none
 count-none : (p : ℕ → Bool) (n : ℕ) → countTo p n ≡ 0 → (j : ℕ) → j < n → p j ≡ false
@@ -184,20 +182,13 @@ module _ (s : Store) (f : List ℕ) (i : Consistent s f) (k : LaneNo) (h : k .0 
         here = λ g. rw (project-here s k x _ g, seen-here, no-service) (closed none);
       }
 
-  pub ready-consistent : StaysConsistent s f (serveReady (Ready.Go o) s k)
+  pub ready-consistent : StaysConsistent s f (commitMove s k x (serveMove k o (laneAt s (k .0)) b (s .control)))
   unfolding serveMove
   ready-consistent =
       commit-consistent s f i k lane-below x (serveMove k o (laneAt s (k .0)) b (s .control))
       (pick (Shows s f k x) (eqb (countOf to) 0) _ _ (λ q. close-shows (eqb-true _ _ q)) (λ q. open-shows))
 
 pub serve-consistent : (s : Store) (f : List ℕ) (k : LaneNo) → Consistent s f → StaysConsistent s f (serveOf s k)
-unfolding serveOf readyOf
-serve-consistent s f k i = guarded-rule (StaysConsistent s f) s k _ (λ x. refused-consistent s f x i) (λ h. go h (laneAt s (k .0) .waiting) refl)
-  where
-    go : k .0 < s .n → (w : Waiting) → laneAt s (k .0) .waiting ≡ w → StaysConsistent s f (serveReady (readyWith w (laneAt s (k .0)) (s .control)) s k)
-    go h Idle e = refused-consistent s f NothingPending i
-    go h (Served o) e = refused-consistent s f NothingPending i
-    go h (Unserved o) e =
-        pick (λ (y : Ready). StaysConsistent s f (serveReady y s k)) (busyOf (s .control)) _ _ (λ _. refused-consistent s f ControlBusy i)
-        (λ q. pick (λ (y : Ready). StaysConsistent s f (serveReady y s k)) (ltb 0 (laneAt s (k .0) .returns .len)) _ _ (λ _. refused-consistent s f ReturnsPending i)
-        (λ d. let p = ltb-false 0 (laneAt s (k .0) .returns .len) d in ready-consistent s f i k h o e (not-busy (s .control) q) (omega arith)))
+serve-consistent s f k i =
+    serve-rule (StaysConsistent s f) s k (λ x. refused-consistent s f x i)
+    (λ o r. ready-consistent s f i k (r .lane) o (r .unserved) (not-busy (s .control) (r .free)) (r .clear))

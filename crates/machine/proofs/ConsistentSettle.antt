@@ -1,17 +1,15 @@
 -- Settle keeps a store consistent: it is a list of deliver, return and serve. Assumes nothing.
-use Prim.Native.Nat.{ℕ, zero, suc}
+use Prim.Native.Nat.{ℕ, suc}
 use mathlib.Core.Path.{refl}
 use mathlib.Core.List.{List, [], _∷_, _++_}
-use lib.Dec.{ltb}
 use Rattle.words.specs.declared.LaneNo.{LaneNo}
-use Rattle.words.proofs.Folds.{by-cond}
 use Rattle.answers.specs.declared.Completion.{Completion}
 use Rattle.store.specs.declared.Store.{Store}
 use Rattle.store.specs.declared.Outcome.{Outcome}
 use Rattle.machine.specs.Serve.{serveOf}
 use Rattle.machine.specs.Return.{returnOf}
 use Rattle.machine.specs.Deliver.{deliverOf}
-use Rattle.machine.specs.Settle.{settleStep, boundOf, Progress, doneIn, advance, ended, repeatStep, Settlement, settleOf}
+use Rattle.machine.specs.Settle.{settleStep, boundOf, Progress, doneIn, advance, repeatStep, Settlement, settleOf, lane}
 use Rattle.machine.specs.Calls.{Settles, completionsOf}
 use Rattle.machine.proofs.Sound.{sound}
 use Rattle.machine.proofs.Keeps.{serve-keeps, return-keeps, deliver-keeps}
@@ -22,6 +20,7 @@ use Rattle.machine.proofs.Consistent.{Consistent, pendingIn}
 use Rattle.machine.proofs.ConsistentServe.{serve-consistent}
 use Rattle.machine.proofs.ConsistentReturn.{return-consistent}
 use Rattle.machine.proofs.ConsistentDeliver.{deliver-consistent}
+use Rattle.machine.proofs.RulesSettle.{step-rule, repeat-rule}
 
 -- completions xs lead from the store s with flat memory f to a consistent store t
 abbrev pub Leads : Store → List ℕ → List Completion → Store → Type 0
@@ -44,13 +43,9 @@ deliver-leads s f k i =
     (r .flat, record { sound = deliver-keeps s k (i .sound) w; sized = deliver-sized s k (i .sized); unique = r .unique; block = r .block }, r .completes)
 
 pub step-leads : (s : Store) (f : List ℕ) → Consistent s f → Leads s f (doneIn (settleStep s .answer)) (settleStep s .store)
-unfolding settleStep
 step-leads s f i =
-    by-cond P (ltb _ (s .n)) _ _ (deliver-leads s f _ i)
-    (by-cond P (ltb _ (s .n)) _ _ (return-leads s f _ i) (by-cond P (ltb _ (s .n)) _ _ (serve-leads s f _ i) (f, i, (refl, refl))))
-  where
-    P : Outcome → Type 0
-    P r = Leads s f (doneIn (r .answer)) (r .store)
+    step-rule (λ (r : Outcome). Leads s f (doneIn (r .answer)) (r .store)) s (λ k _ _. deliver-leads s f (lane k) i) (λ _ k _ _. return-leads s f (lane k) i)
+    (λ _ _ k _ _. serve-leads s f (lane k) i) (λ _ _ _. (f, i, (refl, refl)))
 
 -- completions after completions
 completes-more : (p : ℕ → Pending) (f : List ℕ) (xs ys : List Completion) (q r : ℕ → Pending) (g h : List ℕ) → Completes p f xs q g → Completes q g ys r h → Completes p f (xs ++ ys) r h
@@ -64,10 +59,7 @@ advance-leads s f p l =
     (r .0, r .1, completes-more (pendingIn s) f (p .completions) (doneIn (settleStep (p .store) .answer)) (pendingIn (p .store)) (pendingIn (settleStep (p .store) .store)) (l .0) (r .0) (l .2) (r .2))
 
 repeat-leads : (n : ℕ) (s : Store) (f : List ℕ) (p : Progress) → Leads s f (p .completions) (p .store) → Leads s f (repeatStep n p .completions) (repeatStep n p .store)
-unfolding repeatStep
-repeat-leads zero s f p l = l
-repeat-leads (suc n) s f p l =
-    by-cond (λ (r : Progress). Leads s f (r .completions) (r .store)) (ended p) p (repeatStep n (advance p)) l (repeat-leads n s f (advance p) (advance-leads s f p l))
+repeat-leads n s f p l = repeat-rule (λ (r : Progress). Leads s f (r .completions) (r .store)) (λ q _. advance-leads s f q) n p l
 
 pub settle-leads : (s : Store) (f : List ℕ) → Consistent s f →
     Leads s f (completionsOf (Settles (settleOf s .answer) (settleOf s .completions))) (settleOf s .store)

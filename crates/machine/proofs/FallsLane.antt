@@ -36,11 +36,12 @@ use Rattle.lanes.specs.Waits.{idleOf, unservedOf}
 use Rattle.lanes.specs.Lanes.{withWaiting, withReturns, withDowns, withLine}
 use Rattle.answers.specs.declared.Refusal.{Refusal}
 use Rattle.answers.specs.declared.Refusal.the-variants.{NothingPending, QueueFull, Unexpected}
-use Rattle.answers.specs.Refusals.{refusedOf}
 use Rattle.machine.specs.declared.LaneStep.{LaneStep}
 use Rattle.machine.specs.declared.Ready.{Ready}
 use Rattle.machine.specs.declared.Ready.the-variants.{Go, No}
-use Rattle.machine.specs.Change.{refuseLane, posted}
+use Rattle.machine.specs.declared.LaneAnswer.the-variants.{Value, Waits, Stepped}
+use Rattle.machine.specs.declared.LaneAnswer.{LaneAnswer}
+use Rattle.machine.specs.Change.{refuseLane, posted, refusedIn, answerTo}
 use Rattle.machine.specs.Begin.{complete}
 use Rattle.machine.specs.Deliver.{reply, shared, updateAt, purgeAt, fillAt, grantAt, bareAt, servedOn, grantTo, bareTo, deliverKind, deliverLane}
 use Rattle.machine.specs.Settle.{isOrder, downsOf, doneIn}
@@ -128,14 +129,27 @@ taken-weight u l g s e =
     let a = leave-weight (l .downs .len) (l .downs .at) (g .downs) (omega (arith, n)) s in
     rw e (omega arith)
 
+-- how many operations complete in a lane's part
+abbrev pub completed : LaneAnswer → ℕ
+completed (Value v) = 1
+completed Waits = 0
+completed Stepped = 0
+completed (LaneAnswer.Refused x) = 0
+
+pub completed-done : (k : LaneNo) (a : LaneAnswer) → length (doneIn (answerTo k a)) ≡ completed a
+completed-done k (Value v) = refl
+completed-done k Waits = refl
+completed-done k Stepped = refl
+completed-done k (LaneAnswer.Refused x) = refl
+
 -- a lane's part of a step that took a message of price x: the lane is lighter, and a completion is of the operation that waited
 pub record Taken (u x : ℕ) (l : Lane) (r : LaneStep) : Type 0 where
   pub lighter : weight u (r .lane) < weight u l + x
-  pub completes : length (doneIn (r .answer)) + waits (r .lane) ≡ waits l
+  pub completes : completed (r .answer) + waits (r .lane) ≡ waits l
 
 -- .. unless it is refused
 abbrev pub Takes : ℕ → ℕ → Lane → LaneStep → Type 0
-Takes u x l r = refusedOf (r .answer) ≡ false → Taken u x l r
+Takes u x l r = refusedIn (r .answer) ≡ false → Taken u x l r
 
 refused-takes : (u x : ℕ) (l : Lane) (n : Refusal) → Takes u x l (refuseLane n l)
 refused-takes u x l n e = absurd (true≢false e)
@@ -151,12 +165,12 @@ unfolding weight
 line-takes u y i x l e = let t = reply-takes u y (withLine i x l) e in record { lighter = t .lighter; completes = t .completes }
 
 -- an operation completes
-complete-takes : (u c : ℕ) (k : LaneNo) (i : LineNo) (x : Line) (op : Op) (w : WordNo) (l : Lane) (o : Operation) → l .waiting ≡ Served o →
-    Takes u 1 l (complete c k i x op w l)
+complete-takes : (u c : ℕ) (i : LineNo) (x : Line) (op : Op) (w : WordNo) (l : Lane) (o : Operation) → l .waiting ≡ Served o →
+    Takes u 1 l (complete c i x op w l)
 unfolding complete weight
-complete-takes u c k i x op w l o e h = record { lighter = omega arith; completes = sym (ap (λ (y : Waiting). cond (not (idleOf y)) 1 0) e) }
+complete-takes u c i x op w l o e h = record { lighter = omega arith; completes = sym (ap (λ (y : Waiting). cond (not (idleOf y)) 1 0) e) }
 
-module _ (u c : ℕ) (k : LaneNo) (l : Lane) where
+module _ (u c : ℕ) (l : Lane) where
   update-takes : (a : BlockNo) (f : Found) → Takes u 2 l (updateAt f a l)
   update-takes a (At i) = line-takes u _ i (shared (lineAt l i)) l
   update-takes a Nothing = reply-takes u _ l
@@ -165,47 +179,47 @@ module _ (u c : ℕ) (k : LaneNo) (l : Lane) where
   purge-takes a (At i) = line-takes u _ i (invalid (lineAt l i)) l
   purge-takes a Nothing = reply-takes u _ l
 
-  fill-takes : (x : DownMessage) (o : Operation) (f : Found) → l .waiting ≡ Served o → Takes u 1 l (fillAt f c k x o l)
-  fill-takes x o (At i) e = complete-takes u c k i _ (o .op) (o .word) l o e
+  fill-takes : (x : DownMessage) (o : Operation) (f : Found) → l .waiting ≡ Served o → Takes u 1 l (fillAt f c x o l)
+  fill-takes x o (At i) e = complete-takes u c i _ (o .op) (o .word) l o e
   fill-takes x o Nothing e = refused-takes u 1 l _
 
-  grant-takes : (x : DownMessage) (o : Operation) (f : Found) → l .waiting ≡ Served o → Takes u 1 l (grantAt f c k x o l)
+  grant-takes : (x : DownMessage) (o : Operation) (f : Found) → l .waiting ≡ Served o → Takes u 1 l (grantAt f c x o l)
   grant-takes x o (At i) e = refused-takes u 1 l _
   grant-takes x o Nothing e = fill-takes x o (vacantOf l c) e
 
-  bare-takes : (o : Operation) (f : Found) → l .waiting ≡ Served o → Takes u 1 l (bareAt f c k o l)
-  bare-takes o (At i) e = complete-takes u c k i _ (o .op) (o .word) l o e
+  bare-takes : (o : Operation) (f : Found) → l .waiting ≡ Served o → Takes u 1 l (bareAt f c o l)
+  bare-takes o (At i) e = complete-takes u c i _ (o .op) (o .word) l o e
   bare-takes o Nothing e = refused-takes u 1 l _
 
   -- a grant is to the operation that is served, or is refused
-  grants-take : (x : DownMessage) (w : Waiting) → l .waiting ≡ w → Takes u 1 l (grantTo (servedOn w (x .block)) c k x l)
+  grants-take : (x : DownMessage) (w : Waiting) → l .waiting ≡ w → Takes u 1 l (grantTo (servedOn w (x .block)) c x l)
   grants-take x Idle e = refused-takes u 1 l _
   grants-take x (Unserved o) e = refused-takes u 1 l _
   grants-take x (Served o) e =
-      by-cond (λ (r : Ready). Takes u 1 l (grantTo r c k x l)) (eqb (blockOf (o .word) .0) (x .block .0)) (Go o) (No Unexpected)
+      by-cond (λ (r : Ready). Takes u 1 l (grantTo r c x l)) (eqb (blockOf (o .word) .0) (x .block .0)) (Go o) (No Unexpected)
       (grant-takes x o (searchOf l c (x .block)) e) (refused-takes u 1 l _)
 
-  bares-take : (x : DownMessage) (w : Waiting) → l .waiting ≡ w → Takes u 1 l (bareTo (servedOn w (x .block)) c k x l)
+  bares-take : (x : DownMessage) (w : Waiting) → l .waiting ≡ w → Takes u 1 l (bareTo (servedOn w (x .block)) c x l)
   bares-take x Idle e = refused-takes u 1 l _
   bares-take x (Unserved o) e = refused-takes u 1 l _
   bares-take x (Served o) e =
-      by-cond (λ (r : Ready). Takes u 1 l (bareTo r c k x l)) (eqb (blockOf (o .word) .0) (x .block .0)) (Go o) (No Unexpected)
+      by-cond (λ (r : Ready). Takes u 1 l (bareTo r c x l)) (eqb (blockOf (o .word) .0) (x .block .0)) (Go o) (No Unexpected)
       (bare-takes o (searchOf l c (x .block)) e) (refused-takes u 1 l _)
 
   -- what a message does in a lane that has taken it
-  kind-takes : (y : DownKind) (x : DownMessage) → Takes u (price y) l (deliverKind y c k x l)
+  kind-takes : (y : DownKind) (x : DownMessage) → Takes u (price y) l (deliverKind y c x l)
   kind-takes Update x = update-takes (x .block) (searchOf l c (x .block))
   kind-takes Purge x = purge-takes (x .block) (searchOf l c (x .block))
   kind-takes Grant x = grants-take x (l .waiting) refl
   kind-takes BareGrant x = bares-take x (l .waiting) refl
 
 -- the lane's part of deliver
-pub deliver-lane-takes : (u c : ℕ) (k : LaneNo) (l : Lane) → LaneSized l → l .downs .len ≤ 2 → Takes u 0 l (deliverLane c k l)
+pub deliver-lane-takes : (u c : ℕ) (l : Lane) → LaneSized l → l .downs .len ≤ 2 → Takes u 0 l (deliverLane c l)
 unfolding deliverLane
-deliver-lane-takes u c k l g s =
+deliver-lane-takes u c l g s =
     pick (λ (r : LaneStep). Takes u 0 l r) (emptyAt (l .downs .len)) (refuseLane NothingPending l) _ (λ _. refused-takes u 0 l _)
     (λ q e.
-    let t = kind-takes u c k (withDowns (takeDown (l .downs) .queue) l) (headDown (l .downs) .kind) (headDown (l .downs)) e in
+    let t = kind-takes u c (withDowns (takeDown (l .downs) .queue) l) (headDown (l .downs) .kind) (headDown (l .downs)) e in
     let a = t .lighter in
     let b = taken-weight u l g s q in
     record { lighter = rw e (omega arith); completes = rw e (t .completes) })

@@ -1,6 +1,6 @@
 -- Settle's bound is what the lanes and the control add; what a lane, or memory's part of a call, put back makes of it. Assumes nothing.
 use Prim.Native.Nat.{ℕ, _+_, _*_, _<_, _≤_}
-use mathlib.Core.Path.{_≡_, refl, sym, ap, _∙_}
+use mathlib.Core.Path.{_≡_, refl, sym, ap}
 use mathlib.Core.Bool.{Bool, true, false, cond, _&&_, true≢false}
 use mathlib.Core.List.{List}
 use lib.ListN.{length, getD, set}
@@ -10,28 +10,28 @@ use native.Mathlib.Nat.{add-zero}
 use Rattle.words.specs.declared.LaneNo.{LaneNo}
 use Rattle.words.specs.declared.BlockNo.{BlockNo}
 use Rattle.words.specs.Folds.{countTo, sumTo}
-use Rattle.words.proofs.Folds.{any-false, by-cond, pick}
+use Rattle.words.proofs.Folds.{any-false, by-cond}
 use Rattle.queues.specs.declared.DownMessage.{DownMessage}
 use Rattle.queues.specs.Queues.{fullAt}
 use Rattle.lanes.specs.declared.Lane.{Lane}
 use Rattle.lanes.specs.Waits.{unservedOf}
-use Rattle.answers.specs.declared.Refusal.the-variants.{QueueFull}
 use Rattle.answers.specs.Refusals.{refusedOf}
 use Rattle.store.specs.declared.Store.{Store}
 use Rattle.store.specs.declared.Control.{Control}
 use Rattle.store.specs.declared.Outcome.{Outcome}
 use Rattle.store.specs.Control.{busyOf}
-use Rattle.store.specs.Stores.{noLane, laneAt}
+use Rattle.store.specs.Stores.{noLane, laneAt, withLane}
 use Rattle.machine.specs.declared.LaneStep.{LaneStep}
 use Rattle.machine.specs.declared.Move.{Move}
-use Rattle.machine.specs.Change.{refuse, commitLane, goesTo, someFull, posted, postAll, commitMove}
+use Rattle.machine.specs.Change.{commitLane, goesTo, someFull, posted, postAll, commitMove, refusedIn, answerTo, movedStore}
 use Rattle.machine.specs.Settle.{downsOf, boundOf, doneIn}
 use Rattle.machine.specs.Sized.{LaneSized, Sized}
 use Rattle.machine.proofs.Tests.{and-right}
 use Rattle.machine.proofs.Sums.{sum-same, sum-change, sum-grown, sum-weights}
 use Rattle.machine.proofs.Posts.{post-all-at}
 use Rattle.machine.proofs.SizedKeeps.{LanesSized, set-lane-sized, lanes-sized}
-use Rattle.machine.proofs.FallsLane.{price, weight, waits, posted-weight, posted-waits, Takes}
+use Rattle.machine.proofs.FallsLane.{price, weight, waits, posted-weight, posted-waits, Takes, completed-done}
+use Rattle.machine.proofs.Rules.{lane-rule, move-rule}
 
 -- what the first n lanes add
 abbrev pub lanesWeight : ℕ → List Lane → ℕ → ℕ
@@ -72,15 +72,18 @@ set-sum w ls k n l h g =
 -- lane k after its part of a call
 pub commit-lane-advances : (s : Store) (k : LaneNo) (r : LaneStep) → length (s .lanes) ≡ 8 → s .n ≤ 8 → k .0 < s .n →
     Takes (2 * s .n) 0 (laneAt s (k .0)) r → Advancing s (commitLane s k r)
-unfolding commitLane
-commit-lane-advances s k r g h l t e =
-    let p = t e .lighter in
-    let q = t e .completes in
-    let a = set-sum (weight (2 * s .n)) (s .lanes) (k .0) (s .n) (r .lane) l (omega arith) in
-    let b = set-sum waits (s .lanes) (k .0) (s .n) (r .lane) l (omega arith) in
-    let c = bound-sum s in
-    let d = bound-sum (record { n = s .n; c = s .c; m = s .m; control = s .control; lanes = set (s .lanes) (k .0) (r .lane); blocks = s .blocks }) in
-    record { falls = rw e (omega arith); completes = rw e (omega arith) }
+commit-lane-advances s k r g h l t = lane-rule (Advancing s) s k r (λ _ _ e. absurd (true≢false e)) (λ e _. put e)
+  where
+    put : refusedIn (r .answer) ≡ false → Advances s (record { answer = answerTo k (r .answer); store = withLane s (k .0) (r .lane) })
+    put e =
+        let p = t e .lighter in
+        let q = t e .completes in
+        let o = completed-done k (r .answer) in
+        let a = set-sum (weight (2 * s .n)) (s .lanes) (k .0) (s .n) (r .lane) l (omega arith) in
+        let b = set-sum waits (s .lanes) (k .0) (s .n) (r .lane) l (omega arith) in
+        let c = bound-sum s in
+        let d = bound-sum (withLane s (k .0) (r .lane)) in
+        record { falls = omega arith; completes = omega arith }
 
 -- a message is sent to some lanes, none of them full
 module _ (to : List Bool) (x : DownMessage) (ls : List Lane) (n : ℕ) (h : n ≤ 8) (g : LanesSized ls) where
@@ -116,19 +119,13 @@ pub record Lowers (n u : ℕ) (l : Lane) (x : Control) (v : Move) : Type 0 where
 -- the store after memory's part of a call
 pub commit-move-advances : (s : Store) (k : LaneNo) (a : BlockNo) (v : Move) → Sized s → s .n ≤ 8 → k .0 < s .n → (k .0 < 8 → LaneSized (v .lane)) →
     (refusedOf (v .answer) ≡ false → Lowers (s .n) (2 * s .n) (laneAt s (k .0)) (s .control) v) → Advancing s (commitMove s k a v)
-unfolding commitMove
-commit-move-advances s k a v g h l f t =
-    pick (Advancing s) (refusedOf (v .answer)) _ _ (λ q e. absurd (true≢false (sym q ∙ e)))
-    (λ q. pick (Advancing s) (someFull (v .to) (set (s .lanes) (k .0) (v .lane))) (refuse QueueFull s) _ (λ _ e. absurd (true≢false e)) (λ o _. moved (t q) o))
+commit-move-advances s k a v g h l f t = move-rule (Advancing s) s k a v (λ _ e. absurd (true≢false e)) (λ q o _. put (t q) o)
   where
     after : List Lane
     after = set (s .lanes) (k .0) (v .lane)
 
-    next : Store
-    next = record { n = s .n; c = s .c; m = s .m; control = v .control; lanes = postAll (v .to) (v .message) after; blocks = set (s .blocks) (a .0) (v .block) }
-
-    moved : Lowers (s .n) (2 * s .n) (laneAt s (k .0)) (s .control) v → someFull (v .to) after ≡ false → Advances s (record { answer = v .answer; store = next })
-    moved w o =
+    put : Lowers (s .n) (2 * s .n) (laneAt s (k .0)) (s .control) v → someFull (v .to) after ≡ false → Advances s (record { answer = v .answer; store = movedStore s k a v })
+    put w o =
         let z = set-lane-sized (s .lanes) (k .0) (v .lane) (lanes-sized s g) f in
         let i = g .lanes in
         let p = w .lighter in
@@ -139,5 +136,5 @@ commit-move-advances s k a v g h l f t =
         let a₁ = post-weight (v .to) (v .message) after (s .n) h z (2 * s .n) o in
         let b₁ = post-waits (v .to) (v .message) after (s .n) h z in
         let c₀ = bound-sum s in
-        let c₁ = bound-sum next in
+        let c₁ = bound-sum (movedStore s k a v) in
         record { falls = omega arith; completes = omega arith }

@@ -1,5 +1,5 @@
 -- Begin keeps a store within bounds. Assumes nothing.
-use Prim.Native.Nat.{ℕ, zero, suc, _+_, _*_, _<_, _≤_}
+use Prim.Native.Nat.{ℕ, zero, suc, _+_, _<_, _≤_}
 use mathlib.Core.Logic.{_⊎_, inl, inr, _≢_}
 use mathlib.Core.Path.{_≡_, refl}
 use mathlib.Core.Bool.{Bool, true, false, not, cond, _||_}
@@ -16,7 +16,7 @@ use Rattle.words.specs.declared.Op.{Op}
 use Rattle.words.specs.Lines.{noLine, invalid}
 use Rattle.words.specs.Units.{blockOf}
 use Rattle.words.specs.Operations.{isLoad}
-use Rattle.words.proofs.Folds.{by-cond, pick}
+use Rattle.words.proofs.Folds.{by-cond}
 use Rattle.queues.specs.declared.ReturnMessage.{ReturnMessage}
 use Rattle.queues.specs.Queues.{noReturn}
 use Rattle.lanes.specs.declared.Lane.{Lane}
@@ -25,20 +25,18 @@ use Rattle.lanes.specs.declared.Found.{Found}
 use Rattle.lanes.specs.declared.Found.the-variants.{At, Nothing}
 use Rattle.lanes.specs.Search.{lineAt, firstFrom, searchOf, vacantOf}
 use Rattle.lanes.specs.UseOrder.{placeAt}
-use Rattle.lanes.specs.Waits.{idleOf}
 use Rattle.lanes.specs.Lanes.{withLine}
-use Rattle.answers.specs.declared.Refusal.the-variants.{NoSuchWord, LaneBusy}
 use Rattle.store.specs.declared.Store.{Store}
 use Rattle.store.specs.declared.Outcome.{Outcome}
 use Rattle.store.specs.Stores.{laneAt}
 use Rattle.machine.specs.declared.LaneStep.{LaneStep}
-use Rattle.machine.specs.Change.{refuse, refuseLane}
 use Rattle.machine.specs.Begin.{complete, waits, hit, readOf, ejectOf, evict, missWith, miss, beginAt, beginLane, beginOf}
 use Rattle.machine.proofs.Tests.{on}
 use Rattle.machine.proofs.Sets.{same?}
 use Rattle.machine.proofs.KeepsLane.{LaneFit, clash, join-keeps, with-line, with-returns, with-unserved, complete-keeps}
-use Rattle.machine.proofs.KeepsStore.{Fit, lane-fit, guarded-keeps, commit-lane-keeps}
+use Rattle.machine.proofs.KeepsStore.{Fit, lane-fit, commit-lane-keeps}
 use Rattle.machine.proofs.KeepsDeliver.{found-below}
+use Rattle.machine.proofs.Rules.{begin-rule}
 
 -- no line passes the test, so line j does not
 pub first-nothing : (p : Line → Bool) (ls : List Line) (n k : ℕ) → firstFrom p ls n k ≡ Nothing → (j : ℕ) → k ≤ j → j < k + n → p (getD ls j noLine) ≡ false
@@ -57,12 +55,12 @@ pub all-valid : (l : Lane) (c : ℕ) → vacantOf l c ≡ Nothing → (j : ℕ) 
 all-valid l c e j h =
     not-false (getD (l .lines) j noLine .valid) (first-nothing (λ (x : Line). not (x .valid)) (l .lines) c 0 e j (omega arith) (omega arith))
 
-module _ (h c m : ℕ) (c₀ : 1 ≤ c) (c₁ : c ≤ h) (z : 1 ≤ m) (k : LaneNo) (op : Op) (w : WordNo) (b : blockOf w .0 < m) (l : Lane) (g : LaneFit h c m l) where
-  hit-keeps : (i : LineNo) → i .0 < c → LaneFit h c m (hit c k i op w l .lane)
+module _ (h c m : ℕ) (c₀ : 1 ≤ c) (c₁ : c ≤ h) (z : 1 ≤ m) (op : Op) (w : WordNo) (b : blockOf w .0 < m) (l : Lane) (g : LaneFit h c m l) where
+  hit-keeps : (i : LineNo) → i .0 < c → LaneFit h c m (hit c i op w l .lane)
   unfolding hit
   hit-keeps i p =
-      by-cond (λ (r : LaneStep). LaneFit h c m (r .lane)) (isLoad op || lineAt l i .private) (complete c k i (lineAt l i) op w l) (waits Exclude op w l)
-      (complete-keeps h c m l g k i (lineAt l i) op w c₀ c₁ (g .sound .lines (i .0) p))
+      by-cond (λ (r : LaneStep). LaneFit h c m (r .lane)) (isLoad op || lineAt l i .private) (complete c i (lineAt l i) op w l) (waits Exclude op w l)
+      (complete-keeps h c m l g i (lineAt l i) op w c₀ c₁ (g .sound .lines (i .0) p))
       (with-unserved h c m l g (record { command = Exclude; op = op; word = w }) b)
 
   -- the line given up is valid, so its block is one of the store's
@@ -84,23 +82,18 @@ module _ (h c m : ℕ) (c₀ : 1 ≤ c) (c₁ : c ≤ h) (z : 1 ≤ m) (k : Lane
       let o = g .sound .order .named 0 c₀ in
       evict-keeps (placeAt (l .order) 0) (g .sound .lines (placeAt (l .order) 0 .0) o (all-valid l c e (placeAt (l .order) 0 .0) o))
 
-  at-keeps : (f : Found) → searchOf l c (blockOf w) ≡ f → LaneFit h c m (beginAt f c k op w l .lane)
+  at-keeps : (f : Found) → searchOf l c (blockOf w) ≡ f → LaneFit h c m (beginAt f c op w l .lane)
   unfolding miss
   at-keeps (At i) e = hit-keeps i (found-below l c (blockOf w) i e)
   at-keeps Nothing e = miss-keeps (vacantOf l c) refl
 
   -- the lane's part of begin
-  pub begin-lane-keeps : LaneFit h c m (beginLane c k op w l .lane)
+  pub begin-lane-keeps : LaneFit h c m (beginLane c op w l .lane)
   unfolding beginLane
-  begin-lane-keeps =
-      by-cond (λ (r : LaneStep). LaneFit h c m (r .lane)) (idleOf (l .waiting)) (beginAt (searchOf l c (blockOf w)) c k op w l) (refuseLane LaneBusy l)
-      (at-keeps (searchOf l c (blockOf w)) refl) g
+  begin-lane-keeps = at-keeps (searchOf l c (blockOf w)) refl
 
 pub begin-fit : (h : ℕ) (s : Store) (k : LaneNo) (op : Op) (w : WordNo) → s .c ≤ h → Fit h s → Fit h (beginOf s k op w .store)
-unfolding beginOf
 begin-fit h s k op w b g =
-    guarded-keeps (Fit h) s k _ g
-    (λ _ l. pick (λ (r : Outcome). Fit h (r .store)) (leb (4 * s .m) (w .0)) (refuse NoSuchWord s) _ (λ _. g)
-    (λ e. commit-lane-keeps h s k _ g
-    (let v = leb-false (4 * s .m) (w .0) e in
-    begin-lane-keeps h (s .c) (s .m) (g .sound .c-low) b (g .sound .m-low) k op w (omega arith) (laneAt s (k .0)) (lane-fit h s g (k .0) l))))
+    begin-rule (λ (r : Outcome). Fit h (r .store)) s k op w (λ _. g)
+    (λ r. commit-lane-keeps h s k _ g
+    (begin-lane-keeps h (s .c) (s .m) (g .sound .c-low) b (g .sound .m-low) op w (r .inside) (laneAt s (k .0)) (lane-fit h s g (k .0) (r .lane))))

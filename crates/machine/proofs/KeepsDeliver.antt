@@ -1,14 +1,13 @@
 -- Deliver keeps a store within bounds. Assumes nothing.
 use Prim.Native.Nat.{ℕ, _<_, _≤_}
 use mathlib.Core.Path.{_≡_, refl}
-use mathlib.Core.Bool.{true, false}
 use lib.ListN.{getD}
 use native.Mathlib.Omega.{arith}
 use Rattle.words.specs.declared.LaneNo.{LaneNo}
 use Rattle.words.specs.declared.LineNo.{LineNo}
 use Rattle.words.specs.declared.BlockNo.{BlockNo}
 use Rattle.words.specs.declared.Line.{Line}
-use Rattle.words.specs.Lines.{holdsOf, invalid}
+use Rattle.words.specs.Lines.{holdsOf, invalid, filledLine}
 use Rattle.words.proofs.Folds.{by-cond, pick}
 use Rattle.queues.specs.declared.ReturnMessage.{ReturnMessage}
 use Rattle.queues.specs.declared.ReturnKind.the-variants.{Updated, Gone}
@@ -24,17 +23,18 @@ use Rattle.lanes.specs.Search.{lineAt, searchOf, vacantOf}
 use Rattle.lanes.specs.Lanes.{withDowns, withLine}
 use Rattle.lanes.proofs.Firsts.{first-bound}
 use Rattle.answers.specs.declared.Refusal.the-variants.{NothingPending}
-use Rattle.answers.specs.Refusals.{refusedOf}
 use Rattle.store.specs.declared.Store.{Store}
+use Rattle.store.specs.declared.Outcome.{Outcome}
 use Rattle.store.specs.Stores.{laneAt}
 use Rattle.machine.specs.declared.LaneStep.{LaneStep}
 use Rattle.machine.specs.declared.Ready.{Ready}
 use Rattle.machine.specs.declared.Ready.the-variants.{Go, No}
-use Rattle.machine.specs.Change.{refuseLane}
+use Rattle.machine.specs.Change.{refuseLane, refusedIn}
 use Rattle.machine.specs.Begin.{bareReturn, wordsReturn}
 use Rattle.machine.specs.Deliver.{shared, updateAt, purgedOf, purgeAt, claimed, fillAt, grantAt, bareAt, servedOn, grantTo, bareTo, deliverKind, deliverLane, deliverOf}
 use Rattle.machine.proofs.KeepsLane.{LaneFit, clash, with-line, complete-keeps, reply-keeps, taken-keeps, head-inside}
-use Rattle.machine.proofs.KeepsStore.{Fit, lane-fit, guarded-keeps, commit-lane-keeps}
+use Rattle.machine.proofs.KeepsStore.{Fit, lane-fit, commit-lane-keeps}
+use Rattle.machine.proofs.Rules.{deliver-rule}
 
 -- the line that Search finds is one of the c lines
 pub found-below : (l : Lane) (c : ℕ) (a : BlockNo) (i : LineNo) → searchOf l c a ≡ At i → i .0 < c
@@ -54,50 +54,49 @@ module _ (h c m : ℕ) (c₀ : 1 ≤ c) (c₁ : c ≤ h) (z : 1 ≤ m) (l : Lane
       (purgedOf a (lineAt l i)) z (by-cond (λ (x : ReturnMessage). x .block .0 < m) (lineAt l i .private) _ _ b b)
   purge-keeps a b Nothing = reply-keeps h c m l g (bareReturn Gone a) z b
 
-  fill-keeps : (k : LaneNo) (x : DownMessage) (o : Operation) → x .block .0 < m → (f : Found) → LaneFit h c m (fillAt f c k x o l .lane)
-  fill-keeps k x o b (At i) =
-      complete-keeps h c m l g k i (claimed (o .op) (record { valid = true; private = false; block = x .block; words = x .words })) (o .op) (o .word) c₀ c₁ (λ _. b)
-  fill-keeps k x o b Nothing = g
+  fill-keeps : (x : DownMessage) (o : Operation) → x .block .0 < m → (f : Found) → LaneFit h c m (fillAt f c x o l .lane)
+  fill-keeps x o b (At i) =
+      complete-keeps h c m l g i (claimed (o .op) (filledLine (x .block) (x .words))) (o .op) (o .word) c₀ c₁ (λ _. b)
+  fill-keeps x o b Nothing = g
 
-  grant-keeps : (k : LaneNo) (x : DownMessage) (o : Operation) → x .block .0 < m → (f : Found) → LaneFit h c m (grantAt f c k x o l .lane)
-  grant-keeps k x o b (At i) = g
-  grant-keeps k x o b Nothing = fill-keeps k x o b (vacantOf l c)
+  grant-keeps : (x : DownMessage) (o : Operation) → x .block .0 < m → (f : Found) → LaneFit h c m (grantAt f c x o l .lane)
+  grant-keeps x o b (At i) = g
+  grant-keeps x o b Nothing = fill-keeps x o b (vacantOf l c)
 
-  bare-keeps : (k : LaneNo) (o : Operation) (a : BlockNo) (f : Found) → searchOf l c a ≡ f → LaneFit h c m (bareAt f c k o l .lane)
-  bare-keeps k o a (At i) e =
-      complete-keeps h c m l g k i (claimed (o .op) (lineAt l i)) (o .op) (o .word) c₀ c₁ (g .sound .lines (i .0) (found-below l c a i e))
-  bare-keeps k o a Nothing e = g
+  bare-keeps : (o : Operation) (a : BlockNo) (f : Found) → searchOf l c a ≡ f → LaneFit h c m (bareAt f c o l .lane)
+  bare-keeps o a (At i) e =
+      complete-keeps h c m l g i (claimed (o .op) (lineAt l i)) (o .op) (o .word) c₀ c₁ (g .sound .lines (i .0) (found-below l c a i e))
+  bare-keeps o a Nothing e = g
 
-  grants-keep : (k : LaneNo) (x : DownMessage) → x .block .0 < m → (r : Ready) → LaneFit h c m (grantTo r c k x l .lane)
-  grants-keep k x b (No n) = g
-  grants-keep k x b (Go o) = grant-keeps k x o b (searchOf l c (x .block))
+  grants-keep : (x : DownMessage) → x .block .0 < m → (r : Ready) → LaneFit h c m (grantTo r c x l .lane)
+  grants-keep x b (No n) = g
+  grants-keep x b (Go o) = grant-keeps x o b (searchOf l c (x .block))
 
-  bares-keep : (k : LaneNo) (x : DownMessage) (r : Ready) → LaneFit h c m (bareTo r c k x l .lane)
-  bares-keep k x (No n) = g
-  bares-keep k x (Go o) = bare-keeps k o (x .block) (searchOf l c (x .block)) refl
+  bares-keep : (x : DownMessage) (r : Ready) → LaneFit h c m (bareTo r c x l .lane)
+  bares-keep x (No n) = g
+  bares-keep x (Go o) = bare-keeps o (x .block) (searchOf l c (x .block)) refl
 
   -- what a message does in a lane that has taken it
-  pub kind-keeps : (y : DownKind) (k : LaneNo) (x : DownMessage) → x .block .0 < m → LaneFit h c m (deliverKind y c k x l .lane)
-  kind-keeps Update k x b = update-keeps (x .block) b (searchOf l c (x .block)) refl
-  kind-keeps Purge k x b = purge-keeps (x .block) b (searchOf l c (x .block))
-  kind-keeps Grant k x b = grants-keep k x b (servedOn (l .waiting) (x .block))
-  kind-keeps BareGrant k x b = bares-keep k x (servedOn (l .waiting) (x .block))
+  pub kind-keeps : (y : DownKind) (x : DownMessage) → x .block .0 < m → LaneFit h c m (deliverKind y c x l .lane)
+  kind-keeps Update x b = update-keeps (x .block) b (searchOf l c (x .block)) refl
+  kind-keeps Purge x b = purge-keeps (x .block) b (searchOf l c (x .block))
+  kind-keeps Grant x b = grants-keep x b (servedOn (l .waiting) (x .block))
+  kind-keeps BareGrant x b = bares-keep x (servedOn (l .waiting) (x .block))
 
 -- the lane's part of deliver
-pub deliver-lane-keeps : (h c m : ℕ) (k : LaneNo) (l : Lane) → 1 ≤ c → c ≤ h → 1 ≤ m → LaneFit h c m l → LaneFit h c m (deliverLane c k l .lane)
+pub deliver-lane-keeps : (h c m : ℕ) (l : Lane) → 1 ≤ c → c ≤ h → 1 ≤ m → LaneFit h c m l → LaneFit h c m (deliverLane c l .lane)
 unfolding deliverLane
-deliver-lane-keeps h c m k l c₀ c₁ z g =
+deliver-lane-keeps h c m l c₀ c₁ z g =
     pick (λ (r : LaneStep). LaneFit h c m (r .lane)) (emptyAt (l .downs .len)) (refuseLane NothingPending l) _ (λ _. g)
-    (λ e. by-cond (LaneFit h c m) (refusedOf (took .answer)) l (took .lane) g
-    (kind-keeps h c m c₀ c₁ z (withDowns (takeDown (l .downs) .queue) l) (taken-keeps h c m l g) (headDown (l .downs) .kind) k (headDown (l .downs))
+    (λ e. by-cond (LaneFit h c m) (refusedIn (took .answer)) l (took .lane) g
+    (kind-keeps h c m c₀ c₁ z (withDowns (takeDown (l .downs) .queue) l) (taken-keeps h c m l g) (headDown (l .downs) .kind) (headDown (l .downs))
     (head-inside m (l .downs .len) (λ i. getD (l .downs .at) i noDown .block .0) (g .sound .downs) e)))
   where
     took : LaneStep
-    took = deliverKind (headDown (l .downs) .kind) c k (headDown (l .downs)) (withDowns (takeDown (l .downs) .queue) l)
+    took = deliverKind (headDown (l .downs) .kind) c (headDown (l .downs)) (withDowns (takeDown (l .downs) .queue) l)
 
 pub deliver-fit : (h : ℕ) (s : Store) (k : LaneNo) → s .c ≤ h → Fit h s → Fit h (deliverOf s k .store)
-unfolding deliverOf
 deliver-fit h s k b g =
-    guarded-keeps (Fit h) s k _ g
+    deliver-rule (λ (r : Outcome). Fit h (r .store)) s k (λ _. g)
     (λ _ l. commit-lane-keeps h s k _ g
-    (deliver-lane-keeps h (s .c) (s .m) k (laneAt s (k .0)) (g .sound .c-low) b (g .sound .m-low) (lane-fit h s g (k .0) l)))
+    (deliver-lane-keeps h (s .c) (s .m) (laneAt s (k .0)) (g .sound .c-low) b (g .sound .m-low) (lane-fit h s g (k .0) l)))

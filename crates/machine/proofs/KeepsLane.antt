@@ -9,7 +9,6 @@ use lib.ListN.{length, getD, set}
 use lib.Seq.{getD-set-other}
 use borrow.Author.Tests.{leb-false, eqb-false}
 use native.Mathlib.Omega.{arith}
-use Rattle.words.specs.declared.LaneNo.{LaneNo}
 use Rattle.words.specs.declared.LineNo.{LineNo}
 use Rattle.words.specs.declared.WordNo.{WordNo}
 use Rattle.words.specs.declared.Line.{Line}
@@ -122,10 +121,10 @@ module _ (h c m : ℕ) (l : Lane) (g : LaneFit h c m l) where
       }
 
   -- an operation completes on a line
-  pub complete-keeps : (k : LaneNo) (i : LineNo) (x : Line) (op : Op) (w : WordNo) → 1 ≤ c → c ≤ h → (x .valid ≡ true → x .block .0 < m) →
-      LaneFit h c m (complete c k i x op w l .lane)
+  pub complete-keeps : (i : LineNo) (x : Line) (op : Op) (w : WordNo) → 1 ≤ c → c ≤ h → (x .valid ≡ true → x .block .0 < m) →
+      LaneFit h c m (complete c i x op w l .lane)
   unfolding complete
-  complete-keeps k i x op w p q b =
+  complete-keeps i x op w p q b =
       let r = g .long in
       let e = used-length c i (l .order) in
       record {

@@ -1,20 +1,20 @@
 -- Return keeps a store within bounds. Assumes nothing.
-use Prim.Native.Nat.{ℕ, _<_, _≤_}
+use Prim.Native.Nat.{ℕ, _≤_}
 use mathlib.Core.Path.{refl}
 use mathlib.Core.List.{List}
 use lib.Dec.{eqb}
 use lib.ListN.{getD}
+use borrow.Author.Tests.{ne-eqb}
 use native.Mathlib.Omega.{arith}
 use Rattle.words.specs.declared.LaneNo.{LaneNo}
 use Rattle.words.specs.declared.BlockNo.{BlockNo}
-use Rattle.words.proofs.Folds.{by-cond, pick}
+use Rattle.words.proofs.Folds.{by-cond}
 use Rattle.queues.specs.declared.ReturnMessage.{ReturnMessage}
 use Rattle.queues.specs.declared.ReturnKind.{ReturnKind}
 use Rattle.queues.specs.declared.ReturnKind.the-variants.{Eject, WriteEject, Updated, Purged, PurgedWords, Gone}
-use Rattle.queues.specs.Queues.{emptyAt, headReturn, takeReturn, noReturn}
+use Rattle.queues.specs.Queues.{headReturn, takeReturn, noReturn}
 use Rattle.lanes.specs.declared.Lane.{Lane}
 use Rattle.lanes.specs.Lanes.{withReturns}
-use Rattle.answers.specs.declared.Refusal.the-variants.{NothingPending}
 use Rattle.store.specs.declared.Store.{Store}
 use Rattle.store.specs.declared.Block.{Block}
 use Rattle.store.specs.declared.Control.{Control}
@@ -26,12 +26,12 @@ use Rattle.store.specs.declared.Counted.the-variants.{Awaits, Closes}
 use Rattle.store.specs.declared.Outcome.{Outcome}
 use Rattle.store.specs.Control.{lowered, countedOf, answerOf}
 use Rattle.store.specs.Stores.{laneAt, blockAt}
-use Rattle.machine.specs.Change.{refuse}
-use Rattle.machine.specs.Return.{takenBy, isAnswer, sendNothing, answered, returnMove, returnHead, returnOf}
+use Rattle.machine.specs.Return.{takenBy, isAnswer, sendNothing, answered, returnMove, returnOf}
 use Rattle.machine.proofs.Sound.{BlockSound, ControlSound}
 use Rattle.machine.proofs.KeepsLane.{LaneFit, returned-keeps, head-inside}
-use Rattle.machine.proofs.KeepsStore.{Fit, lane-fit, MoveFit, guarded-keeps, commit-move-keeps}
+use Rattle.machine.proofs.KeepsStore.{Fit, lane-fit, MoveFit, commit-move-keeps}
 use Rattle.machine.proofs.KeepsServe.{busy-sound, free-sound, reset-absent, close-keeps}
+use Rattle.machine.proofs.Rules.{return-rule}
 
 -- what a message makes of its block
 taken-by-keeps : (n : ℕ) (x : ReturnKind) (ws : List ℕ) (k : LaneNo) (b : Block) → BlockSound n b → BlockSound n (takenBy x ws k b)
@@ -73,16 +73,11 @@ module _ (h n c m : ℕ) (z : 1 ≤ m) where
       (sendNothing-keeps (withReturns (takeReturn (l .returns) .queue) l) (takenBy (x .kind) (x .words) k b) y t u w)
 
 pub return-fit : (h : ℕ) (s : Store) (k : LaneNo) → Fit h s → Fit h (returnOf s k .store)
-unfolding returnOf
-return-fit h s k g = guarded-keeps (Fit h) s k _ g (λ _ l. go l)
-  where
-    go : k .0 < s .n → Fit h (returnHead s k (laneAt s (k .0)) .store)
-    go l =
-        let f = lane-fit h s g (k .0) l in
-        pick (λ (r : Outcome). Fit h (r .store)) (emptyAt (laneAt s (k .0) .returns .len)) (refuse NothingPending s) _ (λ _. g)
-        (λ e.
-        let b = head-inside (s .m) (laneAt s (k .0) .returns .len) (λ i. getD (laneAt s (k .0) .returns .at) i noReturn .block .0) (f .sound .returns) e in
-        commit-move-keeps h s k (headReturn (laneAt s (k .0) .returns) .block) _ g
-        (return-move-keeps h (s .n) (s .c) (s .m) (g .sound .m-low) k (headReturn (laneAt s (k .0) .returns)) (laneAt s (k .0))
-        (blockAt s (headReturn (laneAt s (k .0) .returns) .block .0)) (s .control) f
-        (g .sound .block (headReturn (laneAt s (k .0) .returns) .block .0) b) (g .sound .control)))
+return-fit h s k g =
+    return-rule (λ (r : Outcome). Fit h (r .store)) s k (λ _. g)
+    (λ r.
+    let f = lane-fit h s g (k .0) (r .lane) in
+    let x = headReturn (laneAt s (k .0) .returns) in
+    let b = head-inside (s .m) (laneAt s (k .0) .returns .len) (λ i. getD (laneAt s (k .0) .returns .at) i noReturn .block .0) (f .sound .returns) (ne-eqb _ _ (r .filled)) in
+    commit-move-keeps h s k (x .block) _ g
+    (return-move-keeps h (s .n) (s .c) (s .m) (g .sound .m-low) k x (laneAt s (k .0)) (blockAt s (x .block .0)) (s .control) f (g .sound .block (x .block .0) b) (g .sound .control)))

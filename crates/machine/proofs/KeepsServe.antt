@@ -3,7 +3,7 @@ use Prim.Native.Nat.{ℕ, _<_, _≤_}
 use mathlib.Core.Path.{_≡_, refl}
 use mathlib.Core.Bool.{Bool, true, false}
 use mathlib.Core.List.{List}
-use lib.Dec.{ltb, eqb}
+use lib.Dec.{eqb}
 use lib.ListN.{getD, set, getD-replicate}
 use native.Mathlib.Omega.{arith}
 use Rattle.words.specs.declared.LaneNo.{LaneNo}
@@ -14,24 +14,23 @@ use Rattle.lanes.specs.declared.Lane.{Lane}
 use Rattle.lanes.specs.declared.Operation.{Operation}
 use Rattle.lanes.specs.declared.Command.{Command}
 use Rattle.lanes.specs.declared.Command.the-variants.{ReadShared, ReadExclusive, Exclude}
-use Rattle.lanes.specs.declared.Waiting.{Waiting}
-use Rattle.lanes.specs.declared.Waiting.the-variants.{Idle, Unserved, Served}
+use Rattle.lanes.specs.declared.Waiting.the-variants.{Served}
 use Rattle.lanes.specs.Lanes.{withWaiting}
 use Rattle.store.specs.declared.Store.{Store}
 use Rattle.store.specs.declared.Block.{Block}
 use Rattle.store.specs.declared.Service.{Service}
 use Rattle.store.specs.declared.Control.{Control}
 use Rattle.store.specs.declared.Control.the-variants.{Free, Busy}
-use Rattle.store.specs.Control.{busyOf}
+use Rattle.store.specs.declared.Outcome.{Outcome}
 use Rattle.store.specs.Stores.{laneAt, blockAt}
-use Rattle.machine.specs.declared.Ready.{Ready}
 use Rattle.machine.specs.Change.{nobody, goesTo}
-use Rattle.machine.specs.Serve.{sendsOf, ordered, countOf, closedBlock, close, readyWith, readyOf, serviceFor, serveMove, serveReady, serveOf}
+use Rattle.machine.specs.Serve.{sendsOf, ordered, countOf, closedBlock, close, serviceFor, serveMove, serveOf}
 use Rattle.machine.proofs.Sets.{set-cases, set-here}
 use Rattle.machine.proofs.Counts.{count-less, count-past}
 use Rattle.machine.proofs.Sound.{BlockSound, ServiceSound, ControlSound, sound}
 use Rattle.machine.proofs.KeepsLane.{LaneFit, with-served, clash}
-use Rattle.machine.proofs.KeepsStore.{Fit, lane-fit, MoveFit, guarded-keeps, commit-move-keeps}
+use Rattle.machine.proofs.KeepsStore.{Fit, lane-fit, MoveFit, commit-move-keeps}
+use Rattle.machine.proofs.Rules.{serve-rule}
 
 -- a control with a service within bounds
 pub busy-sound : (n m : ℕ) (v : Service) → ServiceSound n m v → ControlSound n m (Busy v)
@@ -109,17 +108,11 @@ serve-move-keeps h n c m k o l b x p q r f g y =
     })
 
 pub serve-fit : (h : ℕ) (s : Store) (k : LaneNo) → Fit h s → Fit h (serveOf s k .store)
-unfolding serveOf readyOf
-serve-fit h s k g = guarded-keeps (Fit h) s k _ g (λ _ l. go l (laneAt s (k .0) .waiting) refl)
-  where
-    go : k .0 < s .n → (w : Waiting) → laneAt s (k .0) .waiting ≡ w → Fit h (serveReady (readyWith w (laneAt s (k .0)) (s .control)) s k .store)
-    go l Idle e = g
-    go l (Served o) e = g
-    go l (Unserved o) e =
-        let f = lane-fit h s g (k .0) l in
-        let r = f .sound .unserved o e in
-        by-cond (λ (y : Ready). Fit h (serveReady y s k .store)) (busyOf (s .control)) _ _ g
-        (by-cond (λ (y : Ready). Fit h (serveReady y s k .store)) (ltb 0 (laneAt s (k .0) .returns .len)) _ _ g
-        (commit-move-keeps h s k (blockOf (o .word)) _ g
-        (serve-move-keeps h (s .n) (s .c) (s .m) k o (laneAt s (k .0)) (blockAt s (blockOf (o .word) .0)) (s .control) (g .sound .n-high) l r f
-        (g .sound .block (blockOf (o .word) .0) r) (g .sound .control))))
+serve-fit h s k g =
+    serve-rule (λ (r : Outcome). Fit h (r .store)) s k (λ _. g)
+    (λ o r.
+    let f = lane-fit h s g (k .0) (r .lane) in
+    let b = f .sound .unserved o (r .unserved) in
+    commit-move-keeps h s k (blockOf (o .word)) _ g
+    (serve-move-keeps h (s .n) (s .c) (s .m) k o (laneAt s (k .0)) (blockAt s (blockOf (o .word) .0)) (s .control) (g .sound .n-high) (r .lane) b f
+    (g .sound .block (blockOf (o .word) .0) b) (g .sound .control)))

@@ -1,29 +1,24 @@
 -- A lane, or a lane with a block, the control and a message to some lanes, put back into a store keeps it within bounds. Assumes nothing.
 use Prim.Native.Nat.{ℕ, zero, suc, _<_, _≤_}
-use mathlib.Core.Path.{_≡_}
-use mathlib.Core.Bool.{Bool, false, cond}
+use mathlib.Core.Bool.{Bool}
 use mathlib.Core.List.{List}
-use lib.Dec.{leb}
 use lib.ListN.{length, getD, set}
-use borrow.Author.Tests.{leb-false}
 use Rattle.words.specs.declared.LaneNo.{LaneNo}
 use Rattle.words.specs.declared.BlockNo.{BlockNo}
 use Rattle.words.specs.Folds.{upTo}
-use Rattle.words.proofs.Folds.{by-cond, pick}
+use Rattle.words.proofs.Folds.{by-cond}
 use Rattle.queues.specs.declared.DownMessage.{DownMessage}
 use Rattle.lanes.specs.declared.Lane.{Lane}
-use Rattle.answers.specs.declared.Refusal.the-variants.{NoSuchLane, QueueFull, Corrupt}
-use Rattle.answers.specs.Refusals.{refusedOf}
 use Rattle.store.specs.declared.Store.{Store}
 use Rattle.store.specs.declared.Outcome.{Outcome}
 use Rattle.store.specs.Stores.{noLane, noBlock, laneAt, withLane}
 use Rattle.machine.specs.declared.LaneStep.{LaneStep}
 use Rattle.machine.specs.declared.Move.{Move}
-use Rattle.machine.specs.Corruption.{corruptOf}
-use Rattle.machine.specs.Change.{refuse, guarded, commitLane, goesTo, someFull, posted, postTo, postAll, commitMove}
+use Rattle.machine.specs.Change.{commitLane, goesTo, posted, postTo, postAll, commitMove}
 use Rattle.machine.proofs.Sets.{set-cases}
 use Rattle.machine.proofs.Sound.{LaneSound, BlockSound, ControlSound, Sound, sound}
 use Rattle.machine.proofs.KeepsLane.{LaneFit, posted-keeps}
+use Rattle.machine.proofs.Rules.{lane-rule, move-rule}
 
 -- a store within bounds whose lanes' use orders have at least h places
 pub record Fit (h : ℕ) (s : Store) : Type 0 where
@@ -33,18 +28,10 @@ pub record Fit (h : ℕ) (s : Store) : Type 0 where
 pub lane-fit : (h : ℕ) (s : Store) → Fit h s → (k : ℕ) → k < s .n → LaneFit h (s .c) (s .m) (laneAt s k)
 lane-fit h s g k l = record { sound = g .sound .lane k l; long = g .long k l }
 
--- 14 and 6 leave the store as it was
-pub guarded-keeps : (P : Store → Type 0) (s : Store) (k : LaneNo) (r : Outcome) → P s → (corruptOf s ≡ false → k .0 < s .n → P (r .store)) →
-    P (guarded s k r .store)
-guarded-keeps P s k r same next =
-    pick (λ (x : Outcome). P (x .store)) (corruptOf s) (refuse Corrupt s) (cond (leb (s .n) (k .0)) (refuse NoSuchLane s) r) (λ _. same)
-    (λ e. pick (λ (x : Outcome). P (x .store)) (leb (s .n) (k .0)) (refuse NoSuchLane s) r (λ _. same) (λ q. next e (leb-false _ _ q)))
-
 -- lane k after its part of a call
 pub commit-lane-keeps : (h : ℕ) (s : Store) (k : LaneNo) (r : LaneStep) → Fit h s → LaneFit h (s .c) (s .m) (r .lane) →
     Fit h (commitLane s k r .store)
-unfolding commitLane
-commit-lane-keeps h s k r g f = by-cond (Fit h) (refusedOf (r .answer)) s (withLane s (k .0) (r .lane)) g put
+commit-lane-keeps h s k r g f = lane-rule (λ (x : Outcome). Fit h (x .store)) s k r (λ _ _. g) (λ _. put)
   where
     put : Fit h (withLane s (k .0) (r .lane))
     put =
@@ -100,11 +87,9 @@ pub record MoveFit (h n c m : ℕ) (v : Move) : Type 0 where
 -- the store after memory's part of a call
 pub commit-move-keeps : (h : ℕ) (s : Store) (k : LaneNo) (a : BlockNo) (v : Move) → Fit h s → MoveFit h (s .n) (s .c) (s .m) v →
     Fit h (commitMove s k a v .store)
-unfolding commitMove
 commit-move-keeps h s k a v g f =
-    by-cond (λ (r : Outcome). Fit h (r .store)) (refusedOf (v .answer)) _ _ g
-    (by-cond (λ (r : Outcome). Fit h (r .store)) (someFull (v .to) (set (s .lanes) (k .0) (v .lane))) (refuse QueueFull s) _ g
-    (let b = g .sound in
+    move-rule (λ (r : Outcome). Fit h (r .store)) s k a v (λ _. g)
+    (λ _ _. let b = g .sound in
     record {
       sound = record {
         n-low = b .n-low;
@@ -118,7 +103,7 @@ commit-move-keeps h s k a v g f =
         block = λ j l. set-cases (BlockSound (s .n)) (s .blocks) (a .0) j (v .block) noBlock (λ _. f .block) (b .block j l);
       };
       long = λ j l. after j l .long;
-    }))
+    })
   where
     after : Lanes h (s .n) (s .c) (s .m) (postAll (v .to) (v .message) (set (s .lanes) (k .0) (v .lane)))
     after =

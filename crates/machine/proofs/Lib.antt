@@ -1,4 +1,6 @@
 pub mod Table
+pub mod Rules
+pub mod RulesSettle
 pub mod Lengths
 pub mod Tests
 pub mod Shape

@@ -35,8 +35,7 @@ use Rattle.store.specs.Stores.{laneAt}
 use Rattle.machine.specs.declared.LaneStep.{LaneStep}
 use Rattle.machine.specs.declared.Ready.{Ready}
 use Rattle.machine.specs.declared.Ready.the-variants.{Go}
-use Rattle.machine.specs.Corruption.{corruptOf}
-use Rattle.machine.specs.Change.{guarded, commitLane}
+use Rattle.machine.specs.Change.{commitLane, refusedIn}
 use Rattle.machine.specs.Begin.{complete}
 use Rattle.machine.specs.Return.{isAnswer}
 use Rattle.machine.specs.Deliver.{reply, updateAt, purgeAt, fillAt, grantAt, bareAt, servedOn, grantTo, bareTo, deliverKind, deliverLane, deliverOf}
@@ -58,10 +57,7 @@ use Rattle.machine.proofs.Consistent.{Consistent}
 use Rattle.machine.proofs.ConsistentLane.{lane-below, lane-sized}
 use Rattle.machine.proofs.Live.{ejectCount, hasRoom, Live}
 use Rattle.machine.proofs.LiveAwaited.{owed-awaited, awaited-same}
-
--- 14 and 6 are passed
-pub guarded-goes : (s : Store) (k : LaneNo) (r : Outcome) → corruptOf s ≡ false → k .0 < s .n → guarded s k r ≡ r
-guarded-goes s k r e h = rw (e, lt-leb (s .n) (k .0) h)
+use Rattle.machine.proofs.Rules.{deliver-is, answer-goes}
 
 -- messages about blocks below m
 abbrev Inside : ℕ → List ReturnMessage → Type 0
@@ -102,7 +98,7 @@ all-eject m (x ∷ xs) h e = go (all-eject m xs (h .1) (λ d l. kept-rest (eqb (
     go r = rw head (omega arith)
 
 -- an answer joins a return queue with room
-reply-goes : (y : ReturnMessage) (l : Lane) → l .returns .len < 2 → refusedOf (reply y l .answer) ≡ false
+reply-goes : (y : ReturnMessage) (l : Lane) → l .returns .len < 2 → refusedIn (reply y l .answer) ≡ false
 unfolding reply
 reply-goes y l h = rw (lt-leb 2 (l .returns .len) h)
 
@@ -210,32 +206,32 @@ module _ (s : Store) (f : List ℕ) (i : Consistent s f) (live : Live s) (k : La
           on (eqb (blockOf (o .word) .0) (a .0)) (λ y. (o, e, eqb-true _ _ y)) (λ y. absurd (some (ap (λ (w : Waiting). servedCount (waitingOn a w)) e ∙ rw y)))
 
   -- each kind
-  update-goes : isOrder (x .kind) ≡ true → (r : Found) → refusedOf (updateAt r a t .answer) ≡ false
+  update-goes : isOrder (x .kind) ≡ true → (r : Found) → refusedIn (updateAt r a t .answer) ≡ false
   update-goes o (At j) = reply-goes _ _ (order-room o)
   update-goes o Nothing = reply-goes _ _ (order-room o)
 
-  purge-goes : isOrder (x .kind) ≡ true → (r : Found) → refusedOf (purgeAt r a t .answer) ≡ false
+  purge-goes : isOrder (x .kind) ≡ true → (r : Found) → refusedIn (purgeAt r a t .answer) ≡ false
   purge-goes o (At j) = reply-goes _ _ (order-room o)
   purge-goes o Nothing = reply-goes _ _ (order-room o)
 
   module _ (o : Operation) (w : l .waiting ≡ Served o) (b : blockOf (o .word) .0 ≡ a .0) where
-    fill-goes : searchOf l (s .c) a ≡ Nothing → (r : Found) → vacantOf l (s .c) ≡ r → refusedOf (fillAt r (s .c) k x o t .answer) ≡ false
+    fill-goes : searchOf l (s .c) a ≡ Nothing → (r : Found) → vacantOf l (s .c) ≡ r → refusedIn (fillAt r (s .c) x o t .answer) ≡ false
     unfolding complete
     fill-goes e (At j) q = refl
     fill-goes e Nothing q =
         absurd (room-vacant (s .c) l o (sym (ap (hasRoom (s .c) l) w) ∙ live .lane (k .0) .room) (ap (searchOf l (s .c)) (same-block (blockOf (o .word)) a b) ∙ e) q)
 
-    words-goes : x .kind ≡ Grant → (r : Found) → searchOf l (s .c) a ≡ r → refusedOf (grantAt r (s .c) k x o t .answer) ≡ false
+    words-goes : x .kind ≡ Grant → (r : Found) → searchOf l (s .c) a ≡ r → refusedIn (grantAt r (s .c) x o t .answer) ≡ false
     words-goes q r e = go r (sym e ∙ none)
       where
         none : searchOf l (s .c) a ≡ Nothing
         none = status-none (s .c) a l (head-due _ (project s (a .0)) (flatBlock f (a .0)) (k .0) Grant x rest (i .block (a .0) block-below .1) has-head q .0)
 
-        go : (r : Found) → r ≡ Nothing → refusedOf (grantAt r (s .c) k x o t .answer) ≡ false
+        go : (r : Found) → r ≡ Nothing → refusedIn (grantAt r (s .c) x o t .answer) ≡ false
         go (At j) z = clash (cc)
         go Nothing z = fill-goes none (vacantOf l (s .c)) refl
 
-    bare-goes : x .kind ≡ BareGrant → (r : Found) → searchOf l (s .c) a ≡ r → refusedOf (bareAt r (s .c) k o t .answer) ≡ false
+    bare-goes : x .kind ≡ BareGrant → (r : Found) → searchOf l (s .c) a ≡ r → refusedIn (bareAt r (s .c) o t .answer) ≡ false
     unfolding complete
     bare-goes q (At j) e = refl
     bare-goes q Nothing e = absurd (status-found (s .c) a l (bare-held _ (project s (a .0)) (flatBlock f (a .0)) (k .0) x rest (i .block (a .0) block-below .1) has-head q) e)
@@ -243,18 +239,18 @@ module _ (s : Store) (f : List ℕ) (i : Consistent s f) (live : Live s) (k : La
     served-go : servedOn (l .waiting) a ≡ Go o
     served-go = ap (λ (y : Waiting). servedOn y a) w ∙ rw (eq-eqb (blockOf (o .word) .0) (a .0) b)
 
-  kind-goes : (y : DownKind) → x .kind ≡ y → refusedOf (deliverKind y (s .c) k x t .answer) ≡ false
+  kind-goes : (y : DownKind) → x .kind ≡ y → refusedIn (deliverKind y (s .c) x t .answer) ≡ false
   kind-goes Update q = update-goes (ap isOrder q) (searchOf l (s .c) a)
   kind-goes Purge q = purge-goes (ap isOrder q) (searchOf l (s .c) a)
   kind-goes Grant q =
       let o = grant-served (ap isOrder q) in
-      ap (λ (r : Ready). refusedOf (grantTo r (s .c) k x t .answer)) (served-go (o .0) (o .1) (o .2)) ∙ words-goes (o .0) (o .1) (o .2) q (searchOf l (s .c) a) refl
+      ap (λ (r : Ready). refusedIn (grantTo r (s .c) x t .answer)) (served-go (o .0) (o .1) (o .2)) ∙ words-goes (o .0) (o .1) (o .2) q (searchOf l (s .c) a) refl
   kind-goes BareGrant q =
       let o = grant-served (ap isOrder q) in
-      ap (λ (r : Ready). refusedOf (bareTo r (s .c) k x t .answer)) (served-go (o .0) (o .1) (o .2)) ∙ bare-goes (o .0) (o .1) (o .2) q (searchOf l (s .c) a) refl
+      ap (λ (r : Ready). refusedIn (bareTo r (s .c) x t .answer)) (served-go (o .0) (o .1) (o .2)) ∙ bare-goes (o .0) (o .1) (o .2) q (searchOf l (s .c) a) refl
 
   pub deliver-goes : refusedOf (deliverOf s k .answer) ≡ false
-  unfolding deliverOf deliverLane commitLane
+  unfolding deliverLane commitLane
   deliver-goes =
-      ap (λ (r : Outcome). refusedOf (r .answer)) (guarded-goes s k _ (i .sound) h) ∙
-      pick (λ (r : LaneStep). refusedOf (r .answer) ≡ false) (emptyAt (l .downs .len)) _ _ (λ e. absurd (filled (eqb-true _ _ e))) (λ _. kind-goes (x .kind) refl)
+      ap (λ (r : Outcome). refusedOf (r .answer)) (deliver-is s k (i .sound) h) ∙ answer-goes k (deliverLane (s .c) l .answer) ∙
+      pick (λ (r : LaneStep). refusedIn (r .answer) ≡ false) (emptyAt (l .downs .len)) _ _ (λ e. absurd (filled (eqb-true _ _ e))) (λ _. kind-goes (x .kind) refl)

@@ -1,31 +1,26 @@
 -- An opening gives a live store, and every call keeps a consistent one live; so does every list of calls. Assumes nothing.
-use Prim.Native.Nat.{ℕ, zero, suc, _*_, _<_, _≤_}
+use Prim.Native.Nat.{ℕ, suc, _<_, _≤_}
 use mathlib.Core.Path.{_≡_, refl}
 use mathlib.Core.List.{List}
-use lib.Dec.{leb, ltb}
 use native.Mathlib.Omega.{arith}
 use Rattle.words.specs.declared.LaneNo.{LaneNo}
 use Rattle.words.specs.declared.WordNo.{WordNo}
 use Rattle.words.specs.declared.BlockNo.{BlockNo}
 use Rattle.words.specs.declared.Op.{Op}
-use Rattle.words.proofs.Folds.{by-cond}
 use Rattle.lanes.specs.declared.Lane.{Lane}
 use Rattle.lanes.specs.UseOrder.{placeAt}
-use Rattle.lanes.specs.Waits.{idleOf}
 use Rattle.answers.specs.declared.Answer.the-variants.{Opened}
-use Rattle.answers.specs.Refusals.{refusedOf}
 use Rattle.store.specs.declared.Store.{Store}
 use Rattle.store.specs.declared.Outcome.{Outcome}
 use Rattle.store.specs.Opening.{blankLane, freshOf, openOf}
-use Rattle.store.specs.Stores.{noLane, laneAt, withLane}
+use Rattle.store.specs.Stores.{noLane, laneAt}
 use Rattle.machine.specs.declared.LaneStep.{LaneStep}
 use Rattle.machine.specs.Change.{commitLane}
-use Rattle.machine.specs.Begin.{beginLane, beginOf}
+use Rattle.machine.specs.Begin.{beginOf}
 use Rattle.machine.specs.Deliver.{deliverOf}
-use Rattle.machine.specs.Settle.{settleStep, boundOf, Progress, advance, ended, repeatStep, Settlement, settleOf}
+use Rattle.machine.specs.Settle.{settleStep, boundOf, Progress, advance, repeatStep, Settlement, settleOf, lane}
 use Rattle.machine.specs.Calls.{Call, Begin, Serve, Return, Deliver, Settle, callOf, run}
 use Rattle.machine.specs.Flat.{flatOf}
-use Rattle.machine.proofs.Tests.{on}
 use Rattle.machine.proofs.Sets.{set-cases}
 use Rattle.machine.proofs.KeepsLane.{clash}
 use Rattle.machine.proofs.Sound.{sound}
@@ -35,7 +30,7 @@ use Rattle.machine.proofs.Invariant.{owed}
 use Rattle.machine.proofs.SeenBegin.{begin-case}
 use Rattle.machine.proofs.SeenDeliver.{deliver-case}
 use Rattle.machine.proofs.OuterRun.{run-pays}
-use Rattle.machine.proofs.Consistent.{Consistent, pendingIn, guarded-rule}
+use Rattle.machine.proofs.Consistent.{Consistent, pendingIn}
 use Rattle.machine.proofs.ConsistentLane.{lane-sized}
 use Rattle.machine.proofs.ConsistentOpen.{each-lane, opened-fresh, open-consistent}
 use Rattle.machine.proofs.ConsistentSettle.{serve-leads, return-leads, deliver-leads}
@@ -45,6 +40,8 @@ use Rattle.machine.proofs.LiveLane.{begin-lane-live, deliver-lane-live}
 use Rattle.machine.proofs.LiveOwed.{OwesLess, begin-owed, deliver-owed}
 use Rattle.machine.proofs.LiveServe.{serve-live}
 use Rattle.machine.proofs.LiveReturn.{return-live}
+use Rattle.machine.proofs.Rules.{lane-rule, begin-rule, deliver-rule}
+use Rattle.machine.proofs.RulesSettle.{step-rule, repeat-rule}
 
 -- nothing is under way in the lanes of an opening
 blank-live : (c : ℕ) → LaneLive c blankLane
@@ -73,10 +70,9 @@ open-live n c m e = rw (opened-fresh n c m e .1) (fresh-live n c m)
 
 -- a live lane that owes no more, put back
 lane-commits : (s : Store) (k : LaneNo) (r : LaneStep) → Live s → LaneLive (s .c) (r .lane) → OwesLess (s .c) (laneAt s (k .0)) (r .lane) → Live (commitLane s k r .store)
-unfolding commitLane
 lane-commits s k r live h less =
-    by-cond Live (refusedOf (r .answer)) s (withLane s (k .0) (r .lane)) live
-    (record {
+    lane-rule (λ (x : Outcome). Live (x .store)) s k r (λ _ _. live)
+    (λ _. record {
       lane = λ j. set-cases (LaneLive (s .c)) (s .lanes) (k .0) j (r .lane) noLane (λ _. h) (live .lane j);
       one = λ a b j. set-cases (λ (l : Lane). owed (seen (s .c) (blockNo a) l) ≤ 1) (s .lanes) (k .0) j (r .lane) noLane
           (λ _. let p = less (blockNo a) in let q = live .one a b (k .0) in omega arith) (live .one a b j);
@@ -88,32 +84,25 @@ module _ (s : Store) (f : List ℕ) (i : Consistent s f) (k : LaneNo) (h : k .0 
   oldest-below : placeAt (laneAt s (k .0) .order) 0 .0 < s .c
   oldest-below = sound s (i .sound) .lane (k .0) h .order .named 0 (sound s (i .sound) .c-low)
 
-  -- what the lane owes after its part of begin
-  begin-less : (op : Op) (w : WordNo) → OwesLess (s .c) (laneAt s (k .0)) (beginLane (s .c) k op w (laneAt s (k .0)) .lane)
-  unfolding beginLane
-  begin-less op w =
-      on (idleOf (laneAt s (k .0) .waiting))
-      (λ e. begin-owed (s .c) k op w (laneAt s (k .0)) _ (begin-case (s .c) k op w (laneAt s (k .0)) (lane-sized s f i (k .0) h) (sound s (i .sound) .c-high) (i .unique (k .0)) oldest-below e))
-      (λ e. rw e (λ a. omega arith))
-
 pub begin-live : (s : Store) (f : List ℕ) (k : LaneNo) (op : Op) (w : WordNo) → Consistent s f → Live s → Live (beginOf s k op w .store)
-unfolding beginOf
 begin-live s f k op w i live =
-    guarded-rule (λ (r : Outcome). Live (r .store)) s k _ (λ _. live)
-    (λ h. by-cond (λ (r : Outcome). Live (r .store)) (leb (4 * s .m) (w .0)) _ _ live
-    (lane-commits s k _ live
-    (begin-lane-live (s .c) k op w (laneAt s (k .0)) (lane-sized s f i (k .0) h) (sound s (i .sound) .c-high) (oldest-below s f i k h) (live .lane (k .0)))
-    (begin-less s f i k h op w)))
+    begin-rule (λ (r : Outcome). Live (r .store)) s k op w (λ _. live)
+    (λ r.
+    let h = r .lane in
+    let z = lane-sized s f i (k .0) h in
+    let c = sound s (i .sound) .c-high in
+    let o = oldest-below s f i k h in
+    lane-commits s k _ live (begin-lane-live (s .c) op w (laneAt s (k .0)) z c o (r .idle) (live .lane (k .0)))
+    (begin-owed (s .c) op w (laneAt s (k .0)) _ (begin-case (s .c) op w (laneAt s (k .0)) z c (i .unique (k .0)) o (r .idle))))
 
 pub deliver-live : (s : Store) (f : List ℕ) (k : LaneNo) → Consistent s f → Live s → Live (deliverOf s k .store)
-unfolding deliverOf
 deliver-live s f k i live =
-    guarded-rule (λ (r : Outcome). Live (r .store)) s k _ (λ _. live)
-    (λ h.
+    deliver-rule (λ (r : Outcome). Live (r .store)) s k (λ _. live)
+    (λ _ h.
     let z = lane-sized s f i (k .0) h in
-    lane-commits s k _ live (deliver-lane-live (s .c) k (laneAt s (k .0)) z (live .lane (k .0)))
-    (deliver-owed (s .c) k (laneAt s (k .0)) _
-    (deliver-case (s .c) k (laneAt s (k .0)) z (sound s (i .sound) .c-high) (i .unique (k .0)) (sound s (i .sound) .lane (k .0) h .downs .short))))
+    lane-commits s k _ live (deliver-lane-live (s .c) (laneAt s (k .0)) z (live .lane (k .0)))
+    (deliver-owed (s .c) (laneAt s (k .0)) _
+    (deliver-case (s .c) (laneAt s (k .0)) z (sound s (i .sound) .c-high) (i .unique (k .0)) (sound s (i .sound) .lane (k .0) h .downs .short))))
 
 -- a consistent and live store, with flat memory
 abbrev Running : Store → Type 0
@@ -121,21 +110,15 @@ Running s = (f : List ℕ) × Consistent s f × Live s
 
 -- settle is a list of deliver, return and serve
 step-runs : (s : Store) → Running s → Running (settleStep s .store)
-unfolding settleStep
 step-runs s (f, i, live) =
-    by-cond P (ltb _ (s .n)) _ _ (let r = deliver-leads s f _ i in (r .0, r .1, deliver-live s f _ i live))
-    (by-cond P (ltb _ (s .n)) _ _ (let r = return-leads s f _ i in (r .0, r .1, return-live s f _ i live))
-    (by-cond P (ltb _ (s .n)) _ _ (let r = serve-leads s f _ i in (r .0, r .1, serve-live s f _ i live)) (f, i, live)))
-  where
-    P : Outcome → Type 0
-    P r = Running (r .store)
+    step-rule (λ (r : Outcome). Running (r .store)) s (λ k _ _. let r = deliver-leads s f (lane k) i in (r .0, r .1, deliver-live s f (lane k) i live))
+    (λ _ k _ _. let r = return-leads s f (lane k) i in (r .0, r .1, return-live s f (lane k) i live))
+    (λ _ _ k _ _. let r = serve-leads s f (lane k) i in (r .0, r .1, serve-live s f (lane k) i live)) (λ _ _ _. (f, i, live))
 
 -- .. as often as it repeats
 repeat-runs : (n : ℕ) (p : Progress) → Running (p .store) → Running (repeatStep n p .store)
-unfolding repeatStep advance
-repeat-runs zero p r = r
-repeat-runs (suc n) p r =
-    by-cond (λ (q : Progress). Running (q .store)) (ended p) p (repeatStep n (advance p)) r (repeat-runs n (advance p) (step-runs (p .store) r))
+unfolding advance
+repeat-runs n p r = repeat-rule (λ (q : Progress). Running (q .store)) (λ q _. step-runs (q .store)) n p r
 
 pub settle-step-live : (s : Store) (f : List ℕ) → Consistent s f → Live s → Live (settleStep s .store)
 settle-step-live s f i live = step-runs s (f, i, live) .2

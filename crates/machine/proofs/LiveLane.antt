@@ -8,7 +8,6 @@ use lib.ListN.{getD, set}
 use lib.Seq.{getD-set-same}
 use borrow.Author.Tests.{eq-eqb}
 use native.Mathlib.Omega.{arith}
-use Rattle.words.specs.declared.LaneNo.{LaneNo}
 use Rattle.words.specs.declared.LineNo.{LineNo}
 use Rattle.words.specs.declared.WordNo.{WordNo}
 use Rattle.words.specs.declared.BlockNo.{BlockNo}
@@ -35,10 +34,10 @@ use Rattle.lanes.specs.declared.Found.{Found}
 use Rattle.lanes.specs.declared.Found.the-variants.{At, Nothing}
 use Rattle.lanes.specs.Search.{lineAt, searchOf, vacantOf}
 use Rattle.lanes.specs.UseOrder.{placeAt}
-use Rattle.lanes.specs.Waits.{idleOf, unservedOf}
-use Rattle.lanes.specs.Lanes.{withDowns}
+use Rattle.lanes.specs.Waits.{unservedOf}
+use Rattle.lanes.specs.Lanes.{withDowns, withLines}
 use Rattle.answers.specs.declared.Refusal.{Refusal}
-use Rattle.answers.specs.declared.Refusal.the-variants.{LaneBusy, NothingPending, QueueFull, Unexpected}
+use Rattle.answers.specs.declared.Refusal.the-variants.{NothingPending, QueueFull, Unexpected}
 use Rattle.machine.specs.declared.LaneStep.{LaneStep}
 use Rattle.machine.specs.declared.Ready.{Ready}
 use Rattle.machine.specs.declared.Ready.the-variants.{Go, No}
@@ -51,7 +50,7 @@ use Rattle.machine.proofs.Tests.{on}
 use Rattle.machine.proofs.Sets.{set-cases}
 use Rattle.machine.proofs.Queued.{returnsIn, push-returns}
 use Rattle.machine.proofs.Searches.{holds-valid, found-holds, vacant-invalid}
-use Rattle.machine.proofs.SeenBegin.{evicted, idle-waiting, push-room}
+use Rattle.machine.proofs.SeenBegin.{evicted, push-room}
 use Rattle.machine.proofs.Live.{ejectCount, hasRoom, LaneLive}
 
 -- a grant of block a may go to the line: it is not valid, or holds the block
@@ -118,7 +117,7 @@ posted-live c m l h = stays-live c l (posted m l) refl (omega arith) (λ a e. e)
 pub none-ejected : (c : ℕ) (l : Lane) → unservedOf (l .waiting) ≡ false → LaneLive c l → ejectCount (returnsIn (l .returns)) ≤ 0
 none-ejected c l e h = rw e at (h .ejects)
 
-module _ (c : ℕ) (k : LaneNo) (op : Op) (w : WordNo) (l : Lane) (z : LaneSized l) (b : c ≤ 8) (live : LaneLive c l) (idle : l .waiting ≡ Idle) where
+module _ (c : ℕ) (op : Op) (w : WordNo) (l : Lane) (z : LaneSized l) (b : c ≤ 8) (live : LaneLive c l) (idle : l .waiting ≡ Idle) where
   -- nothing is ejected yet
   none : ejectCount (returnsIn (l .returns)) ≤ 0
   none = none-ejected c l (ap unservedOf idle) live
@@ -128,7 +127,7 @@ module _ (c : ℕ) (k : LaneNo) (op : Op) (w : WordNo) (l : Lane) (z : LaneSized
   waits-live x l′ e r = record { ejects = e; room = r }
 
   -- a hit completes, or waits for the line that it has
-  hit-live : (i : LineNo) → searchOf l c (blockOf w) ≡ At i → LaneLive c (hit c k i op w l .lane)
+  hit-live : (i : LineNo) → searchOf l c (blockOf w) ≡ At i → LaneLive c (hit c i op w l .lane)
   unfolding hit complete
   hit-live i e =
       let f = found-holds c l (blockOf w) i e in
@@ -154,22 +153,20 @@ module _ (c : ℕ) (k : LaneNo) (op : Op) (w : WordNo) (l : Lane) (z : LaneSized
   miss-live h Nothing e = evict-live (placeAt (l .order) 0) h
 
   -- by what Search finds
-  at-live : placeAt (l .order) 0 .0 < c → (f : Found) → searchOf l c (blockOf w) ≡ f → LaneLive c (beginAt f c k op w l .lane)
+  at-live : placeAt (l .order) 0 .0 < c → (f : Found) → searchOf l c (blockOf w) ≡ f → LaneLive c (beginAt f c op w l .lane)
   unfolding miss
   at-live h (At i) e = hit-live i e
   at-live h Nothing e = miss-live h (vacantOf l c) refl
 
 -- the lane's part of begin
-pub begin-lane-live : (c : ℕ) (k : LaneNo) (op : Op) (w : WordNo) (l : Lane) → LaneSized l → c ≤ 8 → placeAt (l .order) 0 .0 < c → LaneLive c l → LaneLive c (beginLane c k op w l .lane)
+pub begin-lane-live : (c : ℕ) (op : Op) (w : WordNo) (l : Lane) → LaneSized l → c ≤ 8 → placeAt (l .order) 0 .0 < c → l .waiting ≡ Idle → LaneLive c l → LaneLive c (beginLane c op w l .lane)
 unfolding beginLane
-begin-lane-live c k op w l z b h live =
-    pick (λ (r : LaneStep). LaneLive c (r .lane)) (idleOf (l .waiting)) (beginAt (searchOf l c (blockOf w)) c k op w l) (refuseLane LaneBusy l)
-    (λ e. at-live c k op w l z b live (idle-waiting (l .waiting) e) h (searchOf l c (blockOf w)) refl) (λ _. live)
+begin-lane-live c op w l z b h idle live = at-live c op w l z b live idle h (searchOf l c (blockOf w)) refl
 
-module _ (c : ℕ) (k : LaneNo) (l : Lane) (z : LaneSized l) (live : LaneLive c l) (q : DownQueue) where
+module _ (c : ℕ) (l : Lane) (z : LaneSized l) (live : LaneLive c l) (q : DownQueue) where
   -- an answer is sent from a lane whose lines leave no less room
   reply-live : (ls : List Line) (m : ReturnMessage) → isAnswer (m .kind) ≡ true → ((a : BlockNo) → roomIn c (l .lines) a ≡ true → roomIn c ls a ≡ true) →
-      LaneLive c (orAsBefore l (reply m (record { lines = ls; order = l .order; returns = l .returns; downs = q; waiting = l .waiting })) .lane)
+      LaneLive c (orAsBefore l (reply m (withDowns q (withLines ls l))) .lane)
   unfolding reply
   reply-live ls m e r =
       pick (λ (x : LaneStep). LaneLive c (orAsBefore l x .lane)) (pushReturn (l .returns) m .full) _ _ (λ _. live)
@@ -188,20 +185,20 @@ module _ (c : ℕ) (k : LaneNo) (l : Lane) (z : LaneSized l) (live : LaneLive c 
 
   -- an operation that completes waits no more
   module _ (none : ejectCount (returnsIn (l .returns)) ≤ 0) where
-    complete-live : (i : LineNo) (x : Line) (op : Op) (w : WordNo) → LaneLive c (orAsBefore l (complete c k i x op w (withDowns q l)) .lane)
+    complete-live : (i : LineNo) (x : Line) (op : Op) (w : WordNo) → LaneLive c (orAsBefore l (complete c i x op w (withDowns q l)) .lane)
     unfolding complete
     complete-live i x op w = record { ejects = none; room = refl }
 
     -- the grants
-    fill-live : (x : DownMessage) (o : Operation) (f : Found) → LaneLive c (orAsBefore l (fillAt f c k x o (withDowns q l)) .lane)
+    fill-live : (x : DownMessage) (o : Operation) (f : Found) → LaneLive c (orAsBefore l (fillAt f c x o (withDowns q l)) .lane)
     fill-live x o (At i) = complete-live i _ _ _
     fill-live x o Nothing = live
 
-    grant-live : (x : DownMessage) (o : Operation) (f : Found) → LaneLive c (orAsBefore l (grantAt f c k x o (withDowns q l)) .lane)
+    grant-live : (x : DownMessage) (o : Operation) (f : Found) → LaneLive c (orAsBefore l (grantAt f c x o (withDowns q l)) .lane)
     grant-live x o (At i) = live
     grant-live x o Nothing = fill-live x o (vacantOf (withDowns q l) c)
 
-    bare-live : (o : Operation) (f : Found) → LaneLive c (orAsBefore l (bareAt f c k o (withDowns q l)) .lane)
+    bare-live : (o : Operation) (f : Found) → LaneLive c (orAsBefore l (bareAt f c o (withDowns q l)) .lane)
     bare-live o (At i) = complete-live i _ _ _
     bare-live o Nothing = live
 
@@ -213,19 +210,19 @@ module _ (c : ℕ) (k : LaneNo) (l : Lane) (z : LaneSized l) (live : LaneLive c 
       by-cond P (eqb (blockOf (o .word) .0) (a .0)) (Go o) (No Unexpected) (go o (none-ejected c l (ap unservedOf e) live)) (refused Unexpected)
 
   -- what a message does in the lane that took it
-  kind-live : (y : DownKind) (x : DownMessage) → LaneLive c (orAsBefore l (deliverKind y c k x (withDowns q l)) .lane)
+  kind-live : (y : DownKind) (x : DownMessage) → LaneLive c (orAsBefore l (deliverKind y c x (withDowns q l)) .lane)
   kind-live Update x = update-live (x .block) (searchOf (withDowns q l) c (x .block))
   kind-live Purge x = purge-live (x .block) (searchOf (withDowns q l) c (x .block))
   kind-live Grant x =
-      served-live (λ (r : Ready). LaneLive c (orAsBefore l (grantTo r c k x (withDowns q l)) .lane)) (λ r. live)
+      served-live (λ (r : Ready). LaneLive c (orAsBefore l (grantTo r c x (withDowns q l)) .lane)) (λ r. live)
       (λ o none. grant-live none x o (searchOf (withDowns q l) c (x .block))) (x .block) (l .waiting) refl
   kind-live BareGrant x =
-      served-live (λ (r : Ready). LaneLive c (orAsBefore l (bareTo r c k x (withDowns q l)) .lane)) (λ r. live)
+      served-live (λ (r : Ready). LaneLive c (orAsBefore l (bareTo r c x (withDowns q l)) .lane)) (λ r. live)
       (λ o none. bare-live none o (searchOf (withDowns q l) c (x .block))) (x .block) (l .waiting) refl
 
 -- the lane's part of deliver
-pub deliver-lane-live : (c : ℕ) (k : LaneNo) (l : Lane) → LaneSized l → LaneLive c l → LaneLive c (deliverLane c k l .lane)
+pub deliver-lane-live : (c : ℕ) (l : Lane) → LaneSized l → LaneLive c l → LaneLive c (deliverLane c l .lane)
 unfolding deliverLane
-deliver-lane-live c k l z live =
+deliver-lane-live c l z live =
     by-cond (λ (r : LaneStep). LaneLive c (r .lane)) (emptyAt (l .downs .len)) (refuseLane NothingPending l) _ live
-    (kind-live c k l z live (takeDown (l .downs) .queue) (headDown (l .downs) .kind) (headDown (l .downs)))
+    (kind-live c l z live (takeDown (l .downs) .queue) (headDown (l .downs) .kind) (headDown (l .downs)))

@@ -7,17 +7,16 @@ use mathlib.Core.Bool.{Bool, true, false, _&&_}
 use mathlib.Core.List.{List}
 use lib.Dec.{eqb}
 use lib.ListN.{getD, set}
-use borrow.Author.Tests.{eq-eqb, ne-eqb, eqb-true, lt-leb}
+use borrow.Author.Tests.{eq-eqb, ne-eqb, lt-leb}
 use native.Mathlib.Omega.{arith}
 use Rattle.words.specs.declared.LaneNo.{LaneNo}
 use Rattle.words.specs.declared.BlockNo.{BlockNo}
 use Rattle.words.specs.Units.{blockOf}
 use Rattle.words.proofs.Folds.{any-never, by-cond, pick}
 use Rattle.queues.specs.declared.ReturnMessage.{ReturnMessage}
-use Rattle.queues.specs.Queues.{fullAt, emptyAt, headReturn, takeReturn}
+use Rattle.queues.specs.Queues.{fullAt, headReturn, takeReturn}
 use Rattle.lanes.specs.declared.Lane.{Lane}
 use Rattle.lanes.specs.declared.Operation.{Operation}
-use Rattle.lanes.specs.declared.Waiting.{Waiting}
 use Rattle.lanes.specs.declared.Waiting.the-variants.{Unserved}
 use Rattle.lanes.specs.Lanes.{withReturns}
 use Rattle.answers.specs.Refusals.{refusedOf}
@@ -28,13 +27,11 @@ use Rattle.store.specs.declared.Control.the-variants.{Free, Busy}
 use Rattle.store.specs.declared.Counted.{Counted}
 use Rattle.store.specs.declared.Counted.the-variants.{Awaits, Closes}
 use Rattle.store.specs.declared.Outcome.{Outcome}
-use Rattle.store.specs.Control.{lowered, answerOf}
+use Rattle.store.specs.Control.{lowered, answerOf, busyOf}
 use Rattle.store.specs.Stores.{noLane, laneAt, blockAt}
-use Rattle.machine.specs.declared.Ready.{Ready}
-use Rattle.machine.specs.declared.Ready.the-variants.{Go}
 use Rattle.machine.specs.declared.Move.{Move}
 use Rattle.machine.specs.Change.{goesTo, someFull, commitMove}
-use Rattle.machine.specs.Serve.{ordered, countOf, close, readyWith, readyOf, serveMove, serveReady, serveOf}
+use Rattle.machine.specs.Serve.{ordered, countOf, close, serveMove, serveOf}
 use Rattle.machine.specs.Return.{takenBy, isAnswer, answered, returnMove, returnOf}
 use Rattle.machine.proofs.Tests.{and-never}
 use Rattle.machine.proofs.Sets.{set-cases}
@@ -46,7 +43,7 @@ use Rattle.machine.proofs.Consistent.{Consistent}
 use Rattle.machine.proofs.ConsistentLane.{lane-below}
 use Rattle.machine.proofs.ConsistentReturn.{has-head}
 use Rattle.machine.proofs.LiveAwaited.{Awaited, owed-awaited}
-use Rattle.machine.proofs.LiveDeliver.{guarded-goes}
+use Rattle.machine.proofs.Rules.{return-is, serve-is}
 
 -- memory's part of a call that is not refused, of a lane with an empty down queue
 record Goes (v : Move) : Type 0 where
@@ -108,23 +105,16 @@ module _ (s : Store) (empty : (j : ℕ) → laneAt s j .downs .len ≡ 0) where
           (λ _. record { answer = refl; downs = empty (k .0) })
 
       pub return-goes : refusedOf (returnOf s k .answer) ≡ false
-      unfolding returnOf
       return-goes =
-          ap (λ (r : Outcome). refusedOf (r .answer)) (guarded-goes s k _ (i .sound) h) ∙
-          pick (λ (r : Outcome). refusedOf (r .answer) ≡ false) (emptyAt (l .returns .len)) _ _ (λ e. absurd (filled (eqb-true _ _ e)))
-          (λ _. commit-goes k a (returnMove k x l b (s .control)) return-move-goes)
+          ap (λ (r : Outcome). refusedOf (r .answer)) (return-is s k (record { sound = i .sound; lane = h; filled = filled })) ∙
+          commit-goes k a (returnMove k x l b (s .control)) return-move-goes
 
     serve-move-goes : (o : Operation) (b : Block) (y : Control) → Goes (serveMove k o l b y)
     unfolding serveMove close
     serve-move-goes o b y =
         by-cond Goes (eqb (countOf (ordered b k (o .command))) 0) _ _ (record { answer = refl; downs = empty (k .0) }) (record { answer = refl; downs = empty (k .0) })
 
-    pub serve-goes : (o : Operation) → l .waiting ≡ Unserved o → s .control ≡ Free → l .returns .len ≡ 0 → refusedOf (serveOf s k .answer) ≡ false
-    unfolding serveOf readyOf
+    pub serve-goes : (o : Operation) → l .waiting ≡ Unserved o → busyOf (s .control) ≡ false → l .returns .len ≡ 0 → refusedOf (serveOf s k .answer) ≡ false
     serve-goes o w c r =
-        ap (λ (z : Outcome). refusedOf (z .answer)) (guarded-goes s k _ (i .sound) h) ∙
-        ap (λ (z : Ready). refusedOf (serveReady z s k .answer)) ready ∙
+        ap (λ (z : Outcome). refusedOf (z .answer)) (serve-is s k o (record { sound = i .sound; lane = h; unserved = w; free = c; clear = r })) ∙
         commit-goes k (blockOf (o .word)) (serveMove k o l (blockAt s (blockOf (o .word) .0)) (s .control)) (serve-move-goes o (blockAt s (blockOf (o .word) .0)) (s .control))
-      where
-        ready : readyWith (l .waiting) l (s .control) ≡ Go o
-        ready = ap (λ (y : Waiting). readyWith y l (s .control)) w ∙ ap (λ (y : Control). readyWith (Unserved o) l y) c ∙ rw r

@@ -18,7 +18,7 @@ use Rattle.store.specs.declared.Service.{Service}
 use Rattle.store.specs.declared.Control.the-variants.{Busy}
 use Rattle.store.specs.Stores.{laneAt}
 use Rattle.machine.specs.declared.Move.{Move}
-use Rattle.machine.specs.Change.{goesTo, someFull, commitMove}
+use Rattle.machine.specs.Change.{goesTo, someFull, commitMove, movedStore}
 use Rattle.machine.specs.Settle.{isOrder}
 use Rattle.machine.proofs.Sets.{same?}
 use Rattle.machine.proofs.Owes.{upd}
@@ -26,7 +26,7 @@ use Rattle.machine.proofs.BlockState.{Seen, BlockState, seen, project}
 use Rattle.machine.proofs.Invariant.{owed}
 use Rattle.machine.proofs.Moves.{sendAll}
 use Rattle.machine.proofs.MemoryMoves.{post-owed}
-use Rattle.machine.proofs.Project.{Moves, movedStore, lane-sent, project-here, project-there}
+use Rattle.machine.proofs.Project.{Moves, lane-sent, project-here, project-there}
 use Rattle.machine.proofs.Consistent.{Consistent}
 use Rattle.machine.proofs.ConsistentMove.{Shows}
 use Rattle.machine.proofs.Live.{LaneLive, Live}

@@ -5,7 +5,6 @@ use mathlib.Core.Path.{_≡_, refl, ap, _∙_}
 use mathlib.Core.Bool.{true, false, cond}
 use mathlib.Core.List.{List, _∷_}
 use native.Mathlib.Omega.{arith}
-use Rattle.words.specs.declared.LaneNo.{LaneNo}
 use Rattle.words.specs.declared.WordNo.{WordNo}
 use Rattle.words.specs.declared.BlockNo.{BlockNo}
 use Rattle.words.specs.declared.Op.{Op}
@@ -105,20 +104,20 @@ wait-less : (c : ℕ) (l : Lane) (r : LaneStep) (a : BlockNo) (x : Waiting) → 
 wait-less c l r a x e = let q = wait-owed x (seen c a l) in less-owed c l (r .lane) a _ e (omega arith)
 
 -- the lane's part of begin
-pub begin-owed : (c : ℕ) (k : LaneNo) (op : Op) (w : WordNo) (l : Lane) (r : LaneStep) → BeginCase c k op w l r → OwesLess c l (r .lane)
-begin-owed c k op w l r (Hits h) a =
+pub begin-owed : (c : ℕ) (op : Op) (w : WordNo) (l : Lane) (r : LaneStep) → BeginCase c op w l r → OwesLess c l (r .lane)
+begin-owed c op w l r (Hits h) a =
     let q = hit-owed op w (seen c (blockOf w) l) in
     at-owed c l (r .lane) (blockOf w) a (less-owed c l (r .lane) (blockOf w) _ (h .here) (omega arith)) (λ n. same-owed c l (r .lane) a (h .others a n))
-begin-owed c k op w l r (Excludes h) a =
+begin-owed c op w l r (Excludes h) a =
     at-owed c l (r .lane) (blockOf w) a (wait-less c l r (blockOf w) _ (h .wait .here)) (λ n. same-owed c l (r .lane) a (h .others a n))
-begin-owed c k op w l r (Reads h) a =
+begin-owed c op w l r (Reads h) a =
     at-owed c l (r .lane) (blockOf w) a (wait-less c l r (blockOf w) _ (h .wait .here)) (λ n. same-owed c l (r .lane) a (h .others a n))
-begin-owed c k op w l r (Evicts h) a =
+begin-owed c op w l r (Evicts h) a =
     at-owed c l (r .lane) (blockOf w) a (wait-less c l r (blockOf w) _ (h .wait .here))
     (λ n. at-owed c l (r .lane) (h .victim) a (less-owed c l (r .lane) (h .victim) _ (h .there) (evict-owed (h .victim) (seen c (h .victim) l))) (λ m. same-owed c l (r .lane) a (h .others a n m)))
-begin-owed c k op w l r (BeginCase.Refuses h) a = let q = ap (λ (x : Lane). owed (seen c a x)) (h .same) in omega arith
+begin-owed c op w l r (BeginCase.Refuses h) a = let q = ap (λ (x : Lane). owed (seen c a x)) (h .same) in omega arith
 
-module _ (c : ℕ) (k : LaneNo) (l : Lane) (r : LaneStep) where
+module _ (c : ℕ) (l : Lane) (r : LaneStep) where
   -- an order, and a grant, taken from the down queue
   order-less : (y : DownKind) (f : Status → BlockNo → List DownMessage → Seen → Seen) → isOrder y ≡ true →
       ((x : Status) (a : BlockNo) (d : DownMessage) (rest : List DownMessage) (s : Seen) → s .downs ≡ d ∷ rest → isOrder (d .kind) ≡ true → owed (f x a rest s) ≤ owed s) →
@@ -128,14 +127,14 @@ module _ (c : ℕ) (k : LaneNo) (l : Lane) (r : LaneStep) where
       (less-owed c l (r .lane) (headBlock l) _ (h .here) (less _ (headBlock l) (headDown (l .downs)) (h .taken .rest) _ (h .taken .head) (ap isOrder (h .taken .kind) ∙ o)))
       (λ n. same-owed c l (r .lane) a (h .taken .others a n))
 
-  grant-less : (y : DownKind) (ws : List ℕ) → GrantCase c k y ws l r → OwesLess c l (r .lane)
+  grant-less : (y : DownKind) (ws : List ℕ) → GrantCase c y ws l r → OwesLess c l (r .lane)
   grant-less y ws h a =
       at-owed c l (r .lane) (headBlock l) a
       (less-owed c l (r .lane) (headBlock l) _ (h .here) (grant-owed (h .operation) ws (headDown (l .downs)) (h .taken .rest) _ (h .taken .head)))
       (λ n. same-owed c l (r .lane) a (h .taken .others a n))
 
   -- the lane's part of deliver
-  pub deliver-owed : DeliverCase c k l r → OwesLess c l (r .lane)
+  pub deliver-owed : DeliverCase c l r → OwesLess c l (r .lane)
   deliver-owed (Updates h) = order-less Update updateSeen refl update-owed h
   deliver-owed (Purges h) = order-less Purge purgeSeen refl purge-owed h
   deliver-owed (Grants e h) = grant-less Grant _ h

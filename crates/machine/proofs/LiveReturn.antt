@@ -12,7 +12,7 @@ use Rattle.words.specs.declared.BlockNo.{BlockNo}
 use Rattle.words.proofs.Folds.{by-cond, pick}
 use Rattle.queues.specs.declared.ReturnMessage.{ReturnMessage}
 use Rattle.queues.specs.declared.DownMessage.{DownMessage}
-use Rattle.queues.specs.Queues.{emptyAt, headReturn, takeReturn}
+use Rattle.queues.specs.Queues.{headReturn, takeReturn}
 use Rattle.lanes.specs.declared.Lane.{Lane}
 use Rattle.lanes.specs.Lanes.{withReturns}
 use Rattle.store.specs.declared.Store.{Store}
@@ -42,7 +42,7 @@ use Rattle.machine.proofs.Invariant.{Inv, owed}
 use Rattle.machine.proofs.Moves.{returnState}
 use Rattle.machine.proofs.Directories.{nobody-none}
 use Rattle.machine.proofs.MemoryReturn.{eject-returns, answer-returns}
-use Rattle.machine.proofs.Consistent.{Consistent, guarded-rule}
+use Rattle.machine.proofs.Consistent.{Consistent}
 use Rattle.machine.proofs.ConsistentLane.{lane-below}
 use Rattle.machine.proofs.ConsistentServe.{send-none}
 use Rattle.machine.proofs.ConsistentReturn.{looked-up, taken, has-head, before, quiet-shows, close-shows}
@@ -50,6 +50,7 @@ use Rattle.machine.proofs.Live.{ejectCount, LaneLive, Live}
 use Rattle.machine.proofs.LiveLane.{stays-live}
 use Rattle.machine.proofs.LiveOwed.{take-owed}
 use Rattle.machine.proofs.LiveMove.{send-grant, ShowsLive, commit-live}
+use Rattle.machine.proofs.Rules.{return-rule}
 
 -- a grant is no order
 grant-order : (b : Block) (v : Service) → isOrder (grantOf b v .kind) ≡ false
@@ -163,7 +164,4 @@ module _ (s : Store) (f : List ℕ) (i : Consistent s f) (live : Live s) (k : La
       go e (Of v) q = answer-live e v q
 
 pub return-live : (s : Store) (f : List ℕ) (k : LaneNo) → Consistent s f → Live s → Live (returnOf s k .store)
-unfolding returnOf
-return-live s f k i live =
-    guarded-rule (λ (r : Outcome). Live (r .store)) s k _ (λ _. live)
-    (λ h. pick (λ (r : Outcome). Live (r .store)) (emptyAt (laneAt s (k .0) .returns .len)) _ _ (λ _. live) (λ e. head-live s f i live k h (eqb-false _ _ e)))
+return-live s f k i live = return-rule (λ (r : Outcome). Live (r .store)) s k (λ _. live) (λ r. head-live s f i live k (r .lane) (r .filled))

@@ -4,8 +4,8 @@ use mathlib.Core.Logic.{_≢_}
 use mathlib.Core.Path.{_≡_, refl, sym, ap, _∙_}
 use mathlib.Core.Bool.{Bool}
 use mathlib.Core.List.{List}
-use lib.Dec.{eqb, ltb}
-use borrow.Author.Tests.{eqb-true, eqb-false, ltb-false}
+use lib.Dec.{eqb}
+use borrow.Author.Tests.{eqb-true, eqb-false}
 use native.Mathlib.Omega.{arith}
 use Rattle.words.specs.declared.LaneNo.{LaneNo}
 use Rattle.words.specs.declared.BlockNo.{BlockNo}
@@ -14,8 +14,7 @@ use Rattle.words.proofs.Folds.{pick}
 use Rattle.queues.specs.declared.DownMessage.{DownMessage}
 use Rattle.lanes.specs.declared.Lane.{Lane}
 use Rattle.lanes.specs.declared.Operation.{Operation}
-use Rattle.lanes.specs.declared.Waiting.{Waiting}
-use Rattle.lanes.specs.declared.Waiting.the-variants.{Idle, Unserved, Served}
+use Rattle.lanes.specs.declared.Waiting.the-variants.{Unserved, Served}
 use Rattle.lanes.specs.Lanes.{withWaiting}
 use Rattle.answers.specs.declared.Answer.the-variants.{Step}
 use Rattle.store.specs.declared.Store.{Store}
@@ -24,12 +23,11 @@ use Rattle.store.specs.declared.Service.{Service}
 use Rattle.store.specs.declared.Control.{Control}
 use Rattle.store.specs.declared.Control.the-variants.{Free, Busy}
 use Rattle.store.specs.declared.Outcome.{Outcome}
-use Rattle.store.specs.Control.{busyOf, serviceOf}
+use Rattle.store.specs.Control.{serviceOf}
 use Rattle.store.specs.Stores.{laneAt, blockAt}
-use Rattle.machine.specs.declared.Ready.{Ready}
 use Rattle.machine.specs.declared.Move.{Move}
 use Rattle.machine.specs.Change.{only, commitMove}
-use Rattle.machine.specs.Serve.{bareDown, orderOf, ordered, countOf, grantOf, close, readyWith, readyOf, serviceFor, serveMove, serveReady, serveOf}
+use Rattle.machine.specs.Serve.{bareDown, orderOf, ordered, countOf, grantOf, close, serviceFor, serveMove, serveOf}
 use Rattle.machine.proofs.Sound.{sound}
 use Rattle.machine.proofs.Owes.{upd}
 use Rattle.machine.proofs.Updates.{upd-cases}
@@ -37,11 +35,12 @@ use Rattle.machine.proofs.BlockState.{Seen, seen, project}
 use Rattle.machine.proofs.Invariant.{awaitedOf, owed}
 use Rattle.machine.proofs.Moves.{sendAll}
 use Rattle.machine.proofs.MemoryMoves.{nothing-owed}
-use Rattle.machine.proofs.Consistent.{Consistent, guarded-rule}
+use Rattle.machine.proofs.Consistent.{Consistent}
 use Rattle.machine.proofs.ConsistentLane.{lane-below}
 use Rattle.machine.proofs.ConsistentServe.{not-busy, open-shows, close-shows}
 use Rattle.machine.proofs.Live.{hasRoom, LaneLive, Live}
 use Rattle.machine.proofs.LiveMove.{send-most, ShowsLive, commit-live}
+use Rattle.machine.proofs.Rules.{serve-rule}
 
 module _ (s : Store) (f : List ℕ) (i : Consistent s f) (live : Live s) (k : LaneNo) (h : k .0 < s .n) (o : Operation) (e : laneAt s (k .0) .waiting ≡ Unserved o)
     (free : s .control ≡ Free) (clear : laneAt s (k .0) .returns .len ≡ 0) where
@@ -93,7 +92,7 @@ module _ (s : Store) (f : List ℕ) (i : Consistent s f) (live : Live s) (k : La
   closes = record { lane = served-live; one = one-owed (only k) (grantOf b v); awaits = live .awaits }
 
   -- memory's part
-  pub ready-live : Live (serveReady (Ready.Go o) s k .store)
+  pub ready-live : Live (commitMove s k x (serveMove k o (laneAt s (k .0)) (blockAt s (x .0)) (s .control)) .store)
   unfolding serveMove
   ready-live =
       pick (λ (y : Move). Live (commitMove s k x y .store)) (eqb (countOf to) 0) _ _
@@ -101,13 +100,6 @@ module _ (s : Store) (f : List ℕ) (i : Consistent s f) (live : Live s) (k : La
       (λ q. commit-live s f i live k (lane-below s f i (k .0) h) x _ (open-shows s f i k h o e free clear) (opens (eqb-false _ _ q)))
 
 pub serve-live : (s : Store) (f : List ℕ) (k : LaneNo) → Consistent s f → Live s → Live (serveOf s k .store)
-unfolding serveOf readyOf
-serve-live s f k i live = guarded-rule (λ (r : Outcome). Live (r .store)) s k _ (λ _. live) (λ h. go h (laneAt s (k .0) .waiting) refl)
-  where
-    go : k .0 < s .n → (w : Waiting) → laneAt s (k .0) .waiting ≡ w → Live (serveReady (readyWith w (laneAt s (k .0)) (s .control)) s k .store)
-    go h Idle e = live
-    go h (Served o) e = live
-    go h (Unserved o) e =
-        pick (λ (y : Ready). Live (serveReady y s k .store)) (busyOf (s .control)) _ _ (λ _. live)
-        (λ q. pick (λ (y : Ready). Live (serveReady y s k .store)) (ltb 0 (laneAt s (k .0) .returns .len)) _ _ (λ _. live)
-        (λ d. let p = ltb-false 0 (laneAt s (k .0) .returns .len) d in ready-live s f i live k h o e (not-busy (s .control) q) (omega arith)))
+serve-live s f k i live =
+    serve-rule (λ (r : Outcome). Live (r .store)) s k (λ _. live)
+    (λ o r. ready-live s f i live k (r .lane) o (r .unserved) (not-busy (s .control) (r .free)) (r .clear))

@@ -1,10 +1,10 @@
 -- Settle is never refused after any list of calls from an opening, and leaves a quiet store; so every operation begun completes. What
 -- it says is in specs/Completion.antt. Assumes nothing.
-use Prim.Native.Nat.{ℕ, zero, suc}
+use Prim.Native.Nat.{ℕ, suc}
 use mathlib.Core.Path.{_≡_, refl, ap, _∙_}
 use mathlib.Core.Bool.{true, false}
 use mathlib.Core.List.{List, [], _∷_, _++_, List·Memᴰ}
-use Rattle.words.proofs.Folds.{or-right, pick}
+use Rattle.words.proofs.Folds.{or-right}
 use Rattle.answers.specs.declared.Answer.{Answer}
 use Rattle.answers.specs.declared.Answer.the-variants.{Opened, Done, Wait, Step}
 use Rattle.answers.specs.Refusals.{refusedOf}
@@ -27,6 +27,7 @@ use Rattle.machine.proofs.Live.{Live}
 use Rattle.machine.proofs.LiveSpare.{Spare, open-spare, step-spare, run-spare}
 use Rattle.machine.proofs.LiveKeeps.{settle-step-live, run-live}
 use Rattle.machine.proofs.LiveStep.{step-goes}
+use Rattle.machine.proofs.RulesSettle.{repeat-rule}
 
 -- what a store has on which settle is never refused
 pub record Lively (s : Store) : Type 0 where
@@ -57,13 +58,14 @@ step-lively s l =
 
 -- no step is refused
 repeat-goes : (n : ℕ) (p : Progress) → refusedOf (p .answer) ≡ false → Lively (p .store) → refusedOf (repeatStep n p .answer) ≡ false
-unfolding repeatStep advance ended
-repeat-goes zero p e l = e
-repeat-goes (suc n) p e l =
-    pick (λ (r : Progress). refusedOf (r .answer) ≡ false) (ended p) p (repeatStep n (advance p)) (λ _. e)
-    (λ q. repeat-goes n (advance p)
-    (step-goes (p .store) (l .flat) (l .consistent) (l .live) (l .spare) (or-right (refusedOf (p .answer)) (quietOf (p .store)) q))
-    (step-lively (p .store) l))
+unfolding advance ended
+repeat-goes n p e l = repeat-rule (λ (r : Progress). (refusedOf (r .answer) ≡ false) × Lively (r .store)) goes n p (e, l) .0
+  where
+    goes : (q : Progress) → ended q ≡ false → (refusedOf (q .answer) ≡ false) × Lively (q .store) → (refusedOf (advance q .answer) ≡ false) × Lively (advance q .store)
+    goes q a (_, l) = (
+      step-goes (q .store) (l .flat) (l .consistent) (l .live) (l .spare) (or-right (refusedOf (q .answer)) (quietOf (q .store)) a),
+      step-lively (q .store) l,
+    )
 
 -- so settle answers with its count, and the store is then quiet
 pub settle-goes : (s : Store) → Lively s → Settles s

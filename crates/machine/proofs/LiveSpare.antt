@@ -1,10 +1,10 @@
 -- The places past the n lanes stay as an opening leaves them: with empty queues. A call on such a lane is refused, and no message
 -- goes to one. Assumes nothing.
-use Prim.Native.Nat.{ℕ, zero, suc, _*_, _<_, _≤_}
+use Prim.Native.Nat.{ℕ, zero, suc, _<_, _≤_}
 use mathlib.Core.Path.{_≡_, refl, sym, ap, _∙_}
 use mathlib.Core.Bool.{Bool, true, false}
 use mathlib.Core.List.{List, [], _∷_}
-use lib.Dec.{leb, ltb, eqb}
+use lib.Dec.{eqb}
 use lib.ListN.{getD, set}
 use lib.Seq.{getD-set-other}
 use native.Mathlib.Omega.{arith}
@@ -17,13 +17,10 @@ use Rattle.words.specs.Folds.{upTo}
 use Rattle.words.proofs.Folds.{by-cond}
 use Rattle.queues.specs.declared.ReturnMessage.{ReturnMessage}
 use Rattle.queues.specs.declared.DownMessage.{DownMessage}
-use Rattle.queues.specs.Queues.{emptyAt, headReturn, takeReturn}
+use Rattle.queues.specs.Queues.{headReturn, takeReturn}
 use Rattle.lanes.specs.declared.Lane.{Lane}
 use Rattle.lanes.specs.declared.Operation.{Operation}
-use Rattle.lanes.specs.declared.Waiting.{Waiting}
-use Rattle.lanes.specs.declared.Waiting.the-variants.{Idle, Unserved, Served}
 use Rattle.lanes.specs.Lanes.{withReturns}
-use Rattle.answers.specs.Refusals.{refusedOf}
 use Rattle.store.specs.declared.Store.{Store}
 use Rattle.store.specs.declared.Block.{Block}
 use Rattle.store.specs.declared.Control.{Control}
@@ -33,29 +30,28 @@ use Rattle.store.specs.declared.Counted.the-variants.{Awaits, Closes, NotAwaite
 use Rattle.store.specs.declared.Lookup.{Lookup}
 use Rattle.store.specs.declared.Lookup.the-variants.{Of, Nothing}
 use Rattle.store.specs.declared.Outcome.{Outcome}
-use Rattle.store.specs.Control.{busyOf, lowered, countedOf, answerOf}
+use Rattle.store.specs.Control.{lowered, countedOf, answerOf}
 use Rattle.store.specs.Opening.{badShape, blankLane, freshOf, openOf}
-use Rattle.store.specs.Stores.{noLane, laneAt, blockAt, withLane}
+use Rattle.store.specs.Stores.{noLane, laneAt, blockAt}
 use Rattle.machine.specs.declared.LaneStep.{LaneStep}
-use Rattle.machine.specs.declared.Ready.{Ready}
 use Rattle.machine.specs.declared.Move.{Move}
-use Rattle.machine.specs.Corruption.{corruptOf}
-use Rattle.machine.specs.Change.{commitLane, nobody, only, goesTo, someFull, postTo, postAll, commitMove}
+use Rattle.machine.specs.Change.{commitLane, nobody, only, goesTo, postTo, postAll, commitMove, movedStore}
 use Rattle.machine.specs.Begin.{beginOf}
-use Rattle.machine.specs.Serve.{ordered, countOf, close, readyWith, readyOf, serveMove, serveReady, serveOf}
+use Rattle.machine.specs.Serve.{ordered, countOf, close, serveMove, serveOf}
 use Rattle.machine.specs.Return.{takenBy, isAnswer, answered, returnMove, returnOf}
 use Rattle.machine.specs.Deliver.{deliverOf}
-use Rattle.machine.specs.Settle.{settleStep, boundOf, Progress, advance, ended, repeatStep, Settlement, settleOf}
+use Rattle.machine.specs.Settle.{settleStep, boundOf, Progress, advance, repeatStep, Settlement, settleOf, lane}
 use Rattle.machine.specs.Calls.{Call, Begin, Serve, Return, Deliver, Settle, callOf, run}
 use Rattle.machine.proofs.Tests.{on}
 use Rattle.machine.proofs.KeepsLane.{clash}
-use Rattle.machine.proofs.KeepsStore.{guarded-keeps}
 use Rattle.machine.proofs.Sound.{BlockSound, ControlSound, sound}
 use Rattle.machine.proofs.KeepsServe.{ordered-absent}
 use Rattle.machine.proofs.Directories.{nobody-none}
-use Rattle.machine.proofs.Project.{movedStore}
+use Rattle.machine.proofs.Project.{}
 use Rattle.machine.proofs.ConsistentOpen.{each-lane}
 use Rattle.machine.proofs.FallsSettle.{startAt, settle-rule}
+use Rattle.machine.proofs.Rules.{lane-rule, move-rule, begin-rule, serve-rule, return-rule, deliver-rule}
+use Rattle.machine.proofs.RulesSettle.{step-rule, repeat-rule}
 
 -- a lane that has no messages
 pub record Empty (l : Lane) : Type 0 where
@@ -83,8 +79,7 @@ set-spare : (n : ℕ) (ls : List Lane) (k : ℕ) (l : Lane) → k < n → ((j : 
 set-spare n ls k l h e j g = rw (getD-set-other ls k j l noLane (λ q. omega arith)) (e j g)
 
 lane-spare : (s : Store) (k : LaneNo) (r : LaneStep) → k .0 < s .n → Spare s → Spare (commitLane s k r .store)
-unfolding commitLane
-lane-spare s k r h e = by-cond Spare (refusedOf (r .answer)) s (withLane s (k .0) (r .lane)) e (set-spare (s .n) (s .lanes) (k .0) (r .lane) h e)
+lane-spare s k r h e = lane-rule (λ (x : Outcome). Spare (x .store)) s k r (λ _ _. e) (λ _. set-spare (s .n) (s .lanes) (k .0) (r .lane) h e)
 
 -- a message leaves the lanes that it does not go to as they were
 post-skip : (to : List Bool) (x : DownMessage) (j t : ℕ) (ls : List Lane) → (j ≡ t → goesTo to t ≡ false) → getD (postTo to x t ls) j noLane ≡ getD ls j noLane
@@ -100,10 +95,8 @@ post-skips to x j (suc t) ls e =
 -- memory's part of a call, whose message goes to lanes only
 move-spare : (s : Store) (k : LaneNo) (a : BlockNo) (v : Move) → k .0 < s .n → ((j : ℕ) → s .n ≤ j → j < 8 → goesTo (v .to) j ≡ false) → Spare s →
     Spare (commitMove s k a v .store)
-unfolding commitMove postAll
-move-spare s k a v h to e =
-    by-cond (λ (r : Outcome). Spare (r .store)) (refusedOf (v .answer)) _ _ e
-    (by-cond (λ (r : Outcome). Spare (r .store)) (someFull (v .to) _) _ _ e moved)
+unfolding postAll
+move-spare s k a v h to e = move-rule (λ (r : Outcome). Spare (r .store)) s k a v (λ _. e) (λ _ _. moved)
   where
     moved : Spare (movedStore s k a v)
     moved j g = rw (post-skips (v .to) (v .message) j 8 (set (s .lanes) (k .0) (v .lane)) (to j g)) (set-spare (s .n) (s .lanes) (k .0) (v .lane) h e j g)
@@ -120,18 +113,12 @@ serve-to n k o l b x h g j p q =
     by-cond (λ (v : Move). goesTo (v .to) j ≡ false) (eqb (countOf (ordered b k (o .command))) 0) _ _ (only-spare n k h j p) (ordered-absent n b k (o .command) g j p q)
 
 serve-spare : (s : Store) (k : LaneNo) → Spare s → Spare (serveOf s k .store)
-unfolding serveOf readyOf
-serve-spare s k e = guarded-keeps Spare s k _ e (λ c h. go c h (laneAt s (k .0) .waiting) refl)
-  where
-    go : corruptOf s ≡ false → k .0 < s .n → (w : Waiting) → laneAt s (k .0) .waiting ≡ w → Spare (serveReady (readyWith w (laneAt s (k .0)) (s .control)) s k .store)
-    go c h Idle q = e
-    go c h (Served o) q = e
-    go c h (Unserved o) q =
-        let a = sound s c in
-        by-cond (λ (y : Ready). Spare (serveReady y s k .store)) (busyOf (s .control)) _ _ e
-        (by-cond (λ (y : Ready). Spare (serveReady y s k .store)) (ltb 0 (laneAt s (k .0) .returns .len)) _ _ e
-        (move-spare s k (blockOf (o .word)) _ h
-        (serve-to (s .n) k o (laneAt s (k .0)) (blockAt s (blockOf (o .word) .0)) (s .control) h (a .block (blockOf (o .word) .0) (a .lane (k .0) h .unserved o q))) e))
+serve-spare s k e =
+    serve-rule (λ (r : Outcome). Spare (r .store)) s k (λ _. e)
+    (λ o r.
+    let a = sound s (r .sound) in
+    move-spare s k (blockOf (o .word)) _ (r .lane)
+    (serve-to (s .n) k o (laneAt s (k .0)) (blockAt s (blockOf (o .word) .0)) (s .control) (r .lane) (a .block (blockOf (o .word) .0) (a .lane (k .0) (r .lane) .unserved o (r .unserved)))) e)
 
 -- return
 answered-to : (n m : ℕ) (x : Control) (a : BlockNo) (l : Lane) (b : Block) (t : Lane) (u : Block) → ControlSound n m x → (j : ℕ) → n ≤ j →
@@ -152,38 +139,28 @@ return-to n m k x l b y g j p =
     (answered-to n m y (x .block) l b (withReturns (takeReturn (l .returns) .queue) l) (takenBy (x .kind) (x .words) k b) g j p) (nobody-none j)
 
 return-spare : (s : Store) (k : LaneNo) → Spare s → Spare (returnOf s k .store)
-unfolding returnOf
 return-spare s k e =
-    guarded-keeps Spare s k _ e
-    (λ c h. by-cond (λ (r : Outcome). Spare (r .store)) (emptyAt (laneAt s (k .0) .returns .len)) _ _ e
-    (move-spare s k (head .block) _ h
-    (λ j p _. return-to (s .n) (s .m) k head (laneAt s (k .0)) (blockAt s (head .block .0)) (s .control) (sound s c .control) j p) e))
-  where
-    head : ReturnMessage
-    head = headReturn (laneAt s (k .0) .returns)
+    return-rule (λ (r : Outcome). Spare (r .store)) s k (λ _. e)
+    (λ r.
+    let x = headReturn (laneAt s (k .0) .returns) in
+    move-spare s k (x .block) _ (r .lane)
+    (λ j p _. return-to (s .n) (s .m) k x (laneAt s (k .0)) (blockAt s (x .block .0)) (s .control) (sound s (r .sound) .control) j p) e)
 
 deliver-spare : (s : Store) (k : LaneNo) → Spare s → Spare (deliverOf s k .store)
-unfolding deliverOf
-deliver-spare s k e = guarded-keeps Spare s k _ e (λ _ h. lane-spare s k _ h e)
+deliver-spare s k e = deliver-rule (λ (r : Outcome). Spare (r .store)) s k (λ _. e) (λ _ h. lane-spare s k _ h e)
 
 begin-spare : (s : Store) (k : LaneNo) (op : Op) (w : WordNo) → Spare s → Spare (beginOf s k op w .store)
-unfolding beginOf
-begin-spare s k op w e =
-    guarded-keeps Spare s k _ e (λ _ h. by-cond (λ (r : Outcome). Spare (r .store)) (leb (4 * s .m) (w .0)) _ _ e (lane-spare s k _ h e))
+begin-spare s k op w e = begin-rule (λ (r : Outcome). Spare (r .store)) s k op w (λ _. e) (λ r. lane-spare s k _ (r .lane) e)
 
 -- settle
 pub step-spare : (s : Store) → Spare s → Spare (settleStep s .store)
-unfolding settleStep
 step-spare s e =
-    by-cond (λ (r : Outcome). Spare (r .store)) (ltb _ (s .n)) _ _ (deliver-spare s _ e)
-    (by-cond (λ (r : Outcome). Spare (r .store)) (ltb _ (s .n)) _ _ (return-spare s _ e)
-    (by-cond (λ (r : Outcome). Spare (r .store)) (ltb _ (s .n)) _ _ (serve-spare s _ e) e))
+    step-rule (λ (r : Outcome). Spare (r .store)) s (λ k _ _. deliver-spare s (lane k) e) (λ _ k _ _. return-spare s (lane k) e) (λ _ _ k _ _. serve-spare s (lane k) e)
+    (λ _ _ _. e)
 
 repeat-spare : (n : ℕ) (p : Progress) → Spare (p .store) → Spare (repeatStep n p .store)
-unfolding repeatStep advance
-repeat-spare zero p e = e
-repeat-spare (suc n) p e =
-    by-cond (λ (r : Progress). Spare (r .store)) (ended p) p (repeatStep n (advance p)) e (repeat-spare n (advance p) (step-spare (p .store) e))
+unfolding advance
+repeat-spare n p e = repeat-rule (λ (r : Progress). Spare (r .store)) (λ q _. step-spare (q .store)) n p e
 
 settle-spare : (s : Store) → Spare s → Spare (settleOf s .store)
 settle-spare s e = settle-rule (λ (r : Settlement). Spare (r .store)) s (λ _. e) (λ _ _ _. repeat-spare (suc (boundOf s)) (startAt s) e)

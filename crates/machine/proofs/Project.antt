@@ -21,7 +21,7 @@ use Rattle.store.specs.declared.Block.{Block}
 use Rattle.store.specs.Control.{serviceOf}
 use Rattle.store.specs.Stores.{noLane, noBlock, laneAt, blockAt, withLane}
 use Rattle.machine.specs.declared.Move.{Move}
-use Rattle.machine.specs.Change.{goesTo, someFull, posted, postAll}
+use Rattle.machine.specs.Change.{goesTo, someFull, posted, postAll, movedStore}
 use Rattle.machine.specs.Sized.{LaneSized, Sized}
 use Rattle.machine.proofs.Tests.{on, and-right}
 use Rattle.machine.proofs.Sets.{same?}
@@ -115,16 +115,6 @@ lane-sent s k l to x j t n h =
     post-at to x (set (s .lanes) k l) j t (z ∙ n) ∙
     ap (λ (y : Lane). cond (goesTo to j) (posted x y) y) (getD-set (s .lanes) k j l noLane (omega arith))
 
--- what memory's part of a call leaves, where it is not refused
-abbrev pub movedStore : Store → LaneNo → BlockNo → Move → Store
-movedStore s k a v = record {
-  n = s .n;
-  c = s .c;
-  m = s .m;
-  control = v .control;
-  lanes = postAll (v .to) (v .message) (set (s .lanes) (k .0) (v .lane));
-  blocks = set (s .blocks) (a .0) (v .block);
-}
 
 -- what memory's part of a call has to show: sizes, room in the queues, and that its message is about its block
 pub record Moves (s : Store) (k : LaneNo) (a : BlockNo) (v : Move) : Type 0 where

@@ -8,7 +8,6 @@ use lib.Dec.{leb}
 use lib.ListN.{length, set}
 use borrow.Author.Tests.{leb-false, eq-eqb, ne-eqb}
 use native.Mathlib.Omega.{arith}
-use Rattle.words.specs.declared.LaneNo.{LaneNo}
 use Rattle.words.specs.declared.LineNo.{LineNo}
 use Rattle.words.specs.declared.WordNo.{WordNo}
 use Rattle.words.specs.declared.BlockNo.{BlockNo}
@@ -31,13 +30,13 @@ use Rattle.lanes.specs.declared.Found.{Found}
 use Rattle.lanes.specs.declared.Found.the-variants.{At, Nothing}
 use Rattle.lanes.specs.Search.{lineAt, searchOf, vacantOf}
 use Rattle.lanes.specs.UseOrder.{placeAt}
-use Rattle.lanes.specs.Waits.{idleOf}
 use Rattle.lanes.specs.Lanes.{withWaiting}
-use Rattle.answers.specs.declared.Answer.the-variants.{Done, Wait, Refused}
+use Rattle.answers.specs.declared.Answer.the-variants.{Refused}
 use Rattle.answers.specs.declared.Refusal.{Refusal}
 use Rattle.answers.specs.declared.Refusal.the-variants.{QueueFull}
-use Rattle.answers.specs.Completions.{completionOf}
 use Rattle.machine.specs.declared.LaneStep.{LaneStep}
+use Rattle.machine.specs.declared.LaneAnswer.the-variants.{Value, Waits}
+use Rattle.machine.specs.declared.LaneAnswer.{LaneAnswer}
 use Rattle.machine.specs.Change.{refuseLane}
 use Rattle.machine.specs.Begin.{complete, waits, hit, readOf, ejectOf, evict, missWith, miss, beginAt, beginLane}
 use Rattle.machine.specs.Sized.{LaneSized}
@@ -111,25 +110,25 @@ pub waiting-other : (o : Operation) (a : BlockNo) → a .0 ≢ blockOf (o .word)
 waiting-other o a n = let t = ne-eqb (blockOf (o .word) .0) (a .0) (λ e. n (sym e)) in (rw t, rw t)
 
 -- an operation completes on line i with the contents x, which are valid and of a block that no other valid line has
-module _ (c : ℕ) (l : Lane) (long : c ≤ length (l .lines)) (u : Unique c l) (k : LaneNo) (i : LineNo) (x : Line) (op : Op) (w : WordNo) (h : i .0 < c) (v : x .valid ≡ true) (alone : Alone c i x l) where
-  complete-changed : Changed i (performOf x op w .line) l (complete c k i x op w l .lane)
+module _ (c : ℕ) (l : Lane) (long : c ≤ length (l .lines)) (u : Unique c l) (i : LineNo) (x : Line) (op : Op) (w : WordNo) (h : i .0 < c) (v : x .valid ≡ true) (alone : Alone c i x l) where
+  complete-changed : Changed i (performOf x op w .line) l (complete c i x op w l .lane)
   unfolding complete
   complete-changed = set-changed i (performOf x op w .line) l _ refl (omega arith)
 
-  pub complete-unique : Unique c (complete c k i x op w l .lane)
+  pub complete-unique : Unique c (complete c i x op w l .lane)
   complete-unique = unique-changed c i (performOf x op w .line) l _ complete-changed u (λ _. alone)
 
-  pub complete-here : (a : BlockNo) → x .block .0 ≡ a .0 → seen c a (complete c k i x op w l .lane) ≡ heldAs a (performOf x op w .line) (withWaiting Idle l)
+  pub complete-here : (a : BlockNo) → x .block .0 ≡ a .0 → seen c a (complete c i x op w l .lane) ≡ heldAs a (performOf x op w .line) (withWaiting Idle l)
   unfolding complete
   complete-here a e =
       let f = changed-found c i (performOf x op w .line) l _ complete-changed complete-unique h a (valid-holds (performOf x op w .line) a v e) in
-      seen-held c a (complete c k i x op w l .lane) i f ∙ ap (λ (y : Line). heldAs a y (withWaiting Idle l)) (complete-changed .here)
+      seen-held c a (complete c i x op w l .lane) i f ∙ ap (λ (y : Line). heldAs a y (withWaiting Idle l)) (complete-changed .here)
 
-  pub complete-others : (a : BlockNo) → a .0 ≢ x .block .0 → holdsOf (lineAt l i) a ≡ false → waitingOn a (l .waiting) ≡ Idle → seen c a (complete c k i x op w l .lane) ≡ seen c a l
+  pub complete-others : (a : BlockNo) → a .0 ≢ x .block .0 → holdsOf (lineAt l i) a ≡ false → waitingOn a (l .waiting) ≡ Idle → seen c a (complete c i x op w l .lane) ≡ seen c a l
   unfolding complete
   complete-others a n f e =
-      let s = changed-other c i (performOf x op w .line) l (complete c k i x op w l .lane) complete-changed a complete-unique f (other-holds (performOf x op w .line) a (λ q. n (sym q))) in
-      seen-same c a l (complete c k i x op w l .lane) s refl refl (sym e)
+      let s = changed-other c i (performOf x op w .line) l (complete c i x op w l .lane) complete-changed a complete-unique f (other-holds (performOf x op w .line) a (λ q. n (sym q))) in
+      seen-same c a l (complete c i x op w l .lane) s refl refl (sym e)
 
 -- a queue that took a message had a free place
 pub push-room : (q : ReturnQueue) (m : ReturnMessage) → pushReturn q m .full ≡ false → q .len < 2
@@ -194,8 +193,8 @@ module _ (c : ℕ) (l : Lane) (z : LaneSized l) (b : c ≤ 8) (u : Unique c l) (
       seen-same c a l (evicted i l) s (returns-other (l .returns) (ejectOf (lineAt l i)) (z .returns) room a (λ q. n (sym q ∙ e))) refl refl
 
 -- begin completes on a held line
-pub record HitCase (c : ℕ) (k : LaneNo) (op : Op) (w : WordNo) (l : Lane) (r : LaneStep) : Type 0 where
-  pub answer : r .answer ≡ Done (completionOf k (valueDone op w (seen c (blockOf w) l .words)))
+pub record HitCase (c : ℕ) (op : Op) (w : WordNo) (l : Lane) (r : LaneStep) : Type 0 where
+  pub answer : r .answer ≡ Value (valueDone op w (seen c (blockOf w) l .words))
   pub copy : held (seen c (blockOf w) l .line) ≡ true
   pub able : (isLoad op || dirty (seen c (blockOf w) l .line)) ≡ true
   pub here : seen c (blockOf w) (r .lane) ≡ hitSeen op w (seen c (blockOf w) l)
@@ -209,7 +208,7 @@ asked x op w = record { command = x; op = op; word = w }
 
 -- begin waits with command x, where the lane has s of the block
 pub record WaitCase (c : ℕ) (op : Op) (w : WordNo) (x : Command) (s : Status) (l : Lane) (r : LaneStep) : Type 0 where
-  pub answer : r .answer ≡ Wait
+  pub answer : r .answer ≡ Waits
   pub line : seen c (blockOf w) l .line ≡ s
   pub here : seen c (blockOf w) (r .lane) ≡ waitSeen (Unserved (asked x op w)) (seen c (blockOf w) l)
   pub waiting : r .lane .waiting ≡ Unserved (asked x op w)
@@ -239,23 +238,17 @@ pub record EvictCase (c : ℕ) (op : Op) (w : WordNo) (l : Lane) (r : LaneStep) 
 -- a refusal leaves the lane as it was
 pub record RefusedCase (l : Lane) (r : LaneStep) : Type 0 where
   pub reason : Refusal
-  pub answer : r .answer ≡ Refused reason
+  pub answer : r .answer ≡ LaneAnswer.Refused reason
   pub same : r .lane ≡ l
 
-pub data BeginCase (c : ℕ) (k : LaneNo) (op : Op) (w : WordNo) (l : Lane) (r : LaneStep) : Type 0 where
-  Hits : HitCase c k op w l r → BeginCase c k op w l r
-  Excludes : ExcludeCase c op w l r → BeginCase c k op w l r
-  Reads : ReadCase c op w l r → BeginCase c k op w l r
-  Evicts : EvictCase c op w l r → BeginCase c k op w l r
-  Refuses : RefusedCase l r → BeginCase c k op w l r
+pub data BeginCase (c : ℕ) (op : Op) (w : WordNo) (l : Lane) (r : LaneStep) : Type 0 where
+  Hits : HitCase c op w l r → BeginCase c op w l r
+  Excludes : ExcludeCase c op w l r → BeginCase c op w l r
+  Reads : ReadCase c op w l r → BeginCase c op w l r
+  Evicts : EvictCase c op w l r → BeginCase c op w l r
+  Refuses : RefusedCase l r → BeginCase c op w l r
 
--- no operation waits
-pub idle-waiting : (x : Waiting) → idleOf x ≡ true → x ≡ Idle
-idle-waiting Idle e = refl
-idle-waiting (Unserved o) e = clash (cc)
-idle-waiting (Served o) e = clash (cc)
-
-module _ (c : ℕ) (k : LaneNo) (op : Op) (w : WordNo) (l : Lane) (z : LaneSized l) (b : c ≤ 8) (u : Unique c l) (idle : l .waiting ≡ Idle) where
+module _ (c : ℕ) (op : Op) (w : WordNo) (l : Lane) (z : LaneSized l) (b : c ≤ 8) (u : Unique c l) (idle : l .waiting ≡ Idle) where
   -- a lane that waits with a command, seen by the operation's block and by another
   wait-here : (x : Command) (l′ : Lane) → seen c (blockOf w) (withWaiting (Unserved (asked x op w)) l′) ≡ waitSeen (Unserved (asked x op w)) (seen c (blockOf w) l′)
   wait-here x l′ =
@@ -281,20 +274,20 @@ module _ (c : ℕ) (k : LaneNo) (op : Op) (w : WordNo) (l : Lane) (z : LaneSized
     hit-alone : Alone c i (lineAt l i) l
     hit-alone = replace-alone c i (lineAt l i) l u hit-below (hit-valid .0) refl
 
-    hit-case : (isLoad op || lineAt l i .private) ≡ true → HitCase c k op w l (complete c k i (lineAt l i) op w l)
+    hit-case : (isLoad op || lineAt l i .private) ≡ true → HitCase c op w l (complete c i (lineAt l i) op w l)
     unfolding complete
     hit-case t =
         let long : c ≤ length (l .lines) = let n = z .lines in omega arith in
         record {
-          answer = ap (λ (x : Seen). Done (completionOf k (valueDone op w (x .words)))) (sym hit-seen);
+          answer = ap (λ (x : Seen). Value (valueDone op w (x .words))) (sym hit-seen);
           copy = ap (λ (x : Seen). held (x .line)) hit-seen ∙ held-line (lineAt l i .private);
           able = ap (λ (x : Seen). isLoad op || dirty (x .line)) hit-seen ∙ ap (λ (p : Bool). isLoad op || p) (dirty-line (lineAt l i .private)) ∙ t;
-          here = complete-here c l long u k i (lineAt l i) op w hit-below (hit-valid .0) hit-alone (blockOf w) (hit-valid .1) ∙
+          here = complete-here c l long u i (lineAt l i) op w hit-below (hit-valid .0) hit-alone (blockOf w) (hit-valid .1) ∙
               ap (λ (x : Waiting). heldAs (blockOf w) (performOf (lineAt l i) op w .line) (withWaiting x l)) (sym idle) ∙ ap (hitSeen op w) (sym hit-seen);
-          others = λ a n. complete-others c l long u k i (lineAt l i) op w hit-below (hit-valid .0) hit-alone a (λ q. n (q ∙ hit-valid .1))
+          others = λ a n. complete-others c l long u i (lineAt l i) op w hit-below (hit-valid .0) hit-alone a (λ q. n (q ∙ hit-valid .1))
               (other-holds (lineAt l i) a (λ q. n (sym q ∙ hit-valid .1))) (ap (waitingOn a) idle);
           waiting = refl;
-          unique = complete-unique c l long u k i (lineAt l i) op w hit-below (hit-valid .0) hit-alone;
+          unique = complete-unique c l long u i (lineAt l i) op w hit-below (hit-valid .0) hit-alone;
         }
 
     exclude-case : (isLoad op || lineAt l i .private) ≡ false → ExcludeCase c op w l (waits Exclude op w l)
@@ -311,7 +304,7 @@ module _ (c : ℕ) (k : LaneNo) (op : Op) (w : WordNo) (l : Lane) (z : LaneSized
           others = wait-other Exclude l idle;
         }
 
-    at-case : BeginCase c k op w l (hit c k i op w l)
+    at-case : BeginCase c op w l (hit c i op w l)
     unfolding hit
     at-case = on (isLoad op || lineAt l i .private) (λ t. rw t (Hits (hit-case t))) (λ t. rw t (Excludes (exclude-case t)))
 
@@ -348,26 +341,22 @@ module _ (c : ℕ) (k : LaneNo) (op : Op) (w : WordNo) (l : Lane) (z : LaneSized
         apart : lineAt l i .block .0 ≢ blockOf w .0
         apart q = let f = none-holds c l (blockOf w) e (i .0) h in let t = valid-holds (lineAt l i) (blockOf w) v q in clash (cc)
 
-    oldest-case : (i : LineNo) → i .0 < c → lineAt l i .valid ≡ true → BeginCase c k op w l (evict i op w l)
+    oldest-case : (i : LineNo) → i .0 < c → lineAt l i .valid ≡ true → BeginCase c op w l (evict i op w l)
     unfolding evict
     oldest-case i h v =
-        pick (BeginCase c k op w l) (pushReturn (l .returns) (ejectOf (lineAt l i)) .full) (refuseLane QueueFull l) (waits (readOf op) op w (evicted i l))
+        pick (BeginCase c op w l) (pushReturn (l .returns) (ejectOf (lineAt l i)) .full) (refuseLane QueueFull l) (waits (readOf op) op w (evicted i l))
         (λ t. Refuses (record { reason = QueueFull; answer = refl; same = refl }))
         (λ t. Evicts (evict-case i h v (push-room (l .returns) (ejectOf (lineAt l i)) t)))
 
-    miss-case : placeAt (l .order) 0 .0 < c → (f : Found) → vacantOf l c ≡ f → BeginCase c k op w l (missWith f op w l)
+    miss-case : placeAt (l .order) 0 .0 < c → (f : Found) → vacantOf l c ≡ f → BeginCase c op w l (missWith f op w l)
     miss-case h (At i) q = Reads read-case
     miss-case h Nothing q = oldest-case (placeAt (l .order) 0) h (all-valid l c q (placeAt (l .order) 0 .0) h)
 
 -- the lane's part of begin
-pub begin-case : (c : ℕ) (k : LaneNo) (op : Op) (w : WordNo) (l : Lane) → LaneSized l → c ≤ 8 → Unique c l → placeAt (l .order) 0 .0 < c → idleOf (l .waiting) ≡ true →
-    BeginCase c k op w l (beginLane c k op w l)
+pub begin-case : (c : ℕ) (op : Op) (w : WordNo) (l : Lane) → LaneSized l → c ≤ 8 → Unique c l → placeAt (l .order) 0 .0 < c → l .waiting ≡ Idle → BeginCase c op w l (beginLane c op w l)
 unfolding beginLane miss
-begin-case c k op w l z b u h t = rw t (go (searchOf l c (blockOf w)) refl)
+begin-case c op w l z b u h idle = go (searchOf l c (blockOf w)) refl
   where
-    idle : l .waiting ≡ Idle
-    idle = idle-waiting (l .waiting) t
-
-    go : (f : Found) → searchOf l c (blockOf w) ≡ f → BeginCase c k op w l (beginAt f c k op w l)
-    go (At i) e = at-case c k op w l z b u idle i e
-    go Nothing e = miss-case c k op w l z b u idle e h (vacantOf l c) refl
+    go : (f : Found) → searchOf l c (blockOf w) ≡ f → BeginCase c op w l (beginAt f c op w l)
+    go (At i) e = at-case c op w l z b u idle i e
+    go Nothing e = miss-case c op w l z b u idle e h (vacantOf l c) refl

@@ -8,12 +8,11 @@ use lib.Dec.{eqb}
 use lib.ListN.{length, set}
 use borrow.Author.Tests.{eqb-true, eqb-false, eq-eqb, ne-eqb}
 use native.Mathlib.Omega.{arith}
-use Rattle.words.specs.declared.LaneNo.{LaneNo}
 use Rattle.words.specs.declared.LineNo.{LineNo}
 use Rattle.words.specs.declared.BlockNo.{BlockNo}
 use Rattle.words.specs.declared.Line.{Line}
 use Rattle.words.specs.Units.{blockOf}
-use Rattle.words.specs.Lines.{holdsOf, invalid}
+use Rattle.words.specs.Lines.{holdsOf, invalid, filledLine}
 use Rattle.words.specs.Operations.{isLoad}
 use Rattle.words.proofs.Folds.{pick}
 use Rattle.queues.specs.declared.ReturnMessage.{ReturnMessage}
@@ -30,14 +29,13 @@ use Rattle.lanes.specs.declared.Waiting.the-variants.{Idle, Unserved, Served}
 use Rattle.lanes.specs.declared.Found.{Found}
 use Rattle.lanes.specs.declared.Found.the-variants.{At, Nothing}
 use Rattle.lanes.specs.Search.{lineAt, searchOf, vacantOf}
-use Rattle.lanes.specs.Lanes.{withDowns}
-use Rattle.answers.specs.declared.Answer.the-variants.{Done, Step}
+use Rattle.lanes.specs.Lanes.{withDowns, withLines, withReturns}
 use Rattle.answers.specs.declared.Refusal.{Refusal}
 use Rattle.answers.specs.declared.Refusal.the-variants.{NothingPending, QueueFull, Unexpected}
-use Rattle.answers.specs.Completions.{completionOf}
 use Rattle.machine.specs.declared.LaneStep.{LaneStep}
 use Rattle.machine.specs.declared.Ready.{Ready}
 use Rattle.machine.specs.declared.Ready.the-variants.{Go, No}
+use Rattle.machine.specs.declared.LaneAnswer.the-variants.{Value, Stepped}
 use Rattle.machine.specs.Change.{refuseLane}
 use Rattle.machine.specs.Begin.{complete, bareReturn, wordsReturn}
 use Rattle.machine.specs.Deliver.{reply, shared, updateAt, purgedOf, purgeAt, claimed, fillAt, grantAt, bareAt, servedOn, grantTo, bareTo, deliverKind, orAsBefore, deliverLane}
@@ -68,27 +66,27 @@ pub record Taken (c : ℕ) (y : DownKind) (l : Lane) (r : LaneStep) : Type 0 whe
 -- an order is taken: f says what the block sees after it
 pub record OrderCase (c : ℕ) (y : DownKind) (f : Status → BlockNo → List DownMessage → Seen → Seen) (l : Lane) (r : LaneStep) : Type 0 where
   pub taken : Taken c y l r
-  pub answer : r .answer ≡ Step
+  pub answer : r .answer ≡ Stepped
   pub here : seen c (headBlock l) (r .lane) ≡ f (seen c (headBlock l) l .line) (headBlock l) (taken .rest) (seen c (headBlock l) l)
   pub waiting : r .lane .waiting ≡ l .waiting
 
 -- a grant is taken, and the operation completes on the words ws
-pub record GrantCase (c : ℕ) (k : LaneNo) (y : DownKind) (ws : List ℕ) (l : Lane) (r : LaneStep) : Type 0 where
+pub record GrantCase (c : ℕ) (y : DownKind) (ws : List ℕ) (l : Lane) (r : LaneStep) : Type 0 where
   pub taken : Taken c y l r
   pub operation : Operation
   pub served : l .waiting ≡ Served operation
   pub block : blockOf (operation .word) .0 ≡ headBlock l .0
   pub before : seen c (headBlock l) l .waiting ≡ Served operation
-  pub answer : r .answer ≡ Done (completionOf k (valueDone (operation .op) (operation .word) ws))
+  pub answer : r .answer ≡ Value (valueDone (operation .op) (operation .word) ws)
   pub here : seen c (headBlock l) (r .lane) ≡ grantSeen operation ws (taken .rest) (seen c (headBlock l) l)
   pub waiting : r .lane .waiting ≡ Idle
 
-pub data DeliverCase (c : ℕ) (k : LaneNo) (l : Lane) (r : LaneStep) : Type 0 where
-  Updates : OrderCase c Update updateSeen l r → DeliverCase c k l r
-  Purges : OrderCase c Purge purgeSeen l r → DeliverCase c k l r
-  Grants : seen c (headBlock l) l .line ≡ Invalid → GrantCase c k Grant (headDown (l .downs) .words) l r → DeliverCase c k l r
-  BareGrants : held (seen c (headBlock l) l .line) ≡ true → GrantCase c k BareGrant (seen c (headBlock l) l .words) l r → DeliverCase c k l r
-  Refuses : RefusedCase l r → DeliverCase c k l r
+pub data DeliverCase (c : ℕ) (l : Lane) (r : LaneStep) : Type 0 where
+  Updates : OrderCase c Update updateSeen l r → DeliverCase c l r
+  Purges : OrderCase c Purge purgeSeen l r → DeliverCase c l r
+  Grants : seen c (headBlock l) l .line ≡ Invalid → GrantCase c Grant (headDown (l .downs) .words) l r → DeliverCase c l r
+  BareGrants : held (seen c (headBlock l) l .line) ≡ true → GrantCase c BareGrant (seen c (headBlock l) l .words) l r → DeliverCase c l r
+  Refuses : RefusedCase l r → DeliverCase c l r
 
 -- an order's move, on a line x and on none
 module _ (s : Seen) (a : BlockNo) (rest : List DownMessage) where
@@ -121,7 +119,7 @@ claimed-line false = refl
 
 -- the lane with other lines, its head taken and an answer sent
 abbrev answered : List Line → ReturnMessage → Lane → Lane
-answered ls m l = record { lines = ls; order = l .order; returns = pushReturn (l .returns) m .queue; downs = afterHead l; waiting = l .waiting }
+answered ls m l = withReturns (pushReturn (l .returns) m .queue) (withDowns (afterHead l) (withLines ls l))
 
 -- .. its lines changed for the head's block alone, which then has status t and the words ws
 record Relined (c : ℕ) (ls : List Line) (m : ReturnMessage) (t : Status) (ws : List ℕ) (l : Lane) : Type 0 where
@@ -180,7 +178,7 @@ module _ (c : ℕ) (l : Lane) (z : LaneSized l) (b : c ≤ 8) (u : Unique c l) (
           words = ap (λ (r : Seen). r .words) s;
         }
 
-module _ (c : ℕ) (k : LaneNo) (l : Lane) (z : LaneSized l) (b : c ≤ 8) (u : Unique c l) (some : l .downs .len ≢ 0) (short : l .downs .len ≤ 2) where
+module _ (c : ℕ) (l : Lane) (z : LaneSized l) (b : c ≤ 8) (u : Unique c l) (some : l .downs .len ≢ 0) (short : l .downs .len ≤ 2) where
   -- the messages about block a once the head has left
   left : BlockNo → List DownMessage
   left a = keepIf (downAbout a) (downsIn (afterHead l))
@@ -214,7 +212,7 @@ module _ (c : ℕ) (k : LaneNo) (l : Lane) (z : LaneSized l) (b : c ≤ 8) (u : 
     -- the order is taken, given what f says for status t and the words ws after it
     order-case : (y : DownKind) (f : Status → BlockNo → List DownMessage → Seen → Seen) (t : Status) (ws : List ℕ) → headDown (l .downs) .kind ≡ y → Relined c ls m t ws l →
         answerSeen t ws m (left (headBlock l)) (seen c (headBlock l) l) ≡ f (seen c (headBlock l) l .line) (headBlock l) (left (headBlock l)) (seen c (headBlock l) l) →
-        OrderCase c y f l (record { answer = Step; lane = answered ls m l })
+        OrderCase c y f l (record { answer = Stepped; lane = answered ls m l })
     order-case y f t ws q x p =
         record {
           taken = record { kind = q; rest = left (headBlock l); head = downs-head; others = λ a n. answer-others a n (x .same a n); unique = x .unique };
@@ -225,11 +223,11 @@ module _ (c : ℕ) (k : LaneNo) (l : Lane) (z : LaneSized l) (b : c ≤ 8) (u : 
         }
 
   -- 12, or the answer is sent
-  reply-rule : (ls : List Line) (m : ReturnMessage) → (l .returns .len < 2 → DeliverCase c k l (record { answer = Step; lane = answered ls m l })) →
-      DeliverCase c k l (orAsBefore l (reply m (record { lines = ls; order = l .order; returns = l .returns; downs = afterHead l; waiting = l .waiting })))
+  reply-rule : (ls : List Line) (m : ReturnMessage) → (l .returns .len < 2 → DeliverCase c l (record { answer = Stepped; lane = answered ls m l })) →
+      DeliverCase c l (orAsBefore l (reply m (withDowns (afterHead l) (withLines ls l))))
   unfolding reply
   reply-rule ls m next =
-      pick (λ (r : LaneStep). DeliverCase c k l (orAsBefore l r)) (pushReturn (l .returns) m .full) (refuseLane QueueFull _) (record { answer = Step; lane = answered ls m l })
+      pick (λ (r : LaneStep). DeliverCase c l (orAsBefore l r)) (pushReturn (l .returns) m .full) (refuseLane QueueFull _) (record { answer = Stepped; lane = answered ls m l })
       (λ t. Refuses (record { reason = QueueFull; answer = refl; same = refl })) (λ t. next (push-room (l .returns) m t))
 
   -- the line found, and none found, as the head's block sees them
@@ -239,7 +237,7 @@ module _ (c : ℕ) (k : LaneNo) (l : Lane) (z : LaneSized l) (b : c ≤ 8) (u : 
   no-line : searchOf l c (headBlock l) ≡ Nothing → (seen c (headBlock l) l .line ≡ Invalid) × (seen c (headBlock l) l .words ≡ [])
   no-line e = let s = seen-none c (headBlock l) l e in (ap (λ (x : Seen). x .line) s, ap (λ (x : Seen). x .words) s)
 
-  update-case : headDown (l .downs) .kind ≡ Update → (f : Found) → searchOf l c (headBlock l) ≡ f → DeliverCase c k l (orAsBefore l (updateAt f (headBlock l) (withDowns (afterHead l) l)))
+  update-case : headDown (l .downs) .kind ≡ Update → (f : Found) → searchOf l c (headBlock l) ≡ f → DeliverCase c l (orAsBefore l (updateAt f (headBlock l) (withDowns (afterHead l) l)))
   update-case q (At i) e =
       let x = lineAt l i in
       let m = wordsReturn Updated (headBlock l) (x .words) in
@@ -253,7 +251,7 @@ module _ (c : ℕ) (k : LaneNo) (l : Lane) (z : LaneSized l) (b : c ≤ 8) (u : 
       (λ room. Updates (order-case (l .lines) m refl room Update updateSeen Invalid [] q (untouched c l z b u m e)
       (update-none (seen c (headBlock l) l) (headBlock l) (left (headBlock l)) (no-line e .0) (no-line e .1))))
 
-  purge-case : headDown (l .downs) .kind ≡ Purge → (f : Found) → searchOf l c (headBlock l) ≡ f → DeliverCase c k l (orAsBefore l (purgeAt f (headBlock l) (withDowns (afterHead l) l)))
+  purge-case : headDown (l .downs) .kind ≡ Purge → (f : Found) → searchOf l c (headBlock l) ≡ f → DeliverCase c l (orAsBefore l (purgeAt f (headBlock l) (withDowns (afterHead l) l)))
   purge-case q (At i) e =
       let x = lineAt l i in
       let m = purgedOf (headBlock l) x in
@@ -277,11 +275,11 @@ module _ (c : ℕ) (k : LaneNo) (l : Lane) (z : LaneSized l) (b : c ≤ 8) (u : 
       long : c ≤ length (l .lines)
       long = let m = z .lines in omega arith
 
-      grant-here : seen c (headBlock l) (complete c k i (claimed (o .op) x) (o .op) (o .word) (withDowns (afterHead l) l) .lane) ≡
+      grant-here : seen c (headBlock l) (complete c i (claimed (o .op) x) (o .op) (o .word) (withDowns (afterHead l) l) .lane) ≡
           grantSeen o (x .words) (left (headBlock l)) (seen c (headBlock l) l)
       unfolding seen left
       grant-here =
-          complete-here c (withDowns (afterHead l) l) long u k i (claimed (o .op) x) (o .op) (o .word) h v alone (headBlock l) e ∙
+          complete-here c (withDowns (afterHead l) l) long u i (claimed (o .op) x) (o .op) (o .word) h v alone (headBlock l) e ∙
           (λ j. record {
             line = claimed-line (isLoad (o .op)) j;
             words = wordsDone (o .op) (o .word) (x .words);
@@ -291,14 +289,14 @@ module _ (c : ℕ) (k : LaneNo) (l : Lane) (z : LaneSized l) (b : c ≤ 8) (u : 
           })
 
       grant-others : ((a : BlockNo) → a .0 ≢ headBlock l .0 → holdsOf (lineAt l i) a ≡ false) → (a : BlockNo) → a .0 ≢ headBlock l .0 →
-          seen c a (complete c k i (claimed (o .op) x) (o .op) (o .word) (withDowns (afterHead l) l) .lane) ≡ seen c a l
+          seen c a (complete c i (claimed (o .op) x) (o .op) (o .word) (withDowns (afterHead l) l) .lane) ≡ seen c a l
       grant-others apart a m =
-          complete-others c (withDowns (afterHead l) l) long u k i (claimed (o .op) x) (o .op) (o .word) h v alone a (λ q. m (q ∙ e)) (apart a m)
+          complete-others c (withDowns (afterHead l) l) long u i (claimed (o .op) x) (o .op) (o .word) h v alone a (λ q. m (q ∙ e)) (apart a m)
           (ap (waitingOn a) t ∙ waiting-other o a (λ q. m (q ∙ n)) .1) ∙
           seen-same c a l (withDowns (afterHead l) l) (record { line = refl; words = refl }) refl (downs-other a m) refl
 
       grant-case : (y : DownKind) (ws : List ℕ) → headDown (l .downs) .kind ≡ y → x .words ≡ ws → ((a : BlockNo) → a .0 ≢ headBlock l .0 → holdsOf (lineAt l i) a ≡ false) →
-          GrantCase c k y ws l (orAsBefore l (complete c k i (claimed (o .op) x) (o .op) (o .word) (withDowns (afterHead l) l)))
+          GrantCase c y ws l (orAsBefore l (complete c i (claimed (o .op) x) (o .op) (o .word) (withDowns (afterHead l) l)))
       unfolding complete
       grant-case y ws q r apart =
           record {
@@ -307,32 +305,32 @@ module _ (c : ℕ) (k : LaneNo) (l : Lane) (z : LaneSized l) (b : c ≤ 8) (u : 
               rest = left (headBlock l);
               head = downs-head;
               others = grant-others apart;
-              unique = complete-unique c (withDowns (afterHead l) l) long u k i (claimed (o .op) x) (o .op) (o .word) h v alone;
+              unique = complete-unique c (withDowns (afterHead l) l) long u i (claimed (o .op) x) (o .op) (o .word) h v alone;
             };
             operation = o;
             served = t;
             block = n;
             before = served-seen;
-            answer = ap (λ (m : List ℕ). Done (completionOf k (valueDone (o .op) (o .word) m))) r;
+            answer = ap (λ (m : List ℕ). Value (valueDone (o .op) (o .word) m)) r;
             here = grant-here ∙ ap (λ (m : List ℕ). grantSeen o m (left (headBlock l)) (seen c (headBlock l) l)) r;
             waiting = refl;
           }
 
     fill-case : headDown (l .downs) .kind ≡ Grant → searchOf l c (headBlock l) ≡ Nothing → (f : Found) → vacantOf l c ≡ f →
-        DeliverCase c k l (orAsBefore l (fillAt f c k (headDown (l .downs)) o (withDowns (afterHead l) l)))
+        DeliverCase c l (orAsBefore l (fillAt f c (headDown (l .downs)) o (withDowns (afterHead l) l)))
     fill-case q e (At i) r =
-        let x : Line = record { valid = true; private = false; block = headBlock l; words = headDown (l .downs) .words } in
+        let x : Line = filledLine (headBlock l) (headDown (l .downs) .words) in
         let p = vacant-invalid c l i r in
         Grants (no-line e .0) (grant-case i x (p .0) refl refl (fill-alone c i x l e) Grant (x .words) q refl (λ a _. invalid-holds (lineAt l i) a (p .1)))
     fill-case q e Nothing r = Refuses (record { reason = Unexpected; answer = refl; same = refl })
 
     words-case : headDown (l .downs) .kind ≡ Grant → (f : Found) → searchOf l c (headBlock l) ≡ f →
-        DeliverCase c k l (orAsBefore l (grantAt f c k (headDown (l .downs)) o (withDowns (afterHead l) l)))
+        DeliverCase c l (orAsBefore l (grantAt f c (headDown (l .downs)) o (withDowns (afterHead l) l)))
     words-case q (At i) e = Refuses (record { reason = Unexpected; answer = refl; same = refl })
     words-case q Nothing e = fill-case q e (vacantOf l c) refl
 
     bare-case : headDown (l .downs) .kind ≡ BareGrant → (f : Found) → searchOf l c (headBlock l) ≡ f →
-        DeliverCase c k l (orAsBefore l (bareAt f c k o (withDowns (afterHead l) l)))
+        DeliverCase c l (orAsBefore l (bareAt f c o (withDowns (afterHead l) l)))
     bare-case q (At i) e =
         let x = lineAt l i in
         let h = found-holds c l (headBlock l) i e in
@@ -350,19 +348,19 @@ module _ (c : ℕ) (k : LaneNo) (l : Lane) (z : LaneSized l) (b : c ≤ 8) (u : 
   served-case P refused go (Served o) e =
       pick P (eqb (blockOf (o .word) .0) (headBlock l .0)) (Go o) (No Unexpected) (λ q. go o e (eqb-true _ _ q)) (λ _. refused Unexpected)
 
-  kind-case : (y : DownKind) → headDown (l .downs) .kind ≡ y → DeliverCase c k l (orAsBefore l (deliverKind y c k (headDown (l .downs)) (withDowns (afterHead l) l)))
+  kind-case : (y : DownKind) → headDown (l .downs) .kind ≡ y → DeliverCase c l (orAsBefore l (deliverKind y c (headDown (l .downs)) (withDowns (afterHead l) l)))
   kind-case Update q = update-case q (searchOf l c (headBlock l)) refl
   kind-case Purge q = purge-case q (searchOf l c (headBlock l)) refl
   kind-case Grant q =
-      served-case (λ (r : Ready). DeliverCase c k l (orAsBefore l (grantTo r c k (headDown (l .downs)) (withDowns (afterHead l) l))))
+      served-case (λ (r : Ready). DeliverCase c l (orAsBefore l (grantTo r c (headDown (l .downs)) (withDowns (afterHead l) l))))
       (λ r. Refuses (record { reason = r; answer = refl; same = refl })) (λ o t n. words-case o t n q (searchOf l c (headBlock l)) refl) (l .waiting) refl
   kind-case BareGrant q =
-      served-case (λ (r : Ready). DeliverCase c k l (orAsBefore l (bareTo r c k (headDown (l .downs)) (withDowns (afterHead l) l))))
+      served-case (λ (r : Ready). DeliverCase c l (orAsBefore l (bareTo r c (headDown (l .downs)) (withDowns (afterHead l) l))))
       (λ r. Refuses (record { reason = r; answer = refl; same = refl })) (λ o t n. bare-case o t n q (searchOf l c (headBlock l)) refl) (l .waiting) refl
 
 -- the lane's part of deliver
-pub deliver-case : (c : ℕ) (k : LaneNo) (l : Lane) → LaneSized l → c ≤ 8 → Unique c l → l .downs .len ≤ 2 → DeliverCase c k l (deliverLane c k l)
+pub deliver-case : (c : ℕ) (l : Lane) → LaneSized l → c ≤ 8 → Unique c l → l .downs .len ≤ 2 → DeliverCase c l (deliverLane c l)
 unfolding deliverLane
-deliver-case c k l z b u h =
-    pick (DeliverCase c k l) (emptyAt (l .downs .len)) (refuseLane NothingPending l) _ (λ t. Refuses (record { reason = NothingPending; answer = refl; same = refl }))
-    (λ t. kind-case c k l z b u (eqb-false (l .downs .len) 0 t) h (headDown (l .downs) .kind) refl)
+deliver-case c l z b u h =
+    pick (DeliverCase c l) (emptyAt (l .downs .len)) (refuseLane NothingPending l) _ (λ t. Refuses (record { reason = NothingPending; answer = refl; same = refl }))
+    (λ t. kind-case c l z b u (eqb-false (l .downs .len) 0 t) h (headDown (l .downs) .kind) refl)

@@ -1,9 +1,9 @@
 -- An opening gives the arrays their declared lengths, and every step keeps them, whatever its answer. Assumes nothing.
-use Prim.Native.Nat.{ℕ, zero, suc, _*_, _<_, _≤_}
+use Prim.Native.Nat.{ℕ, zero, suc, _<_, _≤_}
 use mathlib.Core.Path.{_≡_, refl, _∙_}
 use mathlib.Core.Bool.{Bool, true, false, _||_}
 use mathlib.Core.List.{List}
-use lib.Dec.{leb, ltb, eqb}
+use lib.Dec.{eqb}
 use lib.ListN.{length, getD, set, length-set, length-replicate, getD-replicate}
 use native.Mathlib.Omega.{arith}
 use Rattle.words.specs.declared.LaneNo.{LaneNo}
@@ -40,10 +40,8 @@ use Rattle.lanes.specs.declared.Found.{Found}
 use Rattle.lanes.specs.declared.Found.the-variants.{At, Nothing}
 use Rattle.lanes.specs.Search.{lineAt, searchOf, vacantOf}
 use Rattle.lanes.specs.UseOrder.{placeAt}
-use Rattle.lanes.specs.Waits.{idleOf}
 use Rattle.lanes.specs.Lanes.{withWaiting, withReturns, withDowns, withLine}
-use Rattle.answers.specs.declared.Refusal.the-variants.{NothingPending, LaneBusy}
-use Rattle.answers.specs.Refusals.{refusedOf}
+use Rattle.answers.specs.declared.Refusal.the-variants.{NothingPending}
 use Rattle.store.specs.declared.Store.{Store}
 use Rattle.store.specs.declared.Block.{Block}
 use Rattle.store.specs.declared.Control.{Control}
@@ -52,22 +50,23 @@ use Rattle.store.specs.declared.Counted.the-variants.{Awaits, Closes, NotAwaite
 use Rattle.store.specs.declared.Outcome.{Outcome}
 use Rattle.store.specs.Control.{answerOf}
 use Rattle.store.specs.Opening.{blankLane, blankBlock, freshOf}
-use Rattle.store.specs.Stores.{noLane, noBlock, laneAt, blockAt, withLane}
+use Rattle.store.specs.Stores.{noLane, noBlock, laneAt, blockAt}
 use Rattle.machine.specs.declared.LaneStep.{LaneStep}
 use Rattle.machine.specs.declared.Ready.{Ready}
 use Rattle.machine.specs.declared.Ready.the-variants.{Go, No}
 use Rattle.machine.specs.declared.Move.{Move}
-use Rattle.machine.specs.Change.{refuseLane, commitLane, nobody, only, goesTo, someFull, posted, postTo, postAll, commitMove}
+use Rattle.machine.specs.Change.{refuseLane, commitLane, nobody, only, goesTo, posted, postTo, postAll, commitMove, refusedIn}
 use Rattle.machine.specs.Begin.{complete, waits, hit, ejectOf, evict, missWith, miss, beginAt, beginLane, beginOf}
-use Rattle.machine.specs.Serve.{ordered, countOf, closedBlock, close, readyOf, serveMove, serveReady, serveOf}
+use Rattle.machine.specs.Serve.{ordered, countOf, closedBlock, close, serveMove, serveOf}
 use Rattle.machine.specs.Return.{takenBy, isAnswer, answered, returnMove, returnOf}
 use Rattle.machine.specs.Deliver.{reply, shared, updateAt, purgeAt, fillAt, grantAt, bareAt, servedOn, grantTo, bareTo, deliverKind, deliverLane, deliverOf}
-use Rattle.machine.specs.Settle.{settleStep}
+use Rattle.machine.specs.Settle.{settleStep, lane}
 use Rattle.machine.specs.Sized.{LaneSized, Sized}
 use Rattle.machine.proofs.Sets.{set-cases}
 use Rattle.machine.proofs.Orders.{used-length}
-use Rattle.machine.proofs.KeepsStore.{guarded-keeps}
 use Rattle.machine.proofs.Keeps.{Whole}
+use Rattle.machine.proofs.Rules.{lane-rule, move-rule, begin-rule, serve-rule, return-rule, deliver-rule}
+use Rattle.machine.proofs.RulesSettle.{step-rule}
 
 -- a message joins a queue, or the head leaves it: its places stay 2
 push-return-sized : (q : ReturnQueue) (x : ReturnMessage) → length (q .at) ≡ 2 → length (pushReturn q x .queue .at) ≡ 2
@@ -100,9 +99,9 @@ module _ (l : Lane) (g : LaneSized l) where
   with-line-sized i x = record { lines = length-set (l .lines) (i .0) x ∙ g .lines; order = g .order; returns = g .returns; downs = g .downs }
 
   -- an operation completes on a line
-  complete-sized : (c : ℕ) (k : LaneNo) (i : LineNo) (x : Line) (op : Op) (w : WordNo) → LaneSized (complete c k i x op w l .lane)
+  complete-sized : (c : ℕ) (i : LineNo) (x : Line) (op : Op) (w : WordNo) → LaneSized (complete c i x op w l .lane)
   unfolding complete
-  complete-sized c k i x op w =
+  complete-sized c i x op w =
       record {
         lines = length-set (l .lines) (i .0) (performOf x op w .line) ∙ g .lines;
         order = used-length c i (l .order) ∙ g .order;
@@ -110,11 +109,11 @@ module _ (l : Lane) (g : LaneSized l) where
         downs = g .downs;
       }
 
-  hit-sized : (c : ℕ) (k : LaneNo) (i : LineNo) (op : Op) (w : WordNo) → LaneSized (hit c k i op w l .lane)
+  hit-sized : (c : ℕ) (i : LineNo) (op : Op) (w : WordNo) → LaneSized (hit c i op w l .lane)
   unfolding hit
-  hit-sized c k i op w =
-      by-cond (λ (r : LaneStep). LaneSized (r .lane)) (isLoad op || lineAt l i .private) (complete c k i (lineAt l i) op w l) (waits Exclude op w l)
-      (complete-sized c k i (lineAt l i) op w)
+  hit-sized c i op w =
+      by-cond (λ (r : LaneStep). LaneSized (r .lane)) (isLoad op || lineAt l i .private) (complete c i (lineAt l i) op w l) (waits Exclude op w l)
+      (complete-sized c i (lineAt l i) op w)
       (with-waiting-sized _)
 
   evict-sized : (i : LineNo) (op : Op) (w : WordNo) → LaneSized (evict i op w l .lane)
@@ -132,17 +131,15 @@ module _ (l : Lane) (g : LaneSized l) where
   miss-sized op w (At i) = with-waiting-sized _
   miss-sized op w Nothing = evict-sized (placeAt (l .order) 0) op w
 
-  begin-at-sized : (c : ℕ) (k : LaneNo) (op : Op) (w : WordNo) (f : Found) → LaneSized (beginAt f c k op w l .lane)
+  begin-at-sized : (c : ℕ) (op : Op) (w : WordNo) (f : Found) → LaneSized (beginAt f c op w l .lane)
   unfolding miss
-  begin-at-sized c k op w (At i) = hit-sized c k i op w
-  begin-at-sized c k op w Nothing = miss-sized op w (vacantOf l c)
+  begin-at-sized c op w (At i) = hit-sized c i op w
+  begin-at-sized c op w Nothing = miss-sized op w (vacantOf l c)
 
   -- the lane's part of begin
-  pub begin-lane-sized : (c : ℕ) (k : LaneNo) (op : Op) (w : WordNo) → LaneSized (beginLane c k op w l .lane)
+  pub begin-lane-sized : (c : ℕ) (op : Op) (w : WordNo) → LaneSized (beginLane c op w l .lane)
   unfolding beginLane
-  begin-lane-sized c k op w =
-      by-cond (λ (r : LaneStep). LaneSized (r .lane)) (idleOf (l .waiting)) (beginAt (searchOf l c (blockOf w)) c k op w l) (refuseLane LaneBusy l)
-      (begin-at-sized c k op w (searchOf l c (blockOf w))) g
+  begin-lane-sized c op w = begin-at-sized c op w (searchOf l c (blockOf w))
 
   -- a message joins the down queue
   posted-sized : (x : DownMessage) → LaneSized (posted x l)
@@ -154,7 +151,7 @@ module _ (l : Lane) (g : LaneSized l) where
       by-cond (λ (r : LaneStep). LaneSized (r .lane)) (pushReturn (l .returns) x .full) _ _ g
       (with-returns-sized (pushReturn (l .returns) x .queue) (push-return-sized (l .returns) x (g .returns)))
 
-module _ (c : ℕ) (k : LaneNo) (l : Lane) (g : LaneSized l) where
+module _ (c : ℕ) (l : Lane) (g : LaneSized l) where
   update-sized : (a : BlockNo) (f : Found) → LaneSized (updateAt f a l .lane)
   update-sized a (At i) = reply-sized (withLine i (shared (lineAt l i)) l) (with-line-sized l g i (shared (lineAt l i))) _
   update-sized a Nothing = reply-sized l g _
@@ -163,43 +160,43 @@ module _ (c : ℕ) (k : LaneNo) (l : Lane) (g : LaneSized l) where
   purge-sized a (At i) = reply-sized (withLine i (invalid (lineAt l i)) l) (with-line-sized l g i (invalid (lineAt l i))) _
   purge-sized a Nothing = reply-sized l g _
 
-  fill-sized : (x : DownMessage) (o : Operation) (f : Found) → LaneSized (fillAt f c k x o l .lane)
-  fill-sized x o (At i) = complete-sized l g c k i _ (o .op) (o .word)
+  fill-sized : (x : DownMessage) (o : Operation) (f : Found) → LaneSized (fillAt f c x o l .lane)
+  fill-sized x o (At i) = complete-sized l g c i _ (o .op) (o .word)
   fill-sized x o Nothing = g
 
-  grant-sized : (x : DownMessage) (o : Operation) (f : Found) → LaneSized (grantAt f c k x o l .lane)
+  grant-sized : (x : DownMessage) (o : Operation) (f : Found) → LaneSized (grantAt f c x o l .lane)
   grant-sized x o (At i) = g
   grant-sized x o Nothing = fill-sized x o (vacantOf l c)
 
-  bare-sized : (o : Operation) (f : Found) → LaneSized (bareAt f c k o l .lane)
-  bare-sized o (At i) = complete-sized l g c k i _ (o .op) (o .word)
+  bare-sized : (o : Operation) (f : Found) → LaneSized (bareAt f c o l .lane)
+  bare-sized o (At i) = complete-sized l g c i _ (o .op) (o .word)
   bare-sized o Nothing = g
 
-  grants-sized : (x : DownMessage) (r : Ready) → LaneSized (grantTo r c k x l .lane)
+  grants-sized : (x : DownMessage) (r : Ready) → LaneSized (grantTo r c x l .lane)
   grants-sized x (No n) = g
   grants-sized x (Go o) = grant-sized x o (searchOf l c (x .block))
 
-  bares-sized : (x : DownMessage) (r : Ready) → LaneSized (bareTo r c k x l .lane)
+  bares-sized : (x : DownMessage) (r : Ready) → LaneSized (bareTo r c x l .lane)
   bares-sized x (No n) = g
   bares-sized x (Go o) = bare-sized o (searchOf l c (x .block))
 
-  kind-sized : (y : DownKind) (x : DownMessage) → LaneSized (deliverKind y c k x l .lane)
+  kind-sized : (y : DownKind) (x : DownMessage) → LaneSized (deliverKind y c x l .lane)
   kind-sized Update x = update-sized (x .block) (searchOf l c (x .block))
   kind-sized Purge x = purge-sized (x .block) (searchOf l c (x .block))
   kind-sized Grant x = grants-sized x (servedOn (l .waiting) (x .block))
   kind-sized BareGrant x = bares-sized x (servedOn (l .waiting) (x .block))
 
 -- the lane's part of deliver
-pub deliver-lane-sized : (c : ℕ) (k : LaneNo) (l : Lane) → LaneSized l → LaneSized (deliverLane c k l .lane)
+pub deliver-lane-sized : (c : ℕ) (l : Lane) → LaneSized l → LaneSized (deliverLane c l .lane)
 unfolding deliverLane
-deliver-lane-sized c k l g =
+deliver-lane-sized c l g =
     by-cond (λ (r : LaneStep). LaneSized (r .lane)) (emptyAt (l .downs .len)) (refuseLane NothingPending l) _ g
-    (by-cond LaneSized (refusedOf (took .answer)) l (took .lane) g
-    (kind-sized c k (withDowns (takeDown (l .downs) .queue) l)
+    (by-cond LaneSized (refusedIn (took .answer)) l (took .lane) g
+    (kind-sized c (withDowns (takeDown (l .downs) .queue) l)
     (with-downs-sized l g (takeDown (l .downs) .queue) (take-down-sized (l .downs) (g .downs))) (headDown (l .downs) .kind) (headDown (l .downs))))
   where
     took : LaneStep
-    took = deliverKind (headDown (l .downs) .kind) c k (headDown (l .downs)) (withDowns (takeDown (l .downs) .queue) l)
+    took = deliverKind (headDown (l .downs) .kind) c (headDown (l .downs)) (withDowns (takeDown (l .downs) .queue) l)
 
 -- the lanes of a store, all of them with their lengths
 pub record LanesSized (ls : List Lane) : Type 0 where
@@ -234,26 +231,23 @@ lanes-sized s g = record { lanes = g .lanes; lane = g .lane }
 
 -- lane k after its part of a call
 pub commit-lane-sized : (s : Store) (k : LaneNo) (r : LaneStep) → Sized s → (k .0 < 8 → LaneSized (r .lane)) → Sized (commitLane s k r .store)
-unfolding commitLane
 commit-lane-sized s k r g f =
-    by-cond Sized (refusedOf (r .answer)) s (withLane s (k .0) (r .lane)) g
-    (let t = set-lane-sized (s .lanes) (k .0) (r .lane) (lanes-sized s g) f in
+    lane-rule (λ (x : Outcome). Sized (x .store)) s k r (λ _ _. g)
+    (λ _. let t = set-lane-sized (s .lanes) (k .0) (r .lane) (lanes-sized s g) f in
     record { lanes = t .lanes; blocks = g .blocks; lane = t .lane; present = g .present })
 
 -- the store after memory's part of a call
 pub commit-move-sized : (s : Store) (k : LaneNo) (a : BlockNo) (v : Move) → Sized s → (k .0 < 8 → LaneSized (v .lane)) →
     (a .0 < 64 → length (v .block .present) ≡ 8) → Sized (commitMove s k a v .store)
-unfolding commitMove
 commit-move-sized s k a v g f b =
-    by-cond (λ (r : Outcome). Sized (r .store)) (refusedOf (v .answer)) _ _ g
-    (by-cond (λ (r : Outcome). Sized (r .store)) (someFull (v .to) (set (s .lanes) (k .0) (v .lane))) _ _ g
-    (let t = post-all-sized (v .to) (v .message) _ (set-lane-sized (s .lanes) (k .0) (v .lane) (lanes-sized s g) f) in
+    move-rule (λ (r : Outcome). Sized (r .store)) s k a v (λ _. g)
+    (λ _ _. let t = post-all-sized (v .to) (v .message) _ (set-lane-sized (s .lanes) (k .0) (v .lane) (lanes-sized s g) f) in
     record {
       lanes = t .lanes;
       blocks = length-set (s .blocks) (a .0) (v .block) ∙ g .blocks;
       lane = t .lane;
       present = λ j h. set-cases (λ (y : Block). length (y .present) ≡ 8) (s .blocks) (a .0) j (v .block) noBlock (λ e. b (rw e at h)) (g .present j h);
-    }))
+    })
 
 -- the flags of one lane alone
 only-sized : (k : LaneNo) → length (only k) ≡ 8
@@ -329,48 +323,36 @@ open-sized n c m =
 
 -- the four calls
 pub begin-sized : (s : Store) (k : LaneNo) (op : Op) (w : WordNo) → Sized s → Sized (beginOf s k op w .store)
-unfolding beginOf
 begin-sized s k op w g =
-    guarded-keeps Sized s k _ g
-    (λ _ _. by-cond (λ (r : Outcome). Sized (r .store)) (leb (4 * s .m) (w .0)) _ _ g
-    (commit-lane-sized s k _ g (λ h. begin-lane-sized (laneAt s (k .0)) (g .lane (k .0) h) (s .c) k op w)))
+    begin-rule (λ (r : Outcome). Sized (r .store)) s k op w (λ _. g)
+    (λ _. commit-lane-sized s k _ g (λ h. begin-lane-sized (laneAt s (k .0)) (g .lane (k .0) h) (s .c) op w))
 
 pub serve-sized : (s : Store) (k : LaneNo) → Sized s → Sized (serveOf s k .store)
-unfolding serveOf
-serve-sized s k g = guarded-keeps Sized s k _ g (λ _ _. go (readyOf (laneAt s (k .0)) (s .control)))
-  where
-    go : (r : Ready) → Sized (serveReady r s k .store)
-    go (No n) = g
-    go (Go o) =
-        commit-move-sized s k (blockOf (o .word)) _ g
-        (λ h. serve-move-lane k o (laneAt s (k .0)) (blockAt s (blockOf (o .word) .0)) (s .control) (g .lane (k .0) h))
-        (λ h. serve-move-present k o (laneAt s (k .0)) (blockAt s (blockOf (o .word) .0)) (s .control) (g .present (blockOf (o .word) .0) h))
+serve-sized s k g =
+    serve-rule (λ (r : Outcome). Sized (r .store)) s k (λ _. g)
+    (λ o _. commit-move-sized s k (blockOf (o .word)) _ g
+    (λ h. serve-move-lane k o (laneAt s (k .0)) (blockAt s (blockOf (o .word) .0)) (s .control) (g .lane (k .0) h))
+    (λ h. serve-move-present k o (laneAt s (k .0)) (blockAt s (blockOf (o .word) .0)) (s .control) (g .present (blockOf (o .word) .0) h)))
 
 pub return-sized : (s : Store) (k : LaneNo) → Sized s → Sized (returnOf s k .store)
-unfolding returnOf
 return-sized s k g =
-    guarded-keeps Sized s k _ g
-    (λ _ _. by-cond (λ (r : Outcome). Sized (r .store)) (emptyAt (laneAt s (k .0) .returns .len)) _ _ g
-    (commit-move-sized s k (head .block) _ g
-    (λ h. return-move-lane k head (laneAt s (k .0)) (blockAt s (head .block .0)) (s .control) (g .lane (k .0) h))
-    (λ h. return-move-present k head (laneAt s (k .0)) (blockAt s (head .block .0)) (s .control) (g .present (head .block .0) h))))
-  where
-    head : ReturnMessage
-    head = headReturn (laneAt s (k .0) .returns)
+    return-rule (λ (r : Outcome). Sized (r .store)) s k (λ _. g)
+    (λ _.
+    let x = headReturn (laneAt s (k .0) .returns) in
+    commit-move-sized s k (x .block) _ g
+    (λ h. return-move-lane k x (laneAt s (k .0)) (blockAt s (x .block .0)) (s .control) (g .lane (k .0) h))
+    (λ h. return-move-present k x (laneAt s (k .0)) (blockAt s (x .block .0)) (s .control) (g .present (x .block .0) h)))
 
 pub deliver-sized : (s : Store) (k : LaneNo) → Sized s → Sized (deliverOf s k .store)
-unfolding deliverOf
 deliver-sized s k g =
-    guarded-keeps Sized s k _ g
-    (λ _ _. commit-lane-sized s k _ g (λ h. deliver-lane-sized (s .c) k (laneAt s (k .0)) (g .lane (k .0) h)))
+    deliver-rule (λ (r : Outcome). Sized (r .store)) s k (λ _. g)
+    (λ _ _. commit-lane-sized s k _ g (λ h. deliver-lane-sized (s .c) (laneAt s (k .0)) (g .lane (k .0) h)))
 
 -- settle's step, which is one of three of them
 pub settle-step-sized : (s : Store) → Sized s → Sized (settleStep s .store)
-unfolding settleStep
 settle-step-sized s g =
-    by-cond (λ (r : Outcome). Sized (r .store)) (ltb _ (s .n)) _ _ (deliver-sized s _ g)
-    (by-cond (λ (r : Outcome). Sized (r .store)) (ltb _ (s .n)) _ _ (return-sized s _ g)
-    (by-cond (λ (r : Outcome). Sized (r .store)) (ltb _ (s .n)) _ _ (serve-sized s _ g) g))
+    step-rule (λ (r : Outcome). Sized (r .store)) s (λ k _ _. deliver-sized s (lane k) g) (λ _ k _ _. return-sized s (lane k) g) (λ _ _ k _ _. serve-sized s (lane k) g)
+    (λ _ _ _. g)
 
 -- the use order of each lane has its 8 places
 pub sized-whole : (s : Store) → s .n ≤ 8 → Sized s → Whole s

@@ -1,9 +1,8 @@
 -- 01, "Begin": load, store v, exchange v, add v. Assumes nothing.
 use Prim.Native.Nat.{ℕ, _*_}
-use mathlib.Core.Bool.{Bool, true, false, cond, _||_}
+use mathlib.Core.Bool.{cond, _||_}
 use mathlib.Core.List.{List}
 use lib.Dec.{leb}
-use lib.ListN.{set}
 use Rattle.words.specs.declared.LaneNo.{LaneNo}
 use Rattle.words.specs.declared.LineNo.{LineNo}
 use Rattle.words.specs.declared.WordNo.{WordNo}
@@ -28,32 +27,38 @@ use Rattle.lanes.specs.Search.{lineAt, searchOf, vacantOf}
 use Rattle.lanes.specs.UseOrder.{placeAt, usedOf}
 use Rattle.lanes.specs.Waits.{idleOf}
 use Rattle.lanes.specs.Lanes.{withWaiting, withOrder, withLine, withReturns}
-use Rattle.answers.specs.declared.Answer.the-variants.{Done, Wait}
 use Rattle.answers.specs.declared.Refusal.the-variants.{NoSuchWord, LaneBusy, QueueFull}
-use Rattle.answers.specs.Completions.{completionOf}
 use Rattle.store.specs.declared.Store.{Store}
 use Rattle.store.specs.declared.Outcome.{Outcome}
 use Rattle.store.specs.Opening.{zeros}
 use Rattle.store.specs.Stores.{laneAt}
+use Rattle.machine.specs.declared.LaneAnswer.the-variants.{Value, Waits}
 use Rattle.machine.specs.declared.LaneStep.{LaneStep}
 use Rattle.machine.specs.Change.{refuse, refuseLane, guarded, commitLane}
 
--- Completing does the operation on that word of the line (line i, here with the contents x), gives the value so got, and is a use of the line; an operation that completes waits no more
-unfoldable pub complete : ℕ → LaneNo → LineNo → Line → Op → WordNo → Lane → LaneStep
-complete c k i x op w l =
-    let p = performOf x op w in
-    record {
-      answer = Done (completionOf k (p .value));
-      lane = withWaiting Idle (withOrder (usedOf c i (l .order)) (withLine i (p .line) l));
-    }
+-- the operation is done on a word of line i, here with the contents x
+abbrev pub performed : LineNo → Line → Op → WordNo → Lane → Lane
+performed i x op w l = withLine i (performOf x op w .line) l
+
+-- a use of line i
+abbrev pub useLine : ℕ → LineNo → Lane → Lane
+useLine c i l = withOrder (usedOf c i (l .order)) l
+
+-- an operation that completes waits no more
+abbrev pub waitsNoMore : Lane → Lane
+waitsNoMore l = withWaiting Idle l
+
+-- Completing does the operation on that word of the line, gives the value so got, and is a use of the line
+unfoldable pub complete : ℕ → LineNo → Line → Op → WordNo → Lane → LaneStep
+complete c i x op w l = record { answer = Value (performOf x op w .value); lane = waitsNoMore (useLine c i (performed i x op w l)) }
 
 -- the lane waits with a command
 abbrev pub waits : Command → Op → WordNo → Lane → LaneStep
-waits x op w l = record { answer = Wait; lane = withWaiting (Unserved (record { command = x; op = op; word = w })) l }
+waits x op w l = record { answer = Waits; lane = withWaiting (Unserved (record { command = x; op = op; word = w })) l }
 
 -- Load on a hit completes in that call. So do the other three on a hit with PRIVATE set. A hit with PRIVATE reset makes the lane wait with EXCLUDE
-unfoldable pub hit : ℕ → LaneNo → LineNo → Op → WordNo → Lane → LaneStep
-hit c k i op w l = cond (isLoad op || lineAt l i .private) (complete c k i (lineAt l i) op w l) (waits Exclude op w l)
+unfoldable pub hit : ℕ → LineNo → Op → WordNo → Lane → LaneStep
+hit c i op w l = cond (isLoad op || lineAt l i .private) (complete c i (lineAt l i) op w l) (waits Exclude op w l)
 
 -- A miss waits with READ, shared for load and exclusive otherwise
 abbrev pub readOf : Op → Command
@@ -86,16 +91,16 @@ unfoldable pub miss : ℕ → Op → WordNo → Lane → LaneStep
 miss c op w l = missWith (vacantOf l c) op w l
 
 -- the lane's part of begin, by what Search finds
-abbrev pub beginAt : Found → ℕ → LaneNo → Op → WordNo → Lane → LaneStep
-beginAt (At i) c k op w l = hit c k i op w l
-beginAt Nothing c k op w l = miss c op w l
+abbrev pub beginAt : Found → ℕ → Op → WordNo → Lane → LaneStep
+beginAt (At i) c op w l = hit c i op w l
+beginAt Nothing c op w l = miss c op w l
 
--- 8, then the lane's part
-unfoldable pub beginLane : ℕ → LaneNo → Op → WordNo → Lane → LaneStep
-beginLane c k op w l = cond (idleOf (l .waiting)) (beginAt (searchOf l c (blockOf w)) c k op w l) (refuseLane LaneBusy l)
+unfoldable pub beginLane : ℕ → Op → WordNo → Lane → LaneStep
+beginLane c op w l = beginAt (searchOf l c (blockOf w)) c op w l
 
 -- 14, 6, 7, 8, 12
 unfoldable pub beginOf : Store → LaneNo → Op → WordNo → Outcome
 beginOf s k op w =
     guarded s k
-    (cond (leb (4 * s .m) (w .0)) (refuse NoSuchWord s) (commitLane s k (beginLane (s .c) k op w (laneAt s (k .0)))))
+    (cond (leb (4 * s .m) (w .0)) (refuse NoSuchWord s)
+    (cond (idleOf (laneAt s (k .0) .waiting)) (commitLane s k (beginLane (s .c) op w (laneAt s (k .0)))) (refuse LaneBusy s)))

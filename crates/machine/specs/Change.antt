@@ -13,16 +13,20 @@ use Rattle.queues.specs.declared.DownKind.the-variants.{Update}
 use Rattle.queues.specs.Queues.{fullAt, pushDown}
 use Rattle.lanes.specs.declared.Lane.{Lane}
 use Rattle.lanes.specs.Lanes.{withDowns}
-use Rattle.answers.specs.declared.Answer.the-variants.{Refused}
+use Rattle.answers.specs.declared.Answer.{Answer}
+use Rattle.answers.specs.declared.Answer.the-variants.{Done, Wait, Step, Refused}
 use Rattle.answers.specs.declared.Refusal.{Refusal}
 use Rattle.answers.specs.declared.Refusal.the-variants.{NoSuchLane, QueueFull, Corrupt}
 use Rattle.answers.specs.Refusals.{refusedOf}
+use Rattle.answers.specs.Completions.{completionOf}
 use Rattle.store.specs.declared.Store.{Store}
 use Rattle.store.specs.declared.Block.{Block}
 use Rattle.store.specs.declared.Control.{Control}
 use Rattle.store.specs.declared.Outcome.{Outcome}
 use Rattle.store.specs.Opening.{zeros}
 use Rattle.store.specs.Stores.{noLane, withControl, withLanes, withLane, withBlock}
+use Rattle.machine.specs.declared.LaneAnswer.{LaneAnswer}
+use Rattle.machine.specs.declared.LaneAnswer.the-variants.{Value, Waits, Stepped}
 use Rattle.machine.specs.declared.LaneStep.{LaneStep}
 use Rattle.machine.specs.declared.Move.{Move}
 use Rattle.machine.specs.Corruption.{corruptOf}
@@ -37,11 +41,25 @@ guarded s k r = cond (corruptOf s) (refuse Corrupt s) (cond (leb (s .n) (k .0)) 
 
 -- a refusal of a lane's part
 abbrev pub refuseLane : Refusal → Lane → LaneStep
-refuseLane r l = record { answer = Refused r; lane = l }
+refuseLane r l = record { answer = LaneAnswer.Refused r; lane = l }
+
+-- whether a lane's part is refused
+abbrev pub refusedIn : LaneAnswer → Bool
+refusedIn (Value v) = false
+refusedIn Waits = false
+refusedIn Stepped = false
+refusedIn (LaneAnswer.Refused r) = true
+
+-- the answer of a call on lane k, by what its part came to: the one place where a completion is made
+abbrev pub answerTo : LaneNo → LaneAnswer → Answer
+answerTo k (Value v) = Done (completionOf k v)
+answerTo k Waits = Wait
+answerTo k Stepped = Step
+answerTo k (LaneAnswer.Refused r) = Refused r
 
 -- lane k after its part of a call
 unfoldable pub commitLane : Store → LaneNo → LaneStep → Outcome
-commitLane s k r = record { answer = r .answer; store = cond (refusedOf (r .answer)) s (withLane s (k .0) (r .lane)) }
+commitLane s k r = record { answer = answerTo k (r .answer); store = cond (refusedIn (r .answer)) s (withLane s (k .0) (r .lane)) }
 
 -- what stands where nothing is sent
 abbrev pub noMessage : DownMessage
@@ -79,12 +97,12 @@ abbrev pub refuseMove : Refusal → Lane → Block → Control → Move
 refuseMove r l b x = record { answer = Refused r; lane = l; block = b; control = x; to = nobody; message = noMessage }
 
 -- lane k, block a, the control and the queues of those that a message goes to, after memory's part of a call
-abbrev pub moved : Store → LaneNo → BlockNo → Move → Store
-moved s k a v =
+abbrev pub movedStore : Store → LaneNo → BlockNo → Move → Store
+movedStore s k a v =
     withBlock (withLanes (withControl s (v .control)) (postAll (v .to) (v .message) (set (s .lanes) (k .0) (v .lane)))) (a .0) (v .block)
 
 unfoldable pub commitMove : Store → LaneNo → BlockNo → Move → Outcome
 commitMove s k a v =
     let ls = set (s .lanes) (k .0) (v .lane) in
     cond (refusedOf (v .answer)) (record { answer = v .answer; store = s })
-    (cond (someFull (v .to) ls) (refuse QueueFull s) (record { answer = v .answer; store = moved s k a v }))
+    (cond (someFull (v .to) ls) (refuse QueueFull s) (record { answer = v .answer; store = movedStore s k a v }))

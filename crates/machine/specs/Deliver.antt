@@ -1,10 +1,8 @@
 -- 01, "Deliver k". Assumes nothing.
 use Prim.Native.Nat.{ℕ}
-use mathlib.Core.Bool.{true, false, not, cond}
+use mathlib.Core.Bool.{false, not, cond}
 use lib.Dec.{eqb}
-use lib.ListN.{set}
 use Rattle.words.specs.declared.LaneNo.{LaneNo}
-use Rattle.words.specs.declared.LineNo.{LineNo}
 use Rattle.words.specs.declared.BlockNo.{BlockNo}
 use Rattle.words.specs.declared.Line.{Line}
 use Rattle.words.specs.declared.Op.{Op}
@@ -25,16 +23,15 @@ use Rattle.lanes.specs.declared.Found.{Found}
 use Rattle.lanes.specs.declared.Found.the-variants.{At, Nothing}
 use Rattle.lanes.specs.Search.{lineAt, searchOf, vacantOf}
 use Rattle.lanes.specs.Lanes.{withReturns, withDowns, withLine}
-use Rattle.answers.specs.declared.Answer.the-variants.{Step}
 use Rattle.answers.specs.declared.Refusal.the-variants.{NothingPending, QueueFull, Unexpected}
-use Rattle.answers.specs.Refusals.{refusedOf}
 use Rattle.store.specs.declared.Store.{Store}
 use Rattle.store.specs.declared.Outcome.{Outcome}
 use Rattle.store.specs.Stores.{laneAt}
+use Rattle.machine.specs.declared.LaneAnswer.the-variants.{Stepped}
 use Rattle.machine.specs.declared.LaneStep.{LaneStep}
 use Rattle.machine.specs.declared.Ready.{Ready}
 use Rattle.machine.specs.declared.Ready.the-variants.{Go, No}
-use Rattle.machine.specs.Change.{refuseLane, guarded, commitLane}
+use Rattle.machine.specs.Change.{refuseLane, guarded, commitLane, refusedIn}
 use Rattle.machine.specs.Begin.{complete, bareReturn, wordsReturn}
 
 -- an answer joins the lane's return queue; 12 where that is full
@@ -42,7 +39,7 @@ unfoldable pub reply : ReturnMessage → Lane → LaneStep
 reply y l =
     let p = pushReturn (l .returns) y in
     cond (p .full) (refuseLane QueueFull l)
-    (record { answer = Step; lane = withReturns (p .queue) l })
+    (record { answer = Stepped; lane = withReturns (p .queue) l })
 
 -- PRIVATE is reset
 abbrev pub shared : Line → Line
@@ -67,20 +64,20 @@ abbrev pub claimed : Op → Line → Line
 claimed op x = withPrivate (not (isLoad op)) x
 
 -- A grant with words fills the lowest-numbered line that is not valid, and the operation completes; 16 with no free line
-abbrev pub fillAt : Found → ℕ → LaneNo → DownMessage → Operation → Lane → LaneStep
-fillAt (At i) c k x o l =
-    complete c k i (claimed (o .op) (filledLine (x .block) (x .words))) (o .op) (o .word) l
-fillAt Nothing c k x o l = refuseLane Unexpected l
+abbrev pub fillAt : Found → ℕ → DownMessage → Operation → Lane → LaneStep
+fillAt (At i) c x o l =
+    complete c i (claimed (o .op) (filledLine (x .block) (x .words))) (o .op) (o .word) l
+fillAt Nothing c x o l = refuseLane Unexpected l
 
 -- 16 for a grant with words on a held block
-abbrev pub grantAt : Found → ℕ → LaneNo → DownMessage → Operation → Lane → LaneStep
-grantAt (At i) c k x o l = refuseLane Unexpected l
-grantAt Nothing c k x o l = fillAt (vacantOf l c) c k x o l
+abbrev pub grantAt : Found → ℕ → DownMessage → Operation → Lane → LaneStep
+grantAt (At i) c x o l = refuseLane Unexpected l
+grantAt Nothing c x o l = fillAt (vacantOf l c) c x o l
 
 -- a bare grant uses the held line, and the operation completes; 16 on a block not held
-abbrev pub bareAt : Found → ℕ → LaneNo → Operation → Lane → LaneStep
-bareAt (At i) c k o l = complete c k i (claimed (o .op) (lineAt l i)) (o .op) (o .word) l
-bareAt Nothing c k o l = refuseLane Unexpected l
+abbrev pub bareAt : Found → ℕ → Operation → Lane → LaneStep
+bareAt (At i) c o l = complete c i (claimed (o .op) (lineAt l i)) (o .op) (o .word) l
+bareAt Nothing c o l = refuseLane Unexpected l
 
 -- the served operation on block a; 16 where there is none
 abbrev pub servedOn : Waiting → BlockNo → Ready
@@ -88,32 +85,32 @@ servedOn Idle a = No Unexpected
 servedOn (Unserved o) a = No Unexpected
 servedOn (Served o) a = cond (eqb (blockOf (o .word) .0) (a .0)) (Go o) (No Unexpected)
 
-abbrev pub grantTo : Ready → ℕ → LaneNo → DownMessage → Lane → LaneStep
-grantTo (No r) c k x l = refuseLane r l
-grantTo (Go o) c k x l = grantAt (searchOf l c (x .block)) c k x o l
+abbrev pub grantTo : Ready → ℕ → DownMessage → Lane → LaneStep
+grantTo (No r) c x l = refuseLane r l
+grantTo (Go o) c x l = grantAt (searchOf l c (x .block)) c x o l
 
-abbrev pub bareTo : Ready → ℕ → LaneNo → DownMessage → Lane → LaneStep
-bareTo (No r) c k x l = refuseLane r l
-bareTo (Go o) c k x l = bareAt (searchOf l c (x .block)) c k o l
+abbrev pub bareTo : Ready → ℕ → DownMessage → Lane → LaneStep
+bareTo (No r) c x l = refuseLane r l
+bareTo (Go o) c x l = bareAt (searchOf l c (x .block)) c o l
 
 -- what a message does in a lane that has taken it
-abbrev pub deliverKind : DownKind → ℕ → LaneNo → DownMessage → Lane → LaneStep
-deliverKind Update c k x l = updateAt (searchOf l c (x .block)) (x .block) l
-deliverKind Purge c k x l = purgeAt (searchOf l c (x .block)) (x .block) l
-deliverKind Grant c k x l = grantTo (servedOn (l .waiting) (x .block)) c k x l
-deliverKind BareGrant c k x l = bareTo (servedOn (l .waiting) (x .block)) c k x l
+abbrev pub deliverKind : DownKind → ℕ → DownMessage → Lane → LaneStep
+deliverKind Update c x l = updateAt (searchOf l c (x .block)) (x .block) l
+deliverKind Purge c x l = purgeAt (searchOf l c (x .block)) (x .block) l
+deliverKind Grant c x l = grantTo (servedOn (l .waiting) (x .block)) c x l
+deliverKind BareGrant c x l = bareTo (servedOn (l .waiting) (x .block)) c x l
 
 -- on a refusal the lane is as it was, with the message still in its queue
 abbrev pub orAsBefore : Lane → LaneStep → LaneStep
-orAsBefore l r = record { answer = r .answer; lane = cond (refusedOf (r .answer)) l (r .lane) }
+orAsBefore l r = record { answer = r .answer; lane = cond (refusedIn (r .answer)) l (r .lane) }
 
 -- 9; then lane k takes the head of its down queue
-unfoldable pub deliverLane : ℕ → LaneNo → Lane → LaneStep
-deliverLane c k l =
+unfoldable pub deliverLane : ℕ → Lane → LaneStep
+deliverLane c l =
     let x = headDown (l .downs) in
     cond (emptyAt (l .downs .len)) (refuseLane NothingPending l)
-    (orAsBefore l (deliverKind (x .kind) c k x (withDowns (takeDown (l .downs) .queue) l)))
+    (orAsBefore l (deliverKind (x .kind) c x (withDowns (takeDown (l .downs) .queue) l)))
 
 -- 14, 6, 9, 16, 12
 unfoldable pub deliverOf : Store → LaneNo → Outcome
-deliverOf s k = guarded s k (commitLane s k (deliverLane (s .c) k (laneAt s (k .0))))
+deliverOf s k = guarded s k (commitLane s k (deliverLane (s .c) (laneAt s (k .0))))

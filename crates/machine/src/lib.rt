@@ -8,9 +8,17 @@ use queues::DownMessage;
 use store::Block;
 use store::Control;
 
-// A lane's part of a call: the answer, and the lane after it; of a refused call the lane as it was.
+// What a lane's part of a call comes to: the value of the operation that completes, an operation that waits, a step, or why it is refused.
+pub enum LaneAnswer {
+    Value(u32),
+    Waits,
+    Stepped,
+    Refused(Refusal),
+}
+
+// A lane's part of a call: what it comes to, and the lane after it; of a refused call the lane as it was.
 pub struct LaneStep {
-    pub answer: Answer,
+    pub answer: LaneAnswer,
     pub lane: Lane,
 }
 
