@@ -168,12 +168,12 @@ fn bad_lane(l: Lane, c: u8, m: u8) -> bool
 
 // Whether one of the n lanes does.
 fn bad_lanes(s: Store) -> bool
-    requires { ⌜ (s .n ≤ 8) × (s .c ≤ 8) ⌝ }
-    ensures { λ r. ⌜ r ≡ anyTo (λ k. badLane (s .c) (s .m) (laneAt s k)) (s .n) ⌝ }
+    requires { ⌜ (s .shape .n ≤ 8) × (s .shape .c ≤ 8) ⌝ }
+    ensures { λ r. ⌜ r ≡ anyTo (λ k. badLane (s .shape .c) (s .shape .m) (laneAt s k)) (s .shape .n) ⌝ }
 {
-    let n = s.n;
-    let c = s.c;
-    let m = s.m;
+    let n = s.shape.n;
+    let c = s.shape.c;
+    let m = s.shape.m;
     let mut k: u8 = 0;
     while k < n {
         let i = k as usize;
@@ -212,11 +212,11 @@ fn bad_flags(b: Block, n: u8) -> bool
 
 // .. in one of the m blocks.
 fn bad_blocks(s: Store) -> bool
-    requires { ⌜ s .m ≤ 64 ⌝ }
-    ensures { λ r. ⌜ r ≡ anyTo (λ a. badFlags (s .n) (blockAt s a)) (s .m) ⌝ }
+    requires { ⌜ s .shape .m ≤ 64 ⌝ }
+    ensures { λ r. ⌜ r ≡ anyTo (λ a. badFlags (s .shape .n) (blockAt s a)) (s .shape .m) ⌝ }
 {
-    let n = s.n;
-    let m = s.m;
+    let n = s.shape.n;
+    let m = s.shape.m;
     let mut k: u8 = 0;
     while k < m {
         let i = k as usize;
@@ -251,9 +251,9 @@ fn bad_control(x: Control, n: u8, m: u8) -> bool
 pub fn corrupt(s: Store) -> bool
     ensures { λ r. ⌜ r ≡ corruptOf s ⌝ }
 {
-    let n = s.n;
-    let c = s.c;
-    let m = s.m;
+    let n = s.shape.n;
+    let c = s.shape.c;
+    let m = s.shape.m;
     if store::bad_shape(n, c, m) {
         return true;
     }

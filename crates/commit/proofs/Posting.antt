@@ -28,10 +28,10 @@ use Rattle.commit.specs.Moves.{lengthAt, lengthsOf, fullBy, moveAnswer}
 -- ---- the loop that posts
 -- a store with other lanes, with another control
 abbrev pub withLanes : Store → List Lane → Store
-withLanes s ls = record { n = s .n; c = s .c; m = s .m; control = s .control; lanes = ls; blocks = s .blocks }
+withLanes s ls = record { n = s .shape .n; c = s .shape .c; m = s .shape .m; control = s .control; lanes = ls; blocks = s .blocks }
 
 abbrev pub withControl : Store → Control → Store
-withControl s x = record { n = s .n; c = s .c; m = s .m; control = x; lanes = s .lanes; blocks = s .blocks }
+withControl s x = record { n = s .shape .n; c = s .shape .c; m = s .shape .m; control = x; lanes = s .lanes; blocks = s .blocks }
 
 -- before the first turn
 pub turns-none : (to : List Bool) (x : DownMessage) (s : Store) → s ≡ withLanes s (upTo (postTo to x) 0 (s .lanes))
@@ -89,7 +89,7 @@ full-is to ls i l hi e = any-same _ _ 8 (λ j hj. ap (λ (n : ℕ). goesTo to j 
 module _ (s : Store) (k : LaneNo) (a : BlockNo) (v : Move) where
   abbrev moved : Store
   moved =
-      record { n = s .n; c = s .c; m = s .m; control = v .control; lanes = postAll (v .to) (v .message) (set (s .lanes) (k .0) (v .lane)); blocks = set (s .blocks) (a .0) (v .block) }
+      record { n = s .shape .n; c = s .shape .c; m = s .shape .m; control = v .control; lanes = postAll (v .to) (v .message) (set (s .lanes) (k .0) (v .lane)); blocks = set (s .blocks) (a .0) (v .block) }
 
   -- refused
   pub commit-refused : refusedOf (moveAnswer (s .lanes) k v) ≡ true → (record { answer = moveAnswer (s .lanes) k v; store = s }) ≡ commitMove s k a v

@@ -103,7 +103,7 @@ blockNo a = record { 0 = a }
 -- a store as block a sees it
 abbrev pub project : Store → ℕ → BlockState
 project s a = record {
-  lane = λ k. seen (s .c) (blockNo a) (laneAt s k);
+  lane = λ k. seen (s .shape .c) (blockNo a) (laneAt s k);
   block = blockAt s a;
   service = serviceOf (s .control) (blockNo a);
 }

@@ -24,8 +24,8 @@ use Rattle.machine.proofs.Searches.{Unique}
 pub record Consistent (s : Store) (f : List ℕ) : Type 0 where
   pub sound : corruptOf s ≡ false
   pub sized : Sized s
-  pub unique : (k : ℕ) → Unique (s .c) (laneAt s k)
-  pub block : (a : ℕ) → a < s .m → (v : (ℕ → Status)) × Inv v (project s a) (flatBlock f a)
+  pub unique : (k : ℕ) → Unique (s .shape .c) (laneAt s k)
+  pub block : (a : ℕ) → a < s .shape .m → (v : (ℕ → Status)) × Inv v (project s a) (flatBlock f a)
 
 -- what a lane waits for
 abbrev pub pendingOf : Waiting → Pending
@@ -35,13 +35,13 @@ pendingOf (Served o) = Pending.Waits (o .op) (o .word)
 
 -- .. and lane k of a store: there are n lanes
 unfoldable pub pendingIn : Store → ℕ → Pending
-pendingIn s k = cond (ltb k (s .n)) (pendingOf (laneAt s k .waiting)) Rests
+pendingIn s k = cond (ltb k (s .shape .n)) (pendingOf (laneAt s k .waiting)) Rests
 
 -- what a step other than begin has to show, beside bounds and lengths, which are known of every step; g is flat memory after it
 pub record StaysConsistent (s : Store) (f : List ℕ) (r : Outcome) : Type 0 where
   pub flat : List ℕ
-  pub unique : (k : ℕ) → Unique (r .store .c) (laneAt (r .store) k)
-  pub block : (a : ℕ) → a < r .store .m → (v : (ℕ → Status)) × Inv v (project (r .store) a) (flatBlock flat a)
+  pub unique : (k : ℕ) → Unique (r .store .shape .c) (laneAt (r .store) k)
+  pub block : (a : ℕ) → a < r .store .shape .m → (v : (ℕ → Status)) × Inv v (project (r .store) a) (flatBlock flat a)
   pub completes : Completes (pendingIn s) f (doneIn (r .answer)) (pendingIn (r .store)) flat
 
 -- a refusal changes nothing
@@ -49,6 +49,6 @@ pub refused-consistent : (s : Store) (f : List ℕ) (x : Refusal) → Consistent
 refused-consistent s f x i = record { flat = f; unique = i .unique; block = i .block; completes = (refl, refl) }
 
 -- the operations that wait, lane by lane
-pub pending-same : (s t : Store) → t .n ≡ s .n → ((j : ℕ) → pendingOf (laneAt t j .waiting) ≡ pendingOf (laneAt s j .waiting)) → pendingIn t ≡ pendingIn s
+pub pending-same : (s t : Store) → t .shape .n ≡ s .shape .n → ((j : ℕ) → pendingOf (laneAt t j .waiting) ≡ pendingOf (laneAt s j .waiting)) → pendingIn t ≡ pendingIn s
 unfolding pendingIn
 pending-same s t n e = fun-ext (λ j. rw (n, e j))

@@ -38,8 +38,8 @@ use Rattle.machine.proofs.Rules.{begin-rule}
 -- what begin has to show, beside bounds and lengths; flat is flat memory after it
 pub record Begins (s : Store) (f : List ℕ) (k : LaneNo) (op : Op) (w : WordNo) (r : Outcome) : Type 0 where
   pub flat : List ℕ
-  pub unique : (j : ℕ) → Unique (r .store .c) (laneAt (r .store) j)
-  pub block : (a : ℕ) → a < r .store .m → (v : (ℕ → Status)) × Inv v (project (r .store) a) (flatBlock flat a)
+  pub unique : (j : ℕ) → Unique (r .store .shape .c) (laneAt (r .store) j)
+  pub block : (a : ℕ) → a < r .store .shape .m → (v : (ℕ → Status)) × Inv v (project (r .store) a) (flatBlock flat a)
   pub owes : BeginOwes (pendingIn s) f k op w (r .answer) (pendingIn (r .store)) flat
 
 refused-begins : (s : Store) (f : List ℕ) (k : LaneNo) (op : Op) (w : WordNo) (x : Refusal) → Consistent s f → Begins s f k op w (refuse x s)
@@ -50,14 +50,14 @@ read-fits : (b : Bool) → CommandFits Invalid (cond b ReadShared ReadExclusive)
 read-fits true = (refl, refl)
 read-fits false = (refl, refl)
 
-module _ (s : Store) (f : List ℕ) (i : Consistent s f) (k : LaneNo) (h : k .0 < s .n) (op : Op) (w : WordNo) (inside : blockOf w .0 < s .m)
+module _ (s : Store) (f : List ℕ) (i : Consistent s f) (k : LaneNo) (h : k .0 < s .shape .n) (op : Op) (w : WordNo) (inside : blockOf w .0 < s .shape .m)
     (idle : laneAt s (k .0) .waiting ≡ Idle) where
   abbrev l : Lane
   l = laneAt s (k .0)
 
   -- the lane's operation, as each block sees it: there is none
   idle-at : (a : ℕ) → project s a .lane (k .0) .waiting ≡ Idle
-  idle-at a = seen-idle (s .c) (blockNo a) l idle
+  idle-at a = seen-idle (s .shape .c) (blockNo a) l idle
 
   rests : pendingIn s (k .0) ≡ Rests
   rests = pending-here s f i (k .0) h ∙ ap pendingOf idle
@@ -68,15 +68,15 @@ module _ (s : Store) (f : List ℕ) (i : Consistent s f) (k : LaneNo) (h : k .0 
 
   -- what holds of the operation's block and of all others holds of each
   each-block : (t : Store) (g : List ℕ) → ((v : (ℕ → Status)) × Inv v (project t (blockOf w .0)) (flatBlock g (blockOf w .0))) →
-      ((a : ℕ) → a < s .m → a ≢ blockOf w .0 → (v : (ℕ → Status)) × Inv v (project t a) (flatBlock g a)) →
-      (a : ℕ) → a < s .m → (v : (ℕ → Status)) × Inv v (project t a) (flatBlock g a)
+      ((a : ℕ) → a < s .shape .m → a ≢ blockOf w .0 → (v : (ℕ → Status)) × Inv v (project t a) (flatBlock g a)) →
+      (a : ℕ) → a < s .shape .m → (v : (ℕ → Status)) × Inv v (project t a) (flatBlock g a)
   each-block t g here there a b = go (same? a (blockOf w .0))
     where
       go : (a ≡ blockOf w .0) ⊎ (a ≢ blockOf w .0) → (v : (ℕ → Status)) × Inv v (project t a) (flatBlock g a)
       go (inl e) = rw e here
       go (inr n) = there a b n
 
-  hit-begins : (r : LaneStep) → HitCase (s .c) op w l r → Begins s f k op w (record { answer = answerTo k (r .answer); store = withLane s (k .0) (r .lane) })
+  hit-begins : (r : LaneStep) → HitCase (s .shape .c) op w l r → Begins s f k op w (record { answer = answerTo k (r .answer); store = withLane s (k .0) (r .lane) })
   hit-begins r c =
       record {
         flat = flatAfter f (fed op w);
@@ -88,16 +88,16 @@ module _ (s : Store) (f : List ℕ) (i : Consistent s f) (k : LaneNo) (h : k .0 
       here : (v : (ℕ → Status)) × Inv v (project (withLane s (k .0) (r .lane)) (blockOf w .0)) (flatBlock (flatAfter f (fed op w)) (blockOf w .0))
       here = (
         before .0,
-        rw (lane-project s f i (k .0) h (r .lane) (hitSeen op w (seen (s .c) (blockOf w) l)) (blockOf w .0) (c .here), flat-done f op w)
+        rw (lane-project s f i (k .0) h (r .lane) (hitSeen op w (seen (s .shape .c) (blockOf w) l)) (blockOf w .0) (c .here), flat-done f op w)
             (hit-keeps (before .0) (project s (blockOf w .0)) (flatBlock f (blockOf w .0)) (k .0) op w (before .1) (c .copy) (c .able)),
       )
 
-      there : (a : ℕ) → a < s .m → a ≢ blockOf w .0 → (v : (ℕ → Status)) × Inv v (project (withLane s (k .0) (r .lane)) a) (flatBlock (flatAfter f (fed op w)) a)
+      there : (a : ℕ) → a < s .shape .m → a ≢ blockOf w .0 → (v : (ℕ → Status)) × Inv v (project (withLane s (k .0) (r .lane)) a) (flatBlock (flatAfter f (fed op w)) a)
       there a b n = rw (lane-unseen s f i (k .0) h (r .lane) a (c .others (blockNo a) n), flat-other f op w a n) (i .block a b)
 
   -- begin waits with command x: what is left is what the other blocks see
-  wait-begins : (r : LaneStep) (x : Command) (y : Status) → WaitCase (s .c) op w x y l r → CommandFits y x (isLoad op) →
-      ((a : ℕ) → a < s .m → a ≢ blockOf w .0 → (v : (ℕ → Status)) × Inv v (project (withLane s (k .0) (r .lane)) a) (flatBlock f a)) →
+  wait-begins : (r : LaneStep) (x : Command) (y : Status) → WaitCase (s .shape .c) op w x y l r → CommandFits y x (isLoad op) →
+      ((a : ℕ) → a < s .shape .m → a ≢ blockOf w .0 → (v : (ℕ → Status)) × Inv v (project (withLane s (k .0) (r .lane)) a) (flatBlock f a)) →
       Begins s f k op w (record { answer = answerTo k (r .answer); store = withLane s (k .0) (r .lane) })
   wait-begins r x y c fits there =
       record {
@@ -110,33 +110,33 @@ module _ (s : Store) (f : List ℕ) (i : Consistent s f) (k : LaneNo) (h : k .0 
       here : (v : (ℕ → Status)) × Inv v (project (withLane s (k .0) (r .lane)) (blockOf w .0)) (flatBlock f (blockOf w .0))
       here = (
         before .0,
-        rw (lane-project s f i (k .0) h (r .lane) (waitSeen (Unserved (asked x op w)) (seen (s .c) (blockOf w) l)) (blockOf w .0) (c .here))
+        rw (lane-project s f i (k .0) h (r .lane) (waitSeen (Unserved (asked x op w)) (seen (s .shape .c) (blockOf w) l)) (blockOf w .0) (c .here))
             (wait-keeps (before .0) (project s (blockOf w .0)) (flatBlock f (blockOf w .0)) (k .0) (asked x op w) (before .1) (idle-at (blockOf w .0)) (rw (c .line) fits)),
       )
 
   -- other blocks that see nothing
-  unseen : (r : LaneStep) (a : ℕ) → a < s .m → seen (s .c) (blockNo a) (r .lane) ≡ seen (s .c) (blockNo a) l → (v : (ℕ → Status)) × Inv v (project (withLane s (k .0) (r .lane)) a) (flatBlock f a)
+  unseen : (r : LaneStep) (a : ℕ) → a < s .shape .m → seen (s .shape .c) (blockNo a) (r .lane) ≡ seen (s .shape .c) (blockNo a) l → (v : (ℕ → Status)) × Inv v (project (withLane s (k .0) (r .lane)) a) (flatBlock f a)
   unseen r a b e = rw (lane-unseen s f i (k .0) h (r .lane) a e) (i .block a b)
 
   -- the block of the line that is given up
-  evicted-block : (r : LaneStep) (c : EvictCase (s .c) op w l r) → (a : ℕ) → a < s .m → a ≡ c .victim .0 → (v : (ℕ → Status)) × Inv v (project (withLane s (k .0) (r .lane)) a) (flatBlock f a)
+  evicted-block : (r : LaneStep) (c : EvictCase (s .shape .c) op w l r) → (a : ℕ) → a < s .shape .m → a ≡ c .victim .0 → (v : (ℕ → Status)) × Inv v (project (withLane s (k .0) (r .lane)) a) (flatBlock f a)
   evicted-block r c a b e =
       let x : blockNo a ≡ c .victim = same-block (blockNo a) (c .victim) e in
       let p = i .block a b in (
         p .0,
-        rw (lane-project s f i (k .0) h (r .lane) (evictSeen (blockNo a) (seen (s .c) (blockNo a) l)) a (rw x (c .there)))
+        rw (lane-project s f i (k .0) h (r .lane) (evictSeen (blockNo a) (seen (s .shape .c) (blockNo a) l)) a (rw x (c .there)))
             (evict-keeps (p .0) (project s a) (flatBlock f a) (k .0) (blockNo a) (p .1) (idle-at a) (rw x (c .copy))),
       )
 
-  evict-begins : (r : LaneStep) → EvictCase (s .c) op w l r → Begins s f k op w (record { answer = answerTo k (r .answer); store = withLane s (k .0) (r .lane) })
+  evict-begins : (r : LaneStep) → EvictCase (s .shape .c) op w l r → Begins s f k op w (record { answer = answerTo k (r .answer); store = withLane s (k .0) (r .lane) })
   evict-begins r c = wait-begins r (readOf op) Invalid (c .wait) (read-fits (isLoad op)) (λ a b n. go a b n (same? a (c .victim .0)))
     where
-      go : (a : ℕ) → a < s .m → a ≢ blockOf w .0 → (a ≡ c .victim .0) ⊎ (a ≢ c .victim .0) → (v : (ℕ → Status)) × Inv v (project (withLane s (k .0) (r .lane)) a) (flatBlock f a)
+      go : (a : ℕ) → a < s .shape .m → a ≢ blockOf w .0 → (a ≡ c .victim .0) ⊎ (a ≢ c .victim .0) → (v : (ℕ → Status)) × Inv v (project (withLane s (k .0) (r .lane)) a) (flatBlock f a)
       go a b n (inl e) = evicted-block r c a b e
       go a b n (inr m) = unseen r a b (c .others (blockNo a) n m)
 
   -- the lane's part, by what it does
-  case-begins : (r : LaneStep) → BeginCase (s .c) op w l r → Begins s f k op w (commitLane s k r)
+  case-begins : (r : LaneStep) → BeginCase (s .shape .c) op w l r → Begins s f k op w (commitLane s k r)
   unfolding commitLane
   case-begins r (Hits c) = rw (c .answer) (rw (c .answer) at (hit-begins r c))
   case-begins r (Excludes c) =
@@ -152,4 +152,4 @@ begin-consistent s f k op w i =
     (λ r.
     let a = sound s (i .sound) in
     case-begins s f i k (r .lane) op w (r .inside) (r .idle) _
-    (begin-case (s .c) op w (laneAt s (k .0)) (lane-sized s f i (k .0) (r .lane)) (a .c-high) (i .unique (k .0)) (a .lane (k .0) (r .lane) .order .named 0 (a .c-low)) (r .idle)))
+    (begin-case (s .shape .c) op w (laneAt s (k .0)) (lane-sized s f i (k .0) (r .lane)) (a .c-high) (i .unique (k .0)) (a .lane (k .0) (r .lane) .order .named 0 (a .c-low)) (r .idle)))

@@ -50,7 +50,7 @@ done-at f op w a e = rw (← e) (flat-done f op w)
 value-at : (f : List ℕ) (op : Op) (w : WordNo) (a : ℕ) → blockOf w .0 ≡ a → valueDone op w (flatBlock f a) ≡ flatValue f (fed op w)
 value-at f op w a e = rw (← e) (flat-value f op w)
 
-module _ (s : Store) (f : List ℕ) (i : Consistent s f) (k : LaneNo) (h : k .0 < s .n) (r : LaneStep) where
+module _ (s : Store) (f : List ℕ) (i : Consistent s f) (k : LaneNo) (h : k .0 < s .shape .n) (r : LaneStep) where
   abbrev l : Lane
   l = laneAt s (k .0)
 
@@ -60,12 +60,12 @@ module _ (s : Store) (f : List ℕ) (i : Consistent s f) (k : LaneNo) (h : k .0 
   abbrev t : Store
   t = withLane s (k .0) (r .lane)
 
-  inside : (y : DownKind) → Taken (s .c) y l r → x .0 < s .m
-  inside y c = sound s (i .sound) .lane (k .0) h .downs .inside 0 (seen-filled (s .c) x l _ _ (c .head))
+  inside : (y : DownKind) → Taken (s .shape .c) y l r → x .0 < s .shape .m
+  inside y c = sound s (i .sound) .lane (k .0) h .downs .inside 0 (seen-filled (s .shape .c) x l _ _ (c .head))
 
   -- what holds of the head's block, and what the others do not see
-  each-block : (y : DownKind) → Taken (s .c) y l r → (g : List ℕ) → ((v : (ℕ → Status)) × Inv v (project t (x .0)) (flatBlock g (x .0))) →
-      ((a : ℕ) → a ≢ x .0 → flatBlock g a ≡ flatBlock f a) → (a : ℕ) → a < s .m → (v : (ℕ → Status)) × Inv v (project t a) (flatBlock g a)
+  each-block : (y : DownKind) → Taken (s .shape .c) y l r → (g : List ℕ) → ((v : (ℕ → Status)) × Inv v (project t (x .0)) (flatBlock g (x .0))) →
+      ((a : ℕ) → a ≢ x .0 → flatBlock g a ≡ flatBlock f a) → (a : ℕ) → a < s .shape .m → (v : (ℕ → Status)) × Inv v (project t a) (flatBlock g a)
   each-block y c g here there a b = go (same? a (x .0))
     where
       go : (a ≡ x .0) ⊎ (a ≢ x .0) → (v : (ℕ → Status)) × Inv v (project t a) (flatBlock g a)
@@ -76,7 +76,7 @@ module _ (s : Store) (f : List ℕ) (i : Consistent s f) (k : LaneNo) (h : k .0 
   order-consistent : (y : DownKind) (F : Status → BlockNo → List DownMessage → Seen → Seen) →
       ((v : ℕ → Status) (b : BlockState) (g : List ℕ) (j : ℕ) (a : BlockNo) (m : DownMessage) (rest : List DownMessage) → Inv v b g → b .lane j .downs ≡ m ∷ rest → m .kind ≡ y →
       Inv v (putLane j (F (b .lane j .line) a rest (b .lane j)) b) g) →
-      OrderCase (s .c) y F l r → StaysConsistent s f (record { answer = answerTo k (r .answer); store = t })
+      OrderCase (s .shape .c) y F l r → StaysConsistent s f (record { answer = answerTo k (r .answer); store = t })
   order-consistent y F keeps c =
       let p = i .block (x .0) (inside y (c .taken)) in
       record {
@@ -84,7 +84,7 @@ module _ (s : Store) (f : List ℕ) (i : Consistent s f) (k : LaneNo) (h : k .0 
         unique = lane-unique s f i (k .0) h (r .lane) (c .taken .unique);
         block = each-block y (c .taken) f (
           p .0,
-          rw (lane-project s f i (k .0) h (r .lane) (F (seen (s .c) x l .line) x (c .taken .rest) (seen (s .c) x l)) (x .0) (c .here))
+          rw (lane-project s f i (k .0) h (r .lane) (F (seen (s .shape .c) x l .line) x (c .taken .rest) (seen (s .shape .c) x l)) (x .0) (c .here))
               (keeps (p .0) (project s (x .0)) (flatBlock f (x .0)) (k .0) x (headDown (l .downs)) (c .taken .rest) (p .1) (c .taken .head) (c .taken .kind)),
         )
             (λ a n. refl);
@@ -92,10 +92,10 @@ module _ (s : Store) (f : List ℕ) (i : Consistent s f) (k : LaneNo) (h : k .0 
       }
 
   -- a grant: the operation that its lane waits for completes, with the words ws, which are flat memory's
-  grant-consistent : (y : DownKind) (ws : List ℕ) (c : GrantCase (s .c) y ws l r) →
+  grant-consistent : (y : DownKind) (ws : List ℕ) (c : GrantCase (s .shape .c) y ws l r) →
       ((v : ℕ → Status) → Inv v (project s (x .0)) (flatBlock f (x .0)) →
       (ws ≡ flatBlock f (x .0)) ×
-      Inv v (putLane (k .0) (grantSeen (c .operation) ws (c .taken .rest) (seen (s .c) x l)) (project s (x .0))) (wordsDone (c .operation .op) (c .operation .word) (flatBlock f (x .0)))) →
+      Inv v (putLane (k .0) (grantSeen (c .operation) ws (c .taken .rest) (seen (s .shape .c) x l)) (project s (x .0))) (wordsDone (c .operation .op) (c .operation .word) (flatBlock f (x .0)))) →
       StaysConsistent s f (record { answer = answerTo k (r .answer); store = t })
   grant-consistent y ws c keeps =
       let o = c .operation in
@@ -105,7 +105,7 @@ module _ (s : Store) (f : List ℕ) (i : Consistent s f) (k : LaneNo) (h : k .0 
         flat = flatAfter f (fed (o .op) (o .word));
         unique = lane-unique s f i (k .0) h (r .lane) (c .taken .unique);
         block = each-block y (c .taken) (flatAfter f (fed (o .op) (o .word)))
-            (p .0, rw (lane-project s f i (k .0) h (r .lane) (grantSeen o ws (c .taken .rest) (seen (s .c) x l)) (x .0) (c .here), done-at f (o .op) (o .word) (x .0) (c .block)) (q .1))
+            (p .0, rw (lane-project s f i (k .0) h (r .lane) (grantSeen o ws (c .taken .rest) (seen (s .shape .c) x l)) (x .0) (c .here), done-at f (o .op) (o .word) (x .0) (c .block)) (q .1))
             (λ a n. flat-other f (o .op) (o .word) a (λ e. n (e ∙ c .block)));
         completes = rw (c .answer) (
           o .op,
@@ -117,7 +117,7 @@ module _ (s : Store) (f : List ℕ) (i : Consistent s f) (k : LaneNo) (h : k .0 
       }
 
   -- the lane's part, by the message
-  case-consistent : DeliverCase (s .c) l r → StaysConsistent s f (commitLane s k r)
+  case-consistent : DeliverCase (s .shape .c) l r → StaysConsistent s f (commitLane s k r)
   unfolding commitLane
   case-consistent (Updates c) = rw (c .answer) (rw (c .answer) at (order-consistent Update updateSeen update-keeps c))
   case-consistent (Purges c) = rw (c .answer) (rw (c .answer) at (order-consistent Purge purgeSeen purge-keeps c))
@@ -130,7 +130,7 @@ module _ (s : Store) (f : List ℕ) (i : Consistent s f) (k : LaneNo) (h : k .0 
       ))))
   case-consistent (BareGrants e c) =
       rw (c .answer)
-      (rw (c .answer) at (grant-consistent BareGrant (seen (s .c) x l .words) c
+      (rw (c .answer) at (grant-consistent BareGrant (seen (s .shape .c) x l .words) c
       (λ v z. (
         bare-words v (project s (x .0)) (flatBlock f (x .0)) (k .0) (headDown (l .downs)) (c .taken .rest) z (c .taken .head) (c .taken .kind),
         bare-keeps v (project s (x .0)) (flatBlock f (x .0)) (k .0) (c .operation) (headDown (l .downs)) (c .taken .rest) z (c .taken .head) (c .taken .kind) (c .before),
@@ -140,5 +140,5 @@ module _ (s : Store) (f : List ℕ) (i : Consistent s f) (k : LaneNo) (h : k .0 
 pub deliver-consistent : (s : Store) (f : List ℕ) (k : LaneNo) → Consistent s f → StaysConsistent s f (deliverOf s k)
 deliver-consistent s f k i =
     deliver-rule (StaysConsistent s f) s k (λ x. refused-consistent s f x i)
-    (λ _ h. case-consistent s f i k h (deliverLane (s .c) (laneAt s (k .0)))
-    (deliver-case (s .c) (laneAt s (k .0)) (lane-sized s f i (k .0) h) (sound s (i .sound) .c-high) (i .unique (k .0)) (sound s (i .sound) .lane (k .0) h .downs .short)))
+    (λ _ h. case-consistent s f i k h (deliverLane (s .shape .c) (laneAt s (k .0)))
+    (deliver-case (s .shape .c) (laneAt s (k .0)) (lane-sized s f i (k .0) h) (sound s (i .sound) .c-high) (i .unique (k .0)) (sound s (i .sound) .lane (k .0) h .downs .short)))

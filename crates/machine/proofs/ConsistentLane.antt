@@ -22,7 +22,7 @@ use Rattle.machine.proofs.Searches.{Unique}
 use Rattle.machine.proofs.Project.{getD-set, project-lane, project-lane-same}
 use Rattle.machine.proofs.Consistent.{Consistent, pendingOf, pendingIn}
 
-module _ (s : Store) (f : List ℕ) (i : Consistent s f) (k : ℕ) (h : k < s .n) where
+module _ (s : Store) (f : List ℕ) (i : Consistent s f) (k : ℕ) (h : k < s .shape .n) where
   pub lane-below : k < 8
   lane-below = let p = sound s (i .sound) .n-high in omega arith
 
@@ -33,27 +33,27 @@ module _ (s : Store) (f : List ℕ) (i : Consistent s f) (k : ℕ) (h : k < s .n
   lane-sized = i .sized .lane k lane-below
 
   -- what a block sees of it
-  pub lane-project : (l : Lane) (x : Seen) (a : ℕ) → seen (s .c) (blockNo a) l ≡ x → project (withLane s k l) a ≡ putLane k x (project s a)
+  pub lane-project : (l : Lane) (x : Seen) (a : ℕ) → seen (s .shape .c) (blockNo a) l ≡ x → project (withLane s k l) a ≡ putLane k x (project s a)
   lane-project l x a e = project-lane s k l a within ∙ ap (λ (y : Seen). putLane k y (project s a)) e
 
   -- .. where that is nothing
-  pub lane-unseen : (l : Lane) (a : ℕ) → seen (s .c) (blockNo a) l ≡ seen (s .c) (blockNo a) (laneAt s k) → project (withLane s k l) a ≡ project s a
+  pub lane-unseen : (l : Lane) (a : ℕ) → seen (s .shape .c) (blockNo a) l ≡ seen (s .shape .c) (blockNo a) (laneAt s k) → project (withLane s k l) a ≡ project s a
   lane-unseen l a e = project-lane-same s k l a within e
 
-  pub lane-unique : (l : Lane) → Unique (s .c) l → (j : ℕ) → Unique (s .c) (laneAt (withLane s k l) j)
-  lane-unique l u j = set-cases (Unique (s .c)) (s .lanes) k j l noLane (λ _. u) (i .unique j)
+  pub lane-unique : (l : Lane) → Unique (s .shape .c) l → (j : ℕ) → Unique (s .shape .c) (laneAt (withLane s k l) j)
+  lane-unique l u j = set-cases (Unique (s .shape .c)) (s .lanes) k j l noLane (λ _. u) (i .unique j)
 
   -- what its lane waits for
   pub pending-here : pendingIn s k ≡ pendingOf (laneAt s k .waiting)
   unfolding pendingIn
-  pending-here = rw (lt-ltb k (s .n) h)
+  pending-here = rw (lt-ltb k (s .shape .n) h)
 
   pub lane-pending : (l : Lane) → pendingIn (withLane s k l) ≡ upd (pendingIn s) k (pendingOf (l .waiting))
   unfolding pendingIn
   lane-pending l = fun-ext (λ j. go j (same? j k))
     where
-      go : (j : ℕ) → (j ≡ k) ⊎ (j ≢ k) → cond (ltb j (s .n)) (pendingOf (getD (set (s .lanes) k l) j noLane .waiting)) Rests ≡ upd (pendingIn s) k (pendingOf (l .waiting)) j
-      go j (inl e) = rw (getD-set (s .lanes) k j l noLane within, e, eq-eqb k k refl, lt-ltb k (s .n) h)
+      go : (j : ℕ) → (j ≡ k) ⊎ (j ≢ k) → cond (ltb j (s .shape .n)) (pendingOf (getD (set (s .lanes) k l) j noLane .waiting)) Rests ≡ upd (pendingIn s) k (pendingOf (l .waiting)) j
+      go j (inl e) = rw (getD-set (s .lanes) k j l noLane within, e, eq-eqb k k refl, lt-ltb k (s .shape .n) h)
       go j (inr n) = rw (getD-set (s .lanes) k j l noLane within, ne-eqb j k n)
 
   -- .. as before

@@ -37,7 +37,7 @@ pub record Shows (s : Store) (f : List ℕ) (k : LaneNo) (x : BlockNo) (v : Move
   pub about : (j : ℕ) → goesTo (v .to) j ≡ true → v .message .block .0 ≡ x .0
   pub lines : v .lane .lines ≡ laneAt s (k .0) .lines
   pub pending : pendingOf (v .lane .waiting) ≡ pendingOf (laneAt s (k .0) .waiting)
-  pub unseen : (a : ℕ) → a ≢ x .0 → seen (s .c) (blockNo a) (v .lane) ≡ seen (s .c) (blockNo a) (laneAt s (k .0))
+  pub unseen : (a : ℕ) → a ≢ x .0 → seen (s .shape .c) (blockNo a) (v .lane) ≡ seen (s .shape .c) (blockNo a) (laneAt s (k .0))
   pub control : (a : ℕ) → a ≢ x .0 → serviceOf (v .control) (blockNo a) ≡ serviceOf (s .control) (blockNo a)
   pub here : Moves s k x v → (u : (ℕ → Status)) × Inv u (project (movedStore s k x v) (x .0)) (flatBlock f (x .0))
 
@@ -64,7 +64,7 @@ module _ (s : Store) (f : List ℕ) (i : Consistent s f) (k : LaneNo) (h : k .0 
         completes = rw (w .answer) (pending-same s (movedStore s k x v) refl (lane-part (λ (l : Lane). pendingOf (l .waiting)) (λ m l. refl) (w .pending)), refl);
       }
     where
-      go : (a : ℕ) → a < s .m → (a ≡ x .0) ⊎ (a ≢ x .0) → (u : (ℕ → Status)) × Inv u (project (movedStore s k x v) a) (flatBlock f a)
+      go : (a : ℕ) → a < s .shape .m → (a ≡ x .0) ⊎ (a ≢ x .0) → (u : (ℕ → Status)) × Inv u (project (movedStore s k x v) a) (flatBlock f a)
       go a l (inl e) = rw e (w .here g)
       go a l (inr n) = rw (project-there s k x v g a n (w .unseen a n) (w .control a n)) (i .block a l)
 

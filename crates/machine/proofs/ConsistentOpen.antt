@@ -8,6 +8,7 @@ use lib.Dec.{ltb}
 use lib.ListN.{length, getD, take, drop, replicate, getD-replicate, List·getD-eq-default}
 use native.Mathlib.Omega.{arith}
 use Rattle.words.specs.declared.BlockNo.{BlockNo}
+use Rattle.words.specs.declared.Shape.{Shape}
 use Rattle.words.specs.Lines.{noLine}
 use Rattle.words.proofs.Folds.{below?}
 use Rattle.lanes.specs.declared.Lane.{Lane}
@@ -30,9 +31,9 @@ use Rattle.machine.proofs.Searches.{Unique, search-none, invalid-holds}
 use Rattle.machine.proofs.Consistent.{Consistent, pendingOf, pendingIn}
 
 -- what holds of the blank lane and of none holds of each lane of an opening
-pub each-lane : (P : Lane → Type 0) (n c m : ℕ) → P blankLane → P noLane → (k : ℕ) → P (laneAt (freshOf n c m) k)
+pub each-lane : (P : Lane → Type 0) (shape : Shape) → P blankLane → P noLane → (k : ℕ) → P (laneAt (freshOf shape) k)
 unfolding freshOf
-each-lane P n c m blank past k = go (below? k 8)
+each-lane P shape blank past k = go (below? k 8)
   where
     go : (k < 8) ⊎ (8 ≤ k) → P (getD (replicate 8 blankLane) k noLane)
     go (inl h) = rw (getD-replicate 8 k blankLane noLane h) blank
@@ -82,9 +83,9 @@ flat-zeros m a h =
     ap (take 4) (drop-replicate (4 * a) d (4 * m) 0 (omega arith)) ∙ take-replicate 4 d 0 (omega arith)
 
 -- each block of an opening
-entry : (n c m a : ℕ) → a < 64 → blockAt (freshOf n c m) a ≡ blankBlock
+entry : (shape : Shape) (a : ℕ) → a < 64 → blockAt (freshOf shape) a ≡ blankBlock
 unfolding freshOf
-entry n c m a h = getD-replicate 64 a blankBlock noBlock h
+entry shape a h = getD-replicate 64 a blankBlock noBlock h
 
 no-flag : (k : ℕ) → getD (blankBlock .present) k false ≡ false
 unfolding blankBlock
@@ -94,39 +95,39 @@ no-flag k = go (below? k 8)
     go (inl h) = getD-replicate 8 k false false h
     go (inr h) = let p : length (replicate 8 false) ≤ k = h in List·getD-eq-default (replicate 8 false) false p
 
-fresh-inv : (n c m a : ℕ) → a < m → m ≤ 64 → Inv (λ k. Invalid) (project (freshOf n c m) a) (flatBlock (flatOf m) a)
+fresh-inv : (shape : Shape) (a : ℕ) → a < shape .m → shape .m ≤ 64 → Inv (λ k. Invalid) (project (freshOf shape) a) (flatBlock (flatOf (shape .m)) a)
 unfolding freshOf blankBlock
-fresh-inv n c m a h l =
-    let e = entry n c m a (omega arith) in
-    blank-inv (project (freshOf n c m) a) (flatBlock (flatOf m) a)
-    (each-lane (λ (x : Lane). Blank (seen c (blockNo a) x)) n c m (blank-seen c (blockNo a)) (none-blank c (blockNo a) noLane (λ i. refl) refl refl refl))
+fresh-inv shape a h l =
+    let e = entry shape a (omega arith) in
+    blank-inv (project (freshOf shape) a) (flatBlock (flatOf (shape .m)) a)
+    (each-lane (λ (x : Lane). Blank (seen (shape .c) (blockNo a) x)) shape (blank-seen (shape .c) (blockNo a)) (none-blank (shape .c) (blockNo a) noLane (λ i. refl) refl refl refl))
     (ap (λ (b : Block). length (b .present)) e)
     (λ k. ap (λ (b : Block). getD (b .present) k false) e ∙ no-flag k)
     (ap (λ (b : Block). b .modified) e)
-    (ap (λ (b : Block). b .words) e ∙ sym (flat-zeros m a h))
+    (ap (λ (b : Block). b .words) e ∙ sym (flat-zeros (shape .m) a h))
     refl
 
-fresh-consistent : (n c m : ℕ) → badShape n c m ≡ false → Consistent (freshOf n c m) (flatOf m)
+fresh-consistent : (shape : Shape) → badShape shape ≡ false → Consistent (freshOf shape) (flatOf (shape .m))
 unfolding freshOf
-fresh-consistent n c m e =
+fresh-consistent shape e =
     record {
-      sound = open-keeps n c m e;
-      sized = open-sized n c m;
-      unique = each-lane (Unique c) n c m (none-unique c blankLane blank-none) (none-unique c noLane (λ i. refl));
-      block = λ a h. ((λ k. Invalid), fresh-inv n c m a h (shape-bounds n c m e .5));
+      sound = open-keeps shape e;
+      sized = open-sized shape;
+      unique = each-lane (Unique (shape .c)) shape (none-unique (shape .c) blankLane blank-none) (none-unique (shape .c) noLane (λ i. refl));
+      block = λ a h. ((λ k. Invalid), fresh-inv shape a h (shape-bounds shape e .5));
     }
 
 -- an opening that isn't refused
-pub opened-fresh : (n c m : ℕ) → openOf n c m .answer ≡ Opened → (badShape n c m ≡ false) × (openOf n c m .store ≡ freshOf n c m)
+pub opened-fresh : (shape : Shape) → openOf shape .answer ≡ Opened → (badShape shape ≡ false) × (openOf shape .store ≡ freshOf shape)
 unfolding openOf
-opened-fresh n c m e = on (badShape n c m) (λ b. clash (cc (rw b at e))) (λ b. (b, rw b))
+opened-fresh shape e = on (badShape shape) (λ b. clash (cc (rw b at e))) (λ b. (b, rw b))
 
-pub open-consistent : (n c m : ℕ) → openOf n c m .answer ≡ Opened → Consistent (openOf n c m .store) (flatOf m)
-open-consistent n c m e = let p = opened-fresh n c m e in rw (p .1) (fresh-consistent n c m (p .0))
+pub open-consistent : (shape : Shape) → openOf shape .answer ≡ Opened → Consistent (openOf shape .store) (flatOf (shape .m))
+open-consistent shape e = let p = opened-fresh shape e in rw (p .1) (fresh-consistent shape (p .0))
 
-pub open-shape : (n c m : ℕ) → openOf n c m .answer ≡ Opened → (openOf n c m .store .n ≡ n) × (openOf n c m .store .c ≡ c) × (openOf n c m .store .m ≡ m)
+pub open-shape : (shape : Shape) → openOf shape .answer ≡ Opened → openOf shape .store .shape ≡ shape
 unfolding freshOf
-open-shape n c m e = let p = opened-fresh n c m e in rw (p .1) (refl, refl, refl)
+open-shape shape e = let p = opened-fresh shape e in rw (p .1) refl
 
 -- a lane that does not wait, whatever the test
 rests-either : (b : Bool) (l : Lane) → l .waiting ≡ Idle → cond b (pendingOf (l .waiting)) Rests ≡ Rests
@@ -137,9 +138,9 @@ blank-idle : blankLane .waiting ≡ Idle
 unfolding blankLane
 blank-idle = refl
 
-fresh-rests : (n c m k : ℕ) → pendingIn (freshOf n c m) k ≡ Rests
+fresh-rests : (shape : Shape) (k : ℕ) → pendingIn (freshOf shape) k ≡ Rests
 unfolding pendingIn
-fresh-rests n c m k = rests-either (ltb k (freshOf n c m .n)) (laneAt (freshOf n c m) k) (each-lane (λ (l : Lane). l .waiting ≡ Idle) n c m blank-idle refl k)
+fresh-rests shape k = rests-either (ltb k (freshOf shape .shape .n)) (laneAt (freshOf shape) k) (each-lane (λ (l : Lane). l .waiting ≡ Idle) shape blank-idle refl k)
 
-pub open-rests : (n c m : ℕ) → openOf n c m .answer ≡ Opened → pendingIn (openOf n c m .store) ≡ nonePending
-open-rests n c m e = let p = opened-fresh n c m e in rw (p .1) (fun-ext (fresh-rests n c m))
+pub open-rests : (shape : Shape) → openOf shape .answer ≡ Opened → pendingIn (openOf shape .store) ≡ nonePending
+open-rests shape e = let p = opened-fresh shape e in rw (p .1) (fun-ext (fresh-rests shape))

@@ -82,22 +82,22 @@ still l e =
     (λ w. let d : true ≡ false = rw w at e in clash (cc))
 
 module _ (s : Store) (f : List ℕ) (i : Consistent s f) (quiet : quietOf s ≡ true) where
-  lane-still : (k : ℕ) → k < s .n → Still (laneAt s k)
+  lane-still : (k : ℕ) → k < s .shape .n → Still (laneAt s k)
   unfolding quietOf
   lane-still k h =
       on (busyOf (s .control)) (λ b. let d : false ≡ true = rw b at quiet in clash (cc))
-      (λ b. still (laneAt s k) (any-false (λ j. activeOf (laneAt s j)) (s .n) k (not-false _ (rw b at quiet)) h))
+      (λ b. still (laneAt s k) (any-false (λ j. activeOf (laneAt s j)) (s .shape .n) k (not-false _ (rw b at quiet)) h))
 
   -- no lane waits
   pub quiet-rests : (k : ℕ) → pendingIn s k ≡ Rests
   unfolding pendingIn
-  quiet-rests k = on (ltb k (s .n)) (λ e. rw (e, lane-still k (ltb-true _ _ e) .waits)) (λ e. rw e)
+  quiet-rests k = on (ltb k (s .shape .n)) (λ e. rw (e, lane-still k (ltb-true _ _ e) .waits)) (λ e. rw e)
 
   -- a view that is not Invalid has PRESENT set, which lanes alone have
-  flag-below : (a k : ℕ) → a < s .m → presentIn s a k ≡ true → k < s .n
-  flag-below a k h e = go (below? k (s .n)) (below? k 8)
+  flag-below : (a k : ℕ) → a < s .shape .m → presentIn s a k ≡ true → k < s .shape .n
+  flag-below a k h e = go (below? k (s .shape .n)) (below? k 8)
     where
-      go : (k < s .n) ⊎ (s .n ≤ k) → (k < 8) ⊎ (8 ≤ k) → k < s .n
+      go : (k < s .shape .n) ⊎ (s .shape .n ≤ k) → (k < 8) ⊎ (8 ≤ k) → k < s .shape .n
       go (inl l) r = l
       go (inr l) (inl r) = let z = sound s (i .sound) .block a h .absent k l r in clash (cc)
       go (inr l) (inr r) =
@@ -107,7 +107,7 @@ module _ (s : Store) (f : List ℕ) (i : Consistent s f) (quiet : quietOf s ≡ 
           let z : presentIn s a k ≡ false = List·getD-eq-default (blockAt s a .present) false p in
           clash (cc)
 
-  module _ (a : ℕ) (below : a < s .m) where
+  module _ (a : ℕ) (below : a < s .shape .m) where
     abbrev v : ℕ → Status
     v = i .block a below .0
 
@@ -116,22 +116,22 @@ module _ (s : Store) (f : List ℕ) (i : Consistent s f) (quiet : quietOf s ≡ 
 
     -- what lane k has of the block
     abbrev status : ℕ → Status
-    status k = statusAt (searchOf (laneAt s k) (s .c) (blockNo a)) (laneAt s k .lines)
+    status k = statusAt (searchOf (laneAt s k) (s .shape .c) (blockNo a)) (laneAt s k .lines)
 
-    line-is : (k : ℕ) → seen (s .c) (blockNo a) (laneAt s k) .line ≡ status k
+    line-is : (k : ℕ) → seen (s .shape .c) (blockNo a) (laneAt s k) .line ≡ status k
     unfolding seen
     line-is k = refl
 
-    no-returns : (k : ℕ) → k < s .n → seen (s .c) (blockNo a) (laneAt s k) .returns ≡ []
+    no-returns : (k : ℕ) → k < s .shape .n → seen (s .shape .c) (blockNo a) (laneAt s k) .returns ≡ []
     unfolding seen
     no-returns k h = rw (lane-still k h .returns)
 
-    no-downs : (k : ℕ) → k < s .n → seen (s .c) (blockNo a) (laneAt s k) .downs ≡ []
+    no-downs : (k : ℕ) → k < s .shape .n → seen (s .shape .c) (blockNo a) (laneAt s k) .downs ≡ []
     unfolding seen
     no-downs k h = rw (lane-still k h .downs)
 
     -- memory's view is the line, and what the flags say
-    view-line : (k : ℕ) → k < s .n → v k ≡ status k
+    view-line : (k : ℕ) → k < s .shape .n → v k ≡ status k
     view-line k h = quiet-view v (project s a) (flatBlock f a) inv k (no-returns k h) (no-downs k h) ∙ line-is k
 
     view-flags : (k : ℕ) → v k ≡ viewOf (blockAt s a) k
@@ -139,34 +139,34 @@ module _ (s : Store) (f : List ℕ) (i : Consistent s f) (quiet : quietOf s ≡ 
 
     -- a copy that is held is found, and a copy that is found is held
     held-copy : (k : ℕ) → held (status k) ≡ true → hasCopy s k a ≡ true
-    held-copy k e = go (searchOf (laneAt s k) (s .c) (blockNo a)) refl
+    held-copy k e = go (searchOf (laneAt s k) (s .shape .c) (blockNo a)) refl
       where
-        go : (r : Found) → searchOf (laneAt s k) (s .c) (blockNo a) ≡ r → hasCopy s k a ≡ true
-        go (At j) q = let p = found-holds (s .c) (laneAt s k) (blockNo a) j q in any-true (λ t. holdsOf (lineIn s k t) (blockNo a)) (s .c) (j .0) (p .1) (p .0)
+        go : (r : Found) → searchOf (laneAt s k) (s .shape .c) (blockNo a) ≡ r → hasCopy s k a ≡ true
+        go (At j) q = let p = found-holds (s .shape .c) (laneAt s k) (blockNo a) j q in any-true (λ t. holdsOf (lineIn s k t) (blockNo a)) (s .shape .c) (j .0) (p .1) (p .0)
         go Nothing q = let z : false ≡ true = rw q at e in clash (cc)
 
     invalid-copy : (k : ℕ) → status k ≡ Invalid → hasCopy s k a ≡ false
-    invalid-copy k e = any-never (λ t. holdsOf (lineIn s k t) (blockNo a)) (s .c) (λ t h. on (holdsOf (lineIn s k t) (blockNo a)) (λ q. clash (cc (found t h q))) (λ q. q))
+    invalid-copy k e = any-never (λ t. holdsOf (lineIn s k t) (blockNo a)) (s .shape .c) (λ t h. on (holdsOf (lineIn s k t) (blockNo a)) (λ q. clash (cc (found t h q))) (λ q. q))
       where
-        found : (t : ℕ) → t < s .c → holdsOf (lineIn s k t) (blockNo a) ≡ true → held Invalid ≡ true
-        found t h q = sym (ap held e) ∙ ap held (ap (λ (r : Found). statusAt r (laneAt s k .lines)) (search-at (s .c) (laneAt s k) (i .unique k) (blockNo a) t h q)) ∙ held-line (lineIn s k t .private)
+        found : (t : ℕ) → t < s .shape .c → holdsOf (lineIn s k t) (blockNo a) ≡ true → held Invalid ≡ true
+        found t h q = sym (ap held e) ∙ ap held (ap (λ (r : Found). statusAt r (laneAt s k .lines)) (search-at (s .shape .c) (laneAt s k) (i .unique k) (blockNo a) t h q)) ∙ held-line (lineIn s k t .private)
 
     -- a line that holds the block is the one found, with its status
-    line-status : (k t : ℕ) → t < s .c → holdsOf (lineIn s k t) (blockNo a) ≡ true → status k ≡ cond (lineIn s k t .private) Modified Shared
-    line-status k t h q = ap (λ (r : Found). statusAt r (laneAt s k .lines)) (search-at (s .c) (laneAt s k) (i .unique k) (blockNo a) t h q)
+    line-status : (k t : ℕ) → t < s .shape .c → holdsOf (lineIn s k t) (blockNo a) ≡ true → status k ≡ cond (lineIn s k t .private) Modified Shared
+    line-status k t h q = ap (λ (r : Found). statusAt r (laneAt s k .lines)) (search-at (s .shape .c) (laneAt s k) (i .unique k) (blockNo a) t h q)
 
-    words-are : (k : ℕ) → seen (s .c) (blockNo a) (laneAt s k) .words ≡ wordsAt (searchOf (laneAt s k) (s .c) (blockNo a)) (laneAt s k .lines)
+    words-are : (k : ℕ) → seen (s .shape .c) (blockNo a) (laneAt s k) .words ≡ wordsAt (searchOf (laneAt s k) (s .shape .c) (blockNo a)) (laneAt s k .lines)
     unfolding seen
     words-are k = refl
 
     -- .. and its words are flat memory's
-    line-words : (k t : ℕ) → t < s .c → holdsOf (lineIn s k t) (blockNo a) ≡ true → lineIn s k t .words ≡ flatBlock f a
+    line-words : (k t : ℕ) → t < s .shape .c → holdsOf (lineIn s k t) (blockNo a) ≡ true → lineIn s k t .words ≡ flatBlock f a
     line-words k t h q =
-        let e = search-at (s .c) (laneAt s k) (i .unique k) (blockNo a) t h q in
+        let e = search-at (s .shape .c) (laneAt s k) (i .unique k) (blockNo a) t h q in
         sym (words-are k ∙ ap (λ (r : Found). wordsAt r (laneAt s k .lines)) e) ∙ inv .bears k .line (ap held (line-is k ∙ line-status k t h q) ∙ held-line (lineIn s k t .private))
 
     -- 1
-    present-copy : (k : ℕ) → k < s .n → presentIn s a k ≡ true → hasCopy s k a ≡ true
+    present-copy : (k : ℕ) → k < s .shape .n → presentIn s a k ≡ true → hasCopy s k a ≡ true
     present-copy k h e = held-copy k (sym (ap held (view-line k h)) ∙ ap held (view-flags k) ∙ rw e (held-line (blockAt s a .modified)))
 
     -- a dirty view has PRESENT and MODIFIED set
@@ -182,13 +182,13 @@ module _ (s : Store) (f : List ℕ) (i : Consistent s f) (quiet : quietOf s ≡ 
         go false p m q = clash (cc (ap dirty (rw p at d)))
 
     -- a dirty line is an owner
-    dirty-owns : (k : ℕ) → status k ≡ Modified → (t : ℕ) × (t < s .c) × (owns s k t a ≡ true)
-    dirty-owns k e = go (searchOf (laneAt s k) (s .c) (blockNo a)) refl
+    dirty-owns : (k : ℕ) → status k ≡ Modified → (t : ℕ) × (t < s .shape .c) × (owns s k t a ≡ true)
+    dirty-owns k e = go (searchOf (laneAt s k) (s .shape .c) (blockNo a)) refl
       where
-        go : (r : Found) → searchOf (laneAt s k) (s .c) (blockNo a) ≡ r → (t : ℕ) × (t < s .c) × (owns s k t a ≡ true)
+        go : (r : Found) → searchOf (laneAt s k) (s .shape .c) (blockNo a) ≡ r → (t : ℕ) × (t < s .shape .c) × (owns s k t a ≡ true)
         go Nothing q = clash (cc (ap dirty (rw q at e)))
         go (At j) q =
-            let p = found-holds (s .c) (laneAt s k) (blockNo a) j q in
+            let p = found-holds (s .shape .c) (laneAt s k) (blockNo a) j q in
             (j .0, p .0, rw (p .1) (private (lineIn s k (j .0) .private) refl))
           where
             private : (b : Bool) → lineIn s k (j .0) .private ≡ b → lineIn s k (j .0) .private ≡ true
@@ -196,27 +196,27 @@ module _ (s : Store) (f : List ℕ) (i : Consistent s f) (quiet : quietOf s ≡ 
             private false x = clash (cc (ap dirty (rw (q, x) at e)))
 
     -- an owner is dirty, and memory knows it
-    owner-view : (k t : ℕ) → k < s .n → t < s .c → owns s k t a ≡ true → v k ≡ Modified
+    owner-view : (k t : ℕ) → k < s .shape .n → t < s .shape .c → owns s k t a ≡ true → v k ≡ Modified
     owner-view k t h l e =
         let p = and-both (holdsOf (lineIn s k t) (blockNo a)) (lineIn s k t .private) e in
         view-line k h ∙ line-status k t l (p .0) ∙ rw (p .1)
 
     -- some lane has the block PRIVATE
-    some-owner : blockAt s a .modified ≡ true → (k : ℕ) × (k < s .n) × ((t : ℕ) × (t < s .c) × (owns s k t a ≡ true))
+    some-owner : blockAt s a .modified ≡ true → (k : ℕ) × (k < s .shape .n) × ((t : ℕ) × (t < s .shape .c) × (owns s k t a ≡ true))
     some-owner e =
         let p = inv .directory .some e in
         let h = flag-below a (p .0) below (dirty-flags (p .0) (p .1) .0) in
         (p .0, h, dirty-owns (p .0) (sym (view-line (p .0) h) ∙ p .1))
 
     -- 2
-    modified-owner : blockAt s a .modified ≡ true → anyTo (λ k. anyTo (λ t. owns s k t a) (s .c)) (s .n) ≡ true
+    modified-owner : blockAt s a .modified ≡ true → anyTo (λ k. anyTo (λ t. owns s k t a) (s .shape .c)) (s .shape .n) ≡ true
     modified-owner e =
         let p = some-owner e in
-        any-true (λ k. anyTo (λ t. owns s k t a) (s .c)) (s .n) (p .0) (any-true (λ t. owns s (p .0) t a) (s .c) (p .2 .0) (p .2 .2) (p .2 .1)) (p .1)
+        any-true (λ k. anyTo (λ t. owns s k t a) (s .shape .c)) (s .shape .n) (p .0) (any-true (λ t. owns s (p .0) t a) (s .shape .c) (p .2 .0) (p .2 .2) (p .2 .1)) (p .1)
 
     -- 3
-    owner-alone : (k t : ℕ) → k < s .n → t < s .c → owns s k t a ≡ true →
-        (presentIn s a k ≡ true) × ((j : ℕ) → j < s .n → j ≢ k → (hasCopy s j a ≡ false) × (presentIn s a j ≡ false))
+    owner-alone : (k t : ℕ) → k < s .shape .n → t < s .shape .c → owns s k t a ≡ true →
+        (presentIn s a k ≡ true) × ((j : ℕ) → j < s .shape .n → j ≢ k → (hasCopy s j a ≡ false) × (presentIn s a j ≡ false))
     owner-alone k t h l e = (dirty-flags k mine .0, λ j g n. (invalid-copy j (sym (view-line j g) ∙ inv .sole k j mine n), absent j (inv .sole k j mine n) (presentIn s a j) refl))
       where
         mine : v k ≡ Modified
@@ -240,7 +240,7 @@ module _ (s : Store) (f : List ℕ) (i : Consistent s f) (quiet : quietOf s ≡ 
         clean Modified n = absurd (n refl)
 
     -- 4
-    shared-words : (k t : ℕ) → k < s .n → t < s .c → holdsOf (lineIn s k t) (blockNo a) ≡ true → lineIn s k t .private ≡ false → lineIn s k t .words ≡ blockAt s a .words
+    shared-words : (k t : ℕ) → k < s .shape .n → t < s .shape .c → holdsOf (lineIn s k t) (blockNo a) ≡ true → lineIn s k t .private ≡ false → lineIn s k t .words ≡ blockAt s a .words
     shared-words k t h l e p = line-words k t l e ∙ sym (clean-main other)
       where
         mine : v k ≡ Shared
@@ -254,18 +254,18 @@ module _ (s : Store) (f : List ℕ) (i : Consistent s f) (quiet : quietOf s ≡ 
             go (inr n) = clash (cc (ap held (sym mine ∙ inv .sole j k x (λ q. n (sym q)))))
 
     -- an owner's words are flat memory's
-    owner-words : (k t : ℕ) → t < s .c → owns s k t a ≡ true → lineIn s k t .words ≡ flatBlock f a
+    owner-words : (k t : ℕ) → t < s .shape .c → owns s k t a ≡ true → lineIn s k t .words ≡ flatBlock f a
     owner-words k t l e = line-words k t l (and-both (holdsOf (lineIn s k t) (blockNo a)) (lineIn s k t .private) e .0)
 
     -- what the store shows
     abbrev shown : ℕ → List ℕ → List ℕ
-    shown k ws = upTo (λ t xs. cond (owns s k t a) (lineIn s k t .words) xs) (s .c) ws
+    shown k ws = upTo (λ t xs. cond (owns s k t a) (lineIn s k t .words) xs) (s .shape .c) ws
 
-    turn-keeps : (k t : ℕ) → t < s .c → (xs : List ℕ) → xs ≡ flatBlock f a → cond (owns s k t a) (lineIn s k t .words) xs ≡ flatBlock f a
+    turn-keeps : (k t : ℕ) → t < s .shape .c → (xs : List ℕ) → xs ≡ flatBlock f a → cond (owns s k t a) (lineIn s k t .words) xs ≡ flatBlock f a
     turn-keeps k t h xs e = pick (λ (ws : List ℕ). ws ≡ flatBlock f a) (owns s k t a) _ _ (owner-words k t h) (λ _. e)
 
-    shown-keeps : (k : ℕ) → k < s .n → (ws : List ℕ) → ws ≡ flatBlock f a → shown k ws ≡ flatBlock f a
-    shown-keeps k h ws e = loop-keeps (λ (xs : List ℕ). xs ≡ flatBlock f a) (λ t xs. cond (owns s k t a) (lineIn s k t .words) xs) (s .c) ws (turn-keeps k) e
+    shown-keeps : (k : ℕ) → k < s .shape .n → (ws : List ℕ) → ws ≡ flatBlock f a → shown k ws ≡ flatBlock f a
+    shown-keeps k h ws e = loop-keeps (λ (xs : List ℕ). xs ≡ flatBlock f a) (λ t xs. cond (owns s k t a) (lineIn s k t .words) xs) (s .shape .c) ws (turn-keeps k) e
 
     shows-words : shownOf s a ≡ flatBlock f a
     unfolding shownOf
@@ -273,18 +273,18 @@ module _ (s : Store) (f : List ℕ) (i : Consistent s f) (quiet : quietOf s ≡ 
         on (blockAt s a .modified)
         (λ e.
         let p = some-owner e in
-        loop-gives (λ (xs : List ℕ). xs ≡ flatBlock f a) shown (s .n) (blockAt s a .words) (p .0) (p .1)
-        (λ ws. loop-gives (λ (xs : List ℕ). xs ≡ flatBlock f a) (λ t xs. cond (owns s (p .0) t a) (lineIn s (p .0) t .words) xs) (s .c) ws (p .2 .0) (p .2 .1)
+        loop-gives (λ (xs : List ℕ). xs ≡ flatBlock f a) shown (s .shape .n) (blockAt s a .words) (p .0) (p .1)
+        (λ ws. loop-gives (λ (xs : List ℕ). xs ≡ flatBlock f a) (λ t xs. cond (owns s (p .0) t a) (lineIn s (p .0) t .words) xs) (s .shape .c) ws (p .2 .0) (p .2 .1)
         (λ xs. rw (p .2 .2) (owner-words (p .0) (p .2 .0) (p .2 .1) (p .2 .2))) (turn-keeps (p .0)))
         shown-keeps)
-        (λ e. loop-keeps (λ (xs : List ℕ). xs ≡ flatBlock f a) shown (s .n) (blockAt s a .words) shown-keeps (clean-main (λ k x. clash (cc (dirty-flags k x .1)))))
+        (λ e. loop-keeps (λ (xs : List ℕ). xs ≡ flatBlock f a) shown (s .shape .n) (blockAt s a .words) shown-keeps (clean-main (λ k x. clash (cc (dirty-flags k x .1)))))
 
   -- a valid line's block is one of the store's
-  valid-below : (k t : ℕ) → k < s .n → t < s .c → lineIn s k t .valid ≡ true → lineIn s k t .block .0 < s .m
+  valid-below : (k t : ℕ) → k < s .shape .n → t < s .shape .c → lineIn s k t .valid ≡ true → lineIn s k t .block .0 < s .shape .m
   valid-below k t h l e = sound s (i .sound) .lane k h .lines t l e
 
   -- the store shows flat memory's words
-  pub quiet-shows : (a : ℕ) → a < s .m → shownOf s a ≡ flatBlock f a
+  pub quiet-shows : (a : ℕ) → a < s .shape .m → shownOf s a ≡ flatBlock f a
   quiet-shows a h = shows-words a h
 
   -- the four properties

@@ -57,7 +57,7 @@ looked-up (Busy u) a v e = go (eqb (u .block .0) (a .0)) refl e
     go true q d = let z : u ≡ v = cc in (rw z, rw (← z) (eqb-true _ _ q))
     go false q d = clash (cc)
 
-module _ (s : Store) (f : List ℕ) (i : Consistent s f) (k : LaneNo) (h : k .0 < s .n) (filled : laneAt s (k .0) .returns .len ≢ 0) where
+module _ (s : Store) (f : List ℕ) (i : Consistent s f) (k : LaneNo) (h : k .0 < s .shape .n) (filled : laneAt s (k .0) .returns .len ≢ 0) where
   abbrev l : Lane
   l = laneAt s (k .0)
 
@@ -87,7 +87,7 @@ module _ (s : Store) (f : List ℕ) (i : Consistent s f) (k : LaneNo) (h : k .0 
   some : 0 < l .returns .len
   some = omega (arith, filled)
 
-  block-below : a .0 < s .m
+  block-below : a .0 < s .shape .m
   block-below = sound s (i .sound) .lane (k .0) h .returns .inside 0 some
 
   entry-below : a .0 < 64
@@ -102,22 +102,22 @@ module _ (s : Store) (f : List ℕ) (i : Consistent s f) (k : LaneNo) (h : k .0 
   pub taken : returnsIn (l .returns) ≡ x ∷ returnsIn (takeReturn (l .returns) .queue)
   taken = take-returns (l .returns) (l-sized .returns) filled (sound s (i .sound) .lane (k .0) h .returns .short)
 
-  pub has-head : seen (s .c) a l .returns ≡ x ∷ rest
+  pub has-head : seen (s .shape .c) a l .returns ≡ x ∷ rest
   unfolding seen
   has-head = ap (keepIf (returnAbout a)) taken ∙ keep-head (returnAbout a) x (returnsIn (takeReturn (l .returns) .queue)) (eq-eqb (a .0) (a .0) refl)
 
-  seen-here : seen (s .c) a t ≡ takeSeen rest (seen (s .c) a l)
+  seen-here : seen (s .shape .c) a t ≡ takeSeen rest (seen (s .shape .c) a l)
   unfolding seen
   seen-here = refl
 
-  seen-there : (d : ℕ) → d ≢ a .0 → seen (s .c) (blockNo d) t ≡ seen (s .c) (blockNo d) l
+  seen-there : (d : ℕ) → d ≢ a .0 → seen (s .shape .c) (blockNo d) t ≡ seen (s .shape .c) (blockNo d) l
   unfolding seen
   seen-there d n =
       let e = ap (keepIf (returnAbout (blockNo d))) taken ∙ keep-tail (returnAbout (blockNo d)) x (returnsIn (takeReturn (l .returns) .queue)) (ne-eqb (a .0) d (λ q. n (sym q))) in
       ap (λ (r : List ReturnMessage). withReturned r) (sym e)
     where
       withReturned : List ReturnMessage → Seen
-      withReturned r = record { line = seen (s .c) (blockNo d) l .line; words = seen (s .c) (blockNo d) l .words; returns = r; downs = seen (s .c) (blockNo d) l .downs; waiting = seen (s .c) (blockNo d) l .waiting }
+      withReturned r = record { line = seen (s .shape .c) (blockNo d) l .line; words = seen (s .shape .c) (blockNo d) l .words; returns = r; downs = seen (s .shape .c) (blockNo d) l .downs; waiting = seen (s .shape .c) (blockNo d) l .waiting }
 
   -- the block before
   pub before : (v : (ℕ → Status)) × Inv v (project s (a .0)) (flatBlock f (a .0))

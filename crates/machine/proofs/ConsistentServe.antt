@@ -82,7 +82,7 @@ pub not-busy : (x : Control) → busyOf x ≡ false → x ≡ Free
 not-busy Free e = refl
 not-busy (Busy v) e = clash (cc)
 
-module _ (s : Store) (f : List ℕ) (i : Consistent s f) (k : LaneNo) (h : k .0 < s .n) (o : Operation) (e : laneAt s (k .0) .waiting ≡ Unserved o)
+module _ (s : Store) (f : List ℕ) (i : Consistent s f) (k : LaneNo) (h : k .0 < s .shape .n) (o : Operation) (e : laneAt s (k .0) .waiting ≡ Unserved o)
     (free : s .control ≡ Free) (clear : laneAt s (k .0) .returns .len ≡ 0) where
   -- the block of the operation, its entry, the lanes that orders go to, the service
   abbrev x : BlockNo
@@ -103,7 +103,7 @@ module _ (s : Store) (f : List ℕ) (i : Consistent s f) (k : LaneNo) (h : k .0 
   lane-below : k .0 < 8
   lane-below = let p = sound s (i .sound) .n-high in omega arith
 
-  block-below : x .0 < s .m
+  block-below : x .0 < s .shape .m
   block-below = sound s (i .sound) .lane (k .0) h .unserved o e
 
   entry-below : x .0 < 64
@@ -115,19 +115,19 @@ module _ (s : Store) (f : List ℕ) (i : Consistent s f) (k : LaneNo) (h : k .0 
   t-sized : LaneSized t
   t-sized = let z = i .sized .lane (k .0) lane-below in record { lines = z .lines; order = z .order; returns = z .returns; downs = z .downs }
 
-  seen-here : seen (s .c) x t ≡ waitSeen (Served o) (seen (s .c) x (laneAt s (k .0)))
+  seen-here : seen (s .shape .c) x t ≡ waitSeen (Served o) (seen (s .shape .c) x (laneAt s (k .0)))
   unfolding seen
   seen-here = rw (eq-eqb (x .0) (x .0) refl)
 
-  seen-there : (a : ℕ) → a ≢ x .0 → seen (s .c) (blockNo a) t ≡ seen (s .c) (blockNo a) (laneAt s (k .0))
+  seen-there : (a : ℕ) → a ≢ x .0 → seen (s .shape .c) (blockNo a) t ≡ seen (s .shape .c) (blockNo a) (laneAt s (k .0))
   unfolding seen
   seen-there a n = rw (e, ne-eqb (x .0) a (λ q. n (sym q)))
 
-  waits : seen (s .c) x (laneAt s (k .0)) .waiting ≡ Unserved o
+  waits : seen (s .shape .c) x (laneAt s (k .0)) .waiting ≡ Unserved o
   unfolding seen
   waits = rw (e, eq-eqb (x .0) (x .0) refl)
 
-  returned : seen (s .c) x (laneAt s (k .0)) .returns ≡ []
+  returned : seen (s .shape .c) x (laneAt s (k .0)) .returns ≡ []
   unfolding seen
   returned = rw clear
 

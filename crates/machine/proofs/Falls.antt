@@ -37,7 +37,7 @@ use Rattle.machine.proofs.RulesSettle.{step-rule}
 
 -- how many lanes wait
 abbrev pub waitingIn : Store → ℕ
-waitingIn s = countTo (λ k. not (idleOf (laneAt s k .waiting))) (s .n)
+waitingIn s = countTo (λ k. not (idleOf (laneAt s k .waiting))) (s .shape .n)
 
 refused-advances : (s : Store) (n : Refusal) → Advancing s (refuse n s)
 refused-advances s n e = absurd (true≢false e)
@@ -49,7 +49,7 @@ deliver-advances s k g =
     let a = sound s e in
     let h = a .n-high in
     commit-lane-advances s k _ (g .lanes) h l
-    (deliver-lane-takes (2 * s .n) (s .c) (laneAt s (k .0)) (g .lane (k .0) (omega arith)) (a .lane (k .0) l .downs .short)))
+    (deliver-lane-takes (2 * s .shape .n) (s .shape .c) (laneAt s (k .0)) (g .lane (k .0) (omega arith)) (a .lane (k .0) l .downs .short)))
 
 pub return-advances : (s : Store) (k : LaneNo) → Sized s → Advancing s (returnOf s k)
 return-advances s k g =
@@ -59,7 +59,7 @@ return-advances s k g =
     let h = sound s (r .sound) .n-high in
     commit-move-advances s k (x .block) _ g h (r .lane)
     (λ z. return-move-lane k x (laneAt s (k .0)) (blockAt s (x .block .0)) (s .control) (g .lane (k .0) z))
-    (return-move-lowers (s .n) (2 * s .n) k x (laneAt s (k .0)) (blockAt s (x .block .0)) (s .control) h (ne-eqb _ _ (r .filled))))
+    (return-move-lowers (s .shape .n) (2 * s .shape .n) k x (laneAt s (k .0)) (blockAt s (x .block .0)) (s .control) h (ne-eqb _ _ (r .filled))))
 
 pub serve-advances : (s : Store) (k : LaneNo) → Sized s → Advancing s (serveOf s k)
 serve-advances s k g =
@@ -68,7 +68,7 @@ serve-advances s k g =
     let a = sound s (r .sound) in
     commit-move-advances s k (blockOf (o .word)) _ g (a .n-high) (r .lane)
     (λ z. serve-move-lane k o (laneAt s (k .0)) (blockAt s (blockOf (o .word) .0)) (s .control) (g .lane (k .0) z))
-    (serve-move-lowers (s .n) k o (laneAt s (k .0)) (blockAt s (blockOf (o .word) .0)) (s .control) (a .n-high) (r .lane)
+    (serve-move-lowers (s .shape .n) k o (laneAt s (k .0)) (blockAt s (blockOf (o .word) .0)) (s .control) (a .n-high) (r .lane)
     (a .block (blockOf (o .word) .0) (a .lane (k .0) (r .lane) .unserved o (r .unserved))) (r .unserved) (r .free)))
 
 -- a step of settle, which is one of them or is refused
@@ -84,8 +84,8 @@ pub settle-completes : (s : Store) → corruptOf s ≡ false → Sized s → ref
     length (doneIn (settleStep s .answer)) + waitingIn (settleStep s .store) ≡ waitingIn s
 settle-completes s _ g h =
     let a = step-advances s g h .completes in
-    let b = count-sum (λ k. not (idleOf (laneAt s k .waiting))) (s .n) in
-    let c = count-sum (λ k. not (idleOf (laneAt (settleStep s .store) k .waiting))) (settleStep s .store .n) in
+    let b = count-sum (λ k. not (idleOf (laneAt s k .waiting))) (s .shape .n) in
+    let c = count-sum (λ k. not (idleOf (laneAt (settleStep s .store) k .waiting))) (settleStep s .store .shape .n) in
     omega arith
 
 -- 8 lanes of 2 returns, 2 orders and an unserved operation, and a service
@@ -94,10 +94,10 @@ bound-most s e =
     let a = sound s e in
     let h = a .n-high in
     let b = bound-sum s in
-    let c = sum-most (λ k. weight (2 * s .n) (laneAt s k)) 22 (s .n)
-    (λ j l. let d = weight-most (2 * s .n) (laneAt s j) (a .lane j l .returns .short) in omega arith) in
+    let c = sum-most (λ k. weight (2 * s .shape .n) (laneAt s k)) 22 (s .shape .n)
+    (λ j l. let d = weight-most (2 * s .shape .n) (laneAt s j) (a .lane j l .returns .short) in omega arith) in
     let d = step-most (busyOf (s .control)) in
     omega arith
 
 pub waiting-most : (s : Store) → corruptOf s ≡ false → waitingIn s ≤ 8
-waiting-most s e = let a = count-most (λ k. not (idleOf (laneAt s k .waiting))) (s .n) in let h = sound s e .n-high in omega arith
+waiting-most s e = let a = count-most (λ k. not (idleOf (laneAt s k .waiting))) (s .shape .n) in let h = sound s e .n-high in omega arith

@@ -45,17 +45,17 @@ lanesWait ls n = sumTo (λ k. waits (getD ls k noLane)) n
 abbrev pub service : Control → ℕ
 service x = cond (busyOf x) 1 0
 
-pub bound-sum : (s : Store) → boundOf s ≡ lanesWeight (2 * s .n) (s .lanes) (s .n) + service (s .control)
+pub bound-sum : (s : Store) → boundOf s ≡ lanesWeight (2 * s .shape .n) (s .lanes) (s .shape .n) + service (s .control)
 unfolding boundOf weight
 bound-sum s =
     let a = sum-weights (λ k. laneAt s k .returns .len) (λ k. downsOf false (laneAt s k .downs)) (λ k. downsOf true (laneAt s k .downs))
-    (λ k. unservedOf (laneAt s k .waiting)) (2 * s .n) (s .n) in
+    (λ k. unservedOf (laneAt s k .waiting)) (2 * s .shape .n) (s .shape .n) in
     omega arith
 
 -- a step that lowers the bound, and completes as many operations as wait no more
 pub record Advances (s : Store) (r : Outcome) : Type 0 where
   pub falls : boundOf (r .store) < boundOf s
-  pub completes : length (doneIn (r .answer)) + lanesWait (r .store .lanes) (r .store .n) ≡ lanesWait (s .lanes) (s .n)
+  pub completes : length (doneIn (r .answer)) + lanesWait (r .store .lanes) (r .store .shape .n) ≡ lanesWait (s .lanes) (s .shape .n)
 
 -- .. unless it is refused
 abbrev pub Advancing : Store → Outcome → Type 0
@@ -70,8 +70,8 @@ set-sum w ls k n l h g =
     omega arith
 
 -- lane k after its part of a call
-pub commit-lane-advances : (s : Store) (k : LaneNo) (r : LaneStep) → length (s .lanes) ≡ 8 → s .n ≤ 8 → k .0 < s .n →
-    Takes (2 * s .n) 0 (laneAt s (k .0)) r → Advancing s (commitLane s k r)
+pub commit-lane-advances : (s : Store) (k : LaneNo) (r : LaneStep) → length (s .lanes) ≡ 8 → s .shape .n ≤ 8 → k .0 < s .shape .n →
+    Takes (2 * s .shape .n) 0 (laneAt s (k .0)) r → Advancing s (commitLane s k r)
 commit-lane-advances s k r g h l t = lane-rule (Advancing s) s k r (λ _ _ e. absurd (true≢false e)) (λ e _. put e)
   where
     put : refusedIn (r .answer) ≡ false → Advances s (record { answer = answerTo k (r .answer); store = withLane s (k .0) (r .lane) })
@@ -79,8 +79,8 @@ commit-lane-advances s k r g h l t = lane-rule (Advancing s) s k r (λ _ _ e. ab
         let p = t e .lighter in
         let q = t e .completes in
         let o = completed-done k (r .answer) in
-        let a = set-sum (weight (2 * s .n)) (s .lanes) (k .0) (s .n) (r .lane) l (omega arith) in
-        let b = set-sum waits (s .lanes) (k .0) (s .n) (r .lane) l (omega arith) in
+        let a = set-sum (weight (2 * s .shape .n)) (s .lanes) (k .0) (s .shape .n) (r .lane) l (omega arith) in
+        let b = set-sum waits (s .lanes) (k .0) (s .shape .n) (r .lane) l (omega arith) in
         let c = bound-sum s in
         let d = bound-sum (withLane s (k .0) (r .lane)) in
         record { falls = omega arith; completes = omega arith }
@@ -117,24 +117,24 @@ pub record Lowers (n u : ℕ) (l : Lane) (x : Control) (v : Move) : Type 0 where
   pub completes-none : length (doneIn (v .answer)) ≡ 0
 
 -- the store after memory's part of a call
-pub commit-move-advances : (s : Store) (k : LaneNo) (a : BlockNo) (v : Move) → Sized s → s .n ≤ 8 → k .0 < s .n → (k .0 < 8 → LaneSized (v .lane)) →
-    (refusedOf (v .answer) ≡ false → Lowers (s .n) (2 * s .n) (laneAt s (k .0)) (s .control) v) → Advancing s (commitMove s k a v)
+pub commit-move-advances : (s : Store) (k : LaneNo) (a : BlockNo) (v : Move) → Sized s → s .shape .n ≤ 8 → k .0 < s .shape .n → (k .0 < 8 → LaneSized (v .lane)) →
+    (refusedOf (v .answer) ≡ false → Lowers (s .shape .n) (2 * s .shape .n) (laneAt s (k .0)) (s .control) v) → Advancing s (commitMove s k a v)
 commit-move-advances s k a v g h l f t = move-rule (Advancing s) s k a v (λ _ e. absurd (true≢false e)) (λ q o _. put (t q) o)
   where
     after : List Lane
     after = set (s .lanes) (k .0) (v .lane)
 
-    put : Lowers (s .n) (2 * s .n) (laneAt s (k .0)) (s .control) v → someFull (v .to) after ≡ false → Advances s (record { answer = v .answer; store = movedStore s k a v })
+    put : Lowers (s .shape .n) (2 * s .shape .n) (laneAt s (k .0)) (s .control) v → someFull (v .to) after ≡ false → Advances s (record { answer = v .answer; store = movedStore s k a v })
     put w o =
         let z = set-lane-sized (s .lanes) (k .0) (v .lane) (lanes-sized s g) f in
         let i = g .lanes in
         let p = w .lighter in
         let q = w .waits-on in
         let d = w .completes-none in
-        let a₀ = set-sum (weight (2 * s .n)) (s .lanes) (k .0) (s .n) (v .lane) l (omega arith) in
-        let b₀ = set-sum waits (s .lanes) (k .0) (s .n) (v .lane) l (omega arith) in
-        let a₁ = post-weight (v .to) (v .message) after (s .n) h z (2 * s .n) o in
-        let b₁ = post-waits (v .to) (v .message) after (s .n) h z in
+        let a₀ = set-sum (weight (2 * s .shape .n)) (s .lanes) (k .0) (s .shape .n) (v .lane) l (omega arith) in
+        let b₀ = set-sum waits (s .lanes) (k .0) (s .shape .n) (v .lane) l (omega arith) in
+        let a₁ = post-weight (v .to) (v .message) after (s .shape .n) h z (2 * s .shape .n) o in
+        let b₁ = post-waits (v .to) (v .message) after (s .shape .n) h z in
         let c₀ = bound-sum s in
         let c₁ = bound-sum (movedStore s k a v) in
         record { falls = omega arith; completes = omega arith }

@@ -12,6 +12,7 @@ use native.Mathlib.Omega.{arith}
 use Rattle.words.specs.declared.LaneNo.{LaneNo}
 use Rattle.words.specs.declared.WordNo.{WordNo}
 use Rattle.words.specs.declared.Op.{Op}
+use Rattle.words.specs.declared.Shape.{Shape}
 use Rattle.store.specs.declared.Store.{Store}
 use Rattle.store.specs.Opening.{badShape, freshOf}
 use Rattle.store.specs.Stores.{laneAt}
@@ -31,7 +32,7 @@ use Rattle.machine.proofs.KeepsOpen.{open-fit}
 
 -- the use order of each lane has its 8 places
 abbrev pub Whole : Store → Type 0
-Whole s = (k : ℕ) → k < s .n → 8 ≤ length (laneAt s k .order)
+Whole s = (k : ℕ) → k < s .shape .n → 8 ≤ length (laneAt s k .order)
 
 fit : (s : Store) → corruptOf s ≡ false → Whole s → Fit 8 s
 fit s e w = record { sound = sound s e; long = w }
@@ -40,8 +41,8 @@ fit s e w = record { sound = sound s e; long = w }
 any-fit : (s : Store) → corruptOf s ≡ false → Fit 0 s
 any-fit s e = record { sound = sound s e; long = λ k h. omega arith }
 
-pub open-keeps : (n c m : ℕ) → badShape n c m ≡ false → corruptOf (freshOf n c m) ≡ false
-open-keeps n c m e = not-corrupt (freshOf n c m) (open-fit n c m e .sound)
+pub open-keeps : (shape : Shape) → badShape shape ≡ false → corruptOf (freshOf shape) ≡ false
+open-keeps shape e = not-corrupt (freshOf shape) (open-fit shape e .sound)
 
 pub begin-keeps : (s : Store) (k : LaneNo) (op : Op) (w : WordNo) → corruptOf s ≡ false → Whole s → corruptOf (beginOf s k op w .store) ≡ false
 begin-keeps s k op w e h = not-corrupt (beginOf s k op w .store) (begin-fit 8 s k op w (sound s e .c-high) (fit s e h) .sound)
@@ -55,8 +56,8 @@ return-keeps s k e = not-corrupt (returnOf s k .store) (return-fit 0 s k (any-fi
 pub deliver-keeps : (s : Store) (k : LaneNo) → corruptOf s ≡ false → Whole s → corruptOf (deliverOf s k .store) ≡ false
 deliver-keeps s k e h = not-corrupt (deliverOf s k .store) (deliver-fit 8 s k (sound s e .c-high) (fit s e h) .sound)
 
-pub open-whole : (n c m : ℕ) → badShape n c m ≡ false → Whole (freshOf n c m)
-open-whole n c m e = open-fit n c m e .long
+pub open-whole : (shape : Shape) → badShape shape ≡ false → Whole (freshOf shape)
+open-whole shape e = open-fit shape e .long
 
 pub begin-whole : (s : Store) (k : LaneNo) (op : Op) (w : WordNo) → Whole s → Whole (beginOf s k op w .store)
 unfolding beginOf

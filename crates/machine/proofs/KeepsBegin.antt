@@ -92,8 +92,8 @@ module _ (h c m : ℕ) (c₀ : 1 ≤ c) (c₁ : c ≤ h) (z : 1 ≤ m) (op : Op)
   unfolding beginLane
   begin-lane-keeps = at-keeps (searchOf l c (blockOf w)) refl
 
-pub begin-fit : (h : ℕ) (s : Store) (k : LaneNo) (op : Op) (w : WordNo) → s .c ≤ h → Fit h s → Fit h (beginOf s k op w .store)
+pub begin-fit : (h : ℕ) (s : Store) (k : LaneNo) (op : Op) (w : WordNo) → s .shape .c ≤ h → Fit h s → Fit h (beginOf s k op w .store)
 begin-fit h s k op w b g =
     begin-rule (λ (r : Outcome). Fit h (r .store)) s k op w (λ _. g)
     (λ r. commit-lane-keeps h s k _ g
-    (begin-lane-keeps h (s .c) (s .m) (g .sound .c-low) b (g .sound .m-low) op w (r .inside) (laneAt s (k .0)) (lane-fit h s g (k .0) (r .lane))))
+    (begin-lane-keeps h (s .shape .c) (s .shape .m) (g .sound .c-low) b (g .sound .m-low) op w (r .inside) (laneAt s (k .0)) (lane-fit h s g (k .0) (r .lane))))

@@ -95,8 +95,8 @@ deliver-lane-keeps h c m l c₀ c₁ z g =
     took : LaneStep
     took = deliverKind (headDown (l .downs) .kind) c (headDown (l .downs)) (withDowns (takeDown (l .downs) .queue) l)
 
-pub deliver-fit : (h : ℕ) (s : Store) (k : LaneNo) → s .c ≤ h → Fit h s → Fit h (deliverOf s k .store)
+pub deliver-fit : (h : ℕ) (s : Store) (k : LaneNo) → s .shape .c ≤ h → Fit h s → Fit h (deliverOf s k .store)
 deliver-fit h s k b g =
     deliver-rule (λ (r : Outcome). Fit h (r .store)) s k (λ _. g)
     (λ _ l. commit-lane-keeps h s k _ g
-    (deliver-lane-keeps h (s .c) (s .m) (laneAt s (k .0)) (g .sound .c-low) b (g .sound .m-low) (lane-fit h s g (k .0) l)))
+    (deliver-lane-keeps h (s .shape .c) (s .shape .m) (laneAt s (k .0)) (g .sound .c-low) b (g .sound .m-low) (lane-fit h s g (k .0) l)))

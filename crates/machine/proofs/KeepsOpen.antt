@@ -4,6 +4,7 @@ use mathlib.Core.Path.{_≡_, refl, sym, _∙_}
 use mathlib.Core.Bool.{false, true≢false}
 use lib.ListN.{getD, getD-replicate}
 use native.Mathlib.Omega.{arith}
+use Rattle.words.specs.declared.Shape.{Shape}
 use Rattle.words.specs.Lines.{noLine}
 use Rattle.lanes.specs.UseOrder.{placeAt}
 use Rattle.store.specs.Opening.{badShape, blankLine, blankLane, blankBlock, freshOf}
@@ -57,18 +58,18 @@ blank-block : (n : ℕ) → BlockSound n blankBlock
 unfolding blankBlock
 blank-block n = record { absent = λ j h l. getD-replicate 8 j false false l }
 
-fresh-lane : (n c m k : ℕ) → k < 8 → laneAt (freshOf n c m) k ≡ blankLane
+fresh-lane : (shape : Shape) (k : ℕ) → k < 8 → laneAt (freshOf shape) k ≡ blankLane
 unfolding freshOf
-fresh-lane n c m k h = getD-replicate 8 k blankLane noLane h
+fresh-lane shape k h = getD-replicate 8 k blankLane noLane h
 
-fresh-block : (n c m a : ℕ) → a < 64 → blockAt (freshOf n c m) a ≡ blankBlock
+fresh-block : (shape : Shape) (a : ℕ) → a < 64 → blockAt (freshOf shape) a ≡ blankBlock
 unfolding freshOf
-fresh-block n c m a h = getD-replicate 64 a blankBlock noBlock h
+fresh-block shape a h = getD-replicate 64 a blankBlock noBlock h
 
-pub open-fit : (n c m : ℕ) → badShape n c m ≡ false → Fit 8 (freshOf n c m)
+pub open-fit : (shape : Shape) → badShape shape ≡ false → Fit 8 (freshOf shape)
 unfolding freshOf
-open-fit n c m e =
-    let b = shape-bounds n c m e in
+open-fit shape e =
+    let b = shape-bounds shape e in
     record {
       sound = record {
         n-low = b .0;
@@ -77,9 +78,9 @@ open-fit n c m e =
         c-high = b .3;
         m-low = b .4;
         m-high = b .5;
-        control = free-sound n m;
-        lane = λ k h. let p = b .1 in rw (fresh-lane n c m k (omega arith)) (blank-fit c m (b .3) .sound);
-        block = λ a h. let p = b .5 in rw (fresh-block n c m a (omega arith)) (blank-block n);
+        control = free-sound (shape .n) (shape .m);
+        lane = λ k h. let p = b .1 in rw (fresh-lane shape k (omega arith)) (blank-fit (shape .c) (shape .m) (b .3) .sound);
+        block = λ a h. let p = b .5 in rw (fresh-block shape a (omega arith)) (blank-block (shape .n));
       };
-      long = λ k h. let p = b .1 in rw (fresh-lane n c m k (omega arith)) (blank-fit c m (b .3) .long);
+      long = λ k h. let p = b .1 in rw (fresh-lane shape k (omega arith)) (blank-fit (shape .c) (shape .m) (b .3) .long);
     }

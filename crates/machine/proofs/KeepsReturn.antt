@@ -78,6 +78,6 @@ return-fit h s k g =
     (λ r.
     let f = lane-fit h s g (k .0) (r .lane) in
     let x = headReturn (laneAt s (k .0) .returns) in
-    let b = head-inside (s .m) (laneAt s (k .0) .returns .len) (λ i. getD (laneAt s (k .0) .returns .at) i noReturn .block .0) (f .sound .returns) (ne-eqb _ _ (r .filled)) in
+    let b = head-inside (s .shape .m) (laneAt s (k .0) .returns .len) (λ i. getD (laneAt s (k .0) .returns .at) i noReturn .block .0) (f .sound .returns) (ne-eqb _ _ (r .filled)) in
     commit-move-keeps h s k (x .block) _ g
-    (return-move-keeps h (s .n) (s .c) (s .m) (g .sound .m-low) k x (laneAt s (k .0)) (blockAt s (x .block .0)) (s .control) f (g .sound .block (x .block .0) b) (g .sound .control)))
+    (return-move-keeps h (s .shape .n) (s .shape .c) (s .shape .m) (g .sound .m-low) k x (laneAt s (k .0)) (blockAt s (x .block .0)) (s .control) f (g .sound .block (x .block .0) b) (g .sound .control)))

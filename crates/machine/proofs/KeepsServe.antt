@@ -114,5 +114,5 @@ serve-fit h s k g =
     let f = lane-fit h s g (k .0) (r .lane) in
     let b = f .sound .unserved o (r .unserved) in
     commit-move-keeps h s k (blockOf (o .word)) _ g
-    (serve-move-keeps h (s .n) (s .c) (s .m) k o (laneAt s (k .0)) (blockAt s (blockOf (o .word) .0)) (s .control) (g .sound .n-high) (r .lane) b f
+    (serve-move-keeps h (s .shape .n) (s .shape .c) (s .shape .m) k o (laneAt s (k .0)) (blockAt s (blockOf (o .word) .0)) (s .control) (g .sound .n-high) (r .lane) b f
     (g .sound .block (blockOf (o .word) .0) b) (g .sound .control)))

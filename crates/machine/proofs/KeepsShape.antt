@@ -1,4 +1,4 @@
--- Every step keeps n, c and m. Assumes nothing.
+-- Every step keeps the shape. Assumes nothing.
 use mathlib.Core.Path.{_≡_, refl}
 use Rattle.words.specs.declared.LaneNo.{LaneNo}
 use Rattle.words.specs.declared.BlockNo.{BlockNo}
@@ -16,28 +16,23 @@ use Rattle.machine.specs.Return.{returnOf}
 use Rattle.machine.specs.Deliver.{deliverOf}
 use Rattle.machine.proofs.Rules.{lane-rule, move-rule, begin-rule, serve-rule, return-rule, deliver-rule}
 
-pub record SameShape (s t : Store) : Type 0 where
-  pub n : t .n ≡ s .n
-  pub c : t .c ≡ s .c
-  pub m : t .m ≡ s .m
-
-pub same-shape : (s : Store) → SameShape s s
-same-shape s = record { n = refl; c = refl; m = refl }
+abbrev pub SameShape : Store → Store → Type 0
+SameShape s t = t .shape ≡ s .shape
 
 lane-shape : (s : Store) (k : LaneNo) (r : LaneStep) → SameShape s (commitLane s k r .store)
-lane-shape s k r = lane-rule (λ (x : Outcome). SameShape s (x .store)) s k r (λ _ _. same-shape s) (λ _. record { n = refl; c = refl; m = refl })
+lane-shape s k r = lane-rule (λ (x : Outcome). SameShape s (x .store)) s k r (λ _ _. refl) (λ _. refl)
 
 move-shape : (s : Store) (k : LaneNo) (a : BlockNo) (v : Move) → SameShape s (commitMove s k a v .store)
-move-shape s k a v = move-rule (λ (x : Outcome). SameShape s (x .store)) s k a v (λ _. same-shape s) (λ _ _. record { n = refl; c = refl; m = refl })
+move-shape s k a v = move-rule (λ (x : Outcome). SameShape s (x .store)) s k a v (λ _. refl) (λ _ _. refl)
 
 pub begin-shape : (s : Store) (k : LaneNo) (op : Op) (w : WordNo) → SameShape s (beginOf s k op w .store)
-begin-shape s k op w = begin-rule (λ (r : Outcome). SameShape s (r .store)) s k op w (λ _. same-shape s) (λ _. lane-shape s k _)
+begin-shape s k op w = begin-rule (λ (r : Outcome). SameShape s (r .store)) s k op w (λ _. refl) (λ _. lane-shape s k _)
 
 pub serve-shape : (s : Store) (k : LaneNo) → SameShape s (serveOf s k .store)
-serve-shape s k = serve-rule (λ (r : Outcome). SameShape s (r .store)) s k (λ _. same-shape s) (λ o _. move-shape s k (blockOf (o .word)) _)
+serve-shape s k = serve-rule (λ (r : Outcome). SameShape s (r .store)) s k (λ _. refl) (λ o _. move-shape s k (blockOf (o .word)) _)
 
 pub return-shape : (s : Store) (k : LaneNo) → SameShape s (returnOf s k .store)
-return-shape s k = return-rule (λ (r : Outcome). SameShape s (r .store)) s k (λ _. same-shape s) (λ _. move-shape s k _ _)
+return-shape s k = return-rule (λ (r : Outcome). SameShape s (r .store)) s k (λ _. refl) (λ _. move-shape s k _ _)
 
 pub deliver-shape : (s : Store) (k : LaneNo) → SameShape s (deliverOf s k .store)
-deliver-shape s k = deliver-rule (λ (r : Outcome). SameShape s (r .store)) s k (λ _. same-shape s) (λ _ _. lane-shape s k _)
+deliver-shape s k = deliver-rule (λ (r : Outcome). SameShape s (r .store)) s k (λ _. refl) (λ _ _. lane-shape s k _)

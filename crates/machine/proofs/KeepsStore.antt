@@ -23,13 +23,13 @@ use Rattle.machine.proofs.Rules.{lane-rule, move-rule}
 -- a store within bounds whose lanes' use orders have at least h places
 pub record Fit (h : ℕ) (s : Store) : Type 0 where
   pub sound : Sound s
-  pub long : (k : ℕ) → k < s .n → h ≤ length (laneAt s k .order)
+  pub long : (k : ℕ) → k < s .shape .n → h ≤ length (laneAt s k .order)
 
-pub lane-fit : (h : ℕ) (s : Store) → Fit h s → (k : ℕ) → k < s .n → LaneFit h (s .c) (s .m) (laneAt s k)
+pub lane-fit : (h : ℕ) (s : Store) → Fit h s → (k : ℕ) → k < s .shape .n → LaneFit h (s .shape .c) (s .shape .m) (laneAt s k)
 lane-fit h s g k l = record { sound = g .sound .lane k l; long = g .long k l }
 
 -- lane k after its part of a call
-pub commit-lane-keeps : (h : ℕ) (s : Store) (k : LaneNo) (r : LaneStep) → Fit h s → LaneFit h (s .c) (s .m) (r .lane) →
+pub commit-lane-keeps : (h : ℕ) (s : Store) (k : LaneNo) (r : LaneStep) → Fit h s → LaneFit h (s .shape .c) (s .shape .m) (r .lane) →
     Fit h (commitLane s k r .store)
 commit-lane-keeps h s k r g f = lane-rule (λ (x : Outcome). Fit h (x .store)) s k r (λ _ _. g) (λ _. put)
   where
@@ -45,7 +45,7 @@ commit-lane-keeps h s k r g f = lane-rule (λ (x : Outcome). Fit h (x .store)) s
             m-low = a .m-low;
             m-high = a .m-high;
             control = a .control;
-            lane = λ j l. set-cases (LaneSound (s .c) (s .m)) (s .lanes) (k .0) j (r .lane) noLane (λ _. f .sound) (a .lane j l);
+            lane = λ j l. set-cases (LaneSound (s .shape .c) (s .shape .m)) (s .lanes) (k .0) j (r .lane) noLane (λ _. f .sound) (a .lane j l);
             block = a .block;
           };
           long = λ j l. set-cases (λ (x : Lane). h ≤ length (x .order)) (s .lanes) (k .0) j (r .lane) noLane (λ _. f .long) (g .long j l);
@@ -85,7 +85,7 @@ pub record MoveFit (h n c m : ℕ) (v : Move) : Type 0 where
   pub message : v .message .block .0 < m
 
 -- the store after memory's part of a call
-pub commit-move-keeps : (h : ℕ) (s : Store) (k : LaneNo) (a : BlockNo) (v : Move) → Fit h s → MoveFit h (s .n) (s .c) (s .m) v →
+pub commit-move-keeps : (h : ℕ) (s : Store) (k : LaneNo) (a : BlockNo) (v : Move) → Fit h s → MoveFit h (s .shape .n) (s .shape .c) (s .shape .m) v →
     Fit h (commitMove s k a v .store)
 commit-move-keeps h s k a v g f =
     move-rule (λ (r : Outcome). Fit h (r .store)) s k a v (λ _. g)
@@ -100,12 +100,12 @@ commit-move-keeps h s k a v g f =
         m-high = b .m-high;
         control = f .control;
         lane = λ j l. after j l .sound;
-        block = λ j l. set-cases (BlockSound (s .n)) (s .blocks) (a .0) j (v .block) noBlock (λ _. f .block) (b .block j l);
+        block = λ j l. set-cases (BlockSound (s .shape .n)) (s .blocks) (a .0) j (v .block) noBlock (λ _. f .block) (b .block j l);
       };
       long = λ j l. after j l .long;
     })
   where
-    after : Lanes h (s .n) (s .c) (s .m) (postAll (v .to) (v .message) (set (s .lanes) (k .0) (v .lane)))
+    after : Lanes h (s .shape .n) (s .shape .c) (s .shape .m) (postAll (v .to) (v .message) (set (s .lanes) (k .0) (v .lane)))
     after =
-        post-all-keeps h (s .n) (s .c) (s .m) (v .to) (v .message) (set (s .lanes) (k .0) (v .lane)) (g .sound .m-low) (f .message)
-        (λ j l. set-cases (LaneFit h (s .c) (s .m)) (s .lanes) (k .0) j (v .lane) noLane (λ _. f .lane) (lane-fit h s g j l))
+        post-all-keeps h (s .shape .n) (s .shape .c) (s .shape .m) (v .to) (v .message) (set (s .lanes) (k .0) (v .lane)) (g .sound .m-low) (f .message)
+        (λ j l. set-cases (LaneFit h (s .shape .c) (s .shape .m)) (s .lanes) (k .0) j (v .lane) noLane (λ _. f .lane) (lane-fit h s g j l))

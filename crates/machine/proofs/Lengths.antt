@@ -15,7 +15,7 @@ use Rattle.answers.specs.declared.Answer.the-variants.{Opened, Done, Wait, Step
 use Rattle.answers.specs.declared.Refusal.the-variants.{TapeTooLong}
 use Rattle.answers.specs.Refusals.{numberOf}
 use Rattle.store.specs.declared.Store.{Store}
-use Rattle.store.specs.Opening.{freshOf}
+use Rattle.store.specs.Opening.{blankStore}
 use Rattle.machine.specs.Tape.{recordOf, replayFrom, replayOf}
 use Rattle.machine.specs.Text.{decimalIn, refusedText, answerText, lineText, linesText, endText, tapeMost, printed, textMost}
 
@@ -81,6 +81,6 @@ unfolding printed replayOf
 text-fits tape =
     pick (λ (l : List ℕ). length l + 64 ≤ textMost) (ltb tapeMost (length tape)) _ _ (λ _. omega (arith, too-long-fits))
     (λ short. let h = ltb-false tapeMost (length tape) short in
-    let l = lines-fit (length tape) 0 (freshOf 0 0 0) tape in
-    let e = end-fits (length (replayFrom (length tape) (freshOf 0 0 0) tape)) in
+    let l = lines-fit (length tape) 0 (blankStore) tape in
+    let e = end-fits (length (replayFrom (length tape) (blankStore) tape)) in
     simp length-append (omega arith))

@@ -41,8 +41,8 @@ pub record LaneLive (c : ℕ) (l : Lane) : Type 0 where
   pub room : hasRoom c l (l .waiting) ≡ true
 
 pub record Live (s : Store) : Type 0 where
-  pub lane : (k : ℕ) → LaneLive (s .c) (laneAt s k)
+  pub lane : (k : ℕ) → LaneLive (s .shape .c) (laneAt s k)
   -- a lane owes a block at most one answer
-  pub one : (a : ℕ) → a < s .m → (k : ℕ) → owed (project s a .lane k) ≤ 1
+  pub one : (a : ℕ) → a < s .shape .m → (k : ℕ) → owed (project s a .lane k) ≤ 1
   -- a service awaits an answer
   pub awaits : (v : Service) → s .control ≡ Busy v → v .awaited ≢ 0

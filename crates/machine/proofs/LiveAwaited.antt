@@ -24,7 +24,7 @@ pub record Awaited (s : Store) (a : ℕ) : Type 0 where
   pub some : service .awaited ≢ 0
 
 module _ (s : Store) (f : List ℕ) (i : Consistent s f) where
-  pub owed-awaited : (a : ℕ) → a < s .m → (k : ℕ) → k < 8 → owed (project s a .lane k) ≢ 0 → Awaited s a
+  pub owed-awaited : (a : ℕ) → a < s .shape .m → (k : ℕ) → k < 8 → owed (project s a .lane k) ≢ 0 → Awaited s a
   owed-awaited a h k l n = go (s .control) refl
     where
       awaits : awaitedOf (serviceOf (s .control) (blockNo a)) ≢ 0
@@ -42,7 +42,7 @@ module _ (s : Store) (f : List ℕ) (i : Consistent s f) where
   awaited-same a d x y = let z : x .service ≡ y .service = cc (x .busy, y .busy) in sym (x .block) ∙ ap (λ (v : Service). v .block .0) z ∙ y .block
 
   -- a service awaits what is owed
-  pub awaited-owed : (v : Service) → s .control ≡ Busy v → v .block .0 < s .m → ((k : ℕ) → k < 8 → owed (project s (v .block .0) .lane k) ≡ 0) → v .awaited ≡ 0
+  pub awaited-owed : (v : Service) → s .control ≡ Busy v → v .block .0 < s .shape .m → ((k : ℕ) → k < 8 → owed (project s (v .block .0) .lane k) ≡ 0) → v .awaited ≡ 0
   awaited-owed v e h z =
       sym (ap (λ (x : Control). awaitedOf (serviceOf x (blockNo (v .block .0)))) e ∙ rw (eq-eqb (v .block .0) (v .block .0) refl)) ∙
       sym (i .block (v .block .0) h .1 .count) ∙ zero-sum (λ j. owed (project s (v .block .0) .lane j)) 8 z

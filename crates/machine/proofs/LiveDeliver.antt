@@ -128,7 +128,7 @@ status-found c a l e q = clash (cc (rw q at e))
 unserved-none : (o : Operation) (a : BlockNo) → servedCount (waitingOn a (Unserved o)) ≡ 0
 unserved-none o a = by-cond (λ (w : Waiting). servedCount w ≡ 0) (eqb (blockOf (o .word) .0) (a .0)) _ _ refl refl
 
-module _ (s : Store) (f : List ℕ) (i : Consistent s f) (live : Live s) (k : LaneNo) (h : k .0 < s .n) (filled : laneAt s (k .0) .downs .len ≢ 0) where
+module _ (s : Store) (f : List ℕ) (i : Consistent s f) (live : Live s) (k : LaneNo) (h : k .0 < s .shape .n) (filled : laneAt s (k .0) .downs .len ≢ 0) where
   abbrev l : Lane
   l = laneAt s (k .0)
 
@@ -145,31 +145,31 @@ module _ (s : Store) (f : List ℕ) (i : Consistent s f) (live : Live s) (k : La
   abbrev rest : List DownMessage
   rest = keepIf (downAbout a) (downsIn (takeDown (l .downs) .queue))
 
-  block-below : a .0 < s .m
+  block-below : a .0 < s .shape .m
   block-below = sound s (i .sound) .lane (k .0) h .downs .inside 0 (omega (arith, filled))
 
-  has-head : seen (s .c) a l .downs ≡ x ∷ rest
+  has-head : seen (s .shape .c) a l .downs ≡ x ∷ rest
   unfolding seen
   has-head =
       let e = take-downs (l .downs) (lane-sized s f i (k .0) h .downs) filled (sound s (i .sound) .lane (k .0) h .downs .short) in
       ap (keepIf (downAbout a)) e ∙ keep-head (downAbout a) x (downsIn (takeDown (l .downs) .queue)) (eq-eqb (a .0) (a .0) refl)
 
   -- an order is owed, so no answer to it is, and nothing is owed to another block
-  order-owed : isOrder (x .kind) ≡ true → orderCount (seen (s .c) a l .downs) ≡ 1 + orderCount rest
+  order-owed : isOrder (x .kind) ≡ true → orderCount (seen (s .shape .c) a l .downs) ≡ 1 + orderCount rest
   order-owed o = rw (has-head, o)
 
-  none-answers : isOrder (x .kind) ≡ true → (d : ℕ) → d < s .m → answerCount (seen (s .c) (blockNo d) l .returns) ≡ 0
+  none-answers : isOrder (x .kind) ≡ true → (d : ℕ) → d < s .shape .m → answerCount (seen (s .shape .c) (blockNo d) l .returns) ≡ 0
   unfolding owed
   none-answers o d b = go (same? d (a .0))
     where
-      mine : answerCount (seen (s .c) a l .returns) + orderCount (seen (s .c) a l .downs) ≢ 0
+      mine : answerCount (seen (s .shape .c) a l .returns) + orderCount (seen (s .shape .c) a l .downs) ≢ 0
       mine z = let q = order-owed o in omega arith
 
-      go : (d ≡ a .0) ⊎ (d ≢ a .0) → answerCount (seen (s .c) (blockNo d) l .returns) ≡ 0
+      go : (d ≡ a .0) ⊎ (d ≢ a .0) → answerCount (seen (s .shape .c) (blockNo d) l .returns) ≡ 0
       go (inl e) = let q = order-owed o in let p = live .one (a .0) block-below (k .0) in rw e (omega arith)
-      go (inr n) = other (same? (answerCount (seen (s .c) (blockNo d) l .returns)) 0)
+      go (inr n) = other (same? (answerCount (seen (s .shape .c) (blockNo d) l .returns)) 0)
         where
-          other : (answerCount (seen (s .c) (blockNo d) l .returns) ≡ 0) ⊎ (answerCount (seen (s .c) (blockNo d) l .returns) ≢ 0) → answerCount (seen (s .c) (blockNo d) l .returns) ≡ 0
+          other : (answerCount (seen (s .shape .c) (blockNo d) l .returns) ≡ 0) ⊎ (answerCount (seen (s .shape .c) (blockNo d) l .returns) ≢ 0) → answerCount (seen (s .shape .c) (blockNo d) l .returns) ≡ 0
           other (inl z) = z
           other (inr z) =
               let b8 = lane-below s f i (k .0) h in
@@ -181,7 +181,7 @@ module _ (s : Store) (f : List ℕ) (i : Consistent s f) (live : Live s) (k : La
   order-room o =
       let z = lane-sized s f i (k .0) h .returns in
       let g = sound s (i .sound) .lane (k .0) h .returns in
-      let p = all-eject (s .m) (returnsIn (l .returns)) (queue-inside (s .m) (l .returns .len) (l .returns .at) (g .inside)) (none-answers o) in
+      let p = all-eject (s .shape .m) (returnsIn (l .returns)) (queue-inside (s .shape .m) (l .returns .len) (l .returns .at) (g .inside)) (none-answers o) in
       let q = g .short in
       let y = queue-length (l .returns .len) (l .returns .at) (omega arith) in
       let e = live .lane (k .0) .ejects in
@@ -196,7 +196,7 @@ module _ (s : Store) (f : List ℕ) (i : Consistent s f) (live : Live s) (k : La
       some : servedCount (waitingOn a (l .waiting)) ≢ 0
       some z =
           let g = i .block (a .0) block-below .1 .grant (k .0) in
-          let n : grantCount (seen (s .c) a l .downs) ≡ 1 + grantCount rest = rw (has-head, q) in
+          let n : grantCount (seen (s .shape .c) a l .downs) ≡ 1 + grantCount rest = rw (has-head, q) in
           omega arith
 
       go : (w : Waiting) → l .waiting ≡ w → (o : Operation) × (l .waiting ≡ Served o) × (blockOf (o .word) .0 ≡ a .0)
@@ -215,42 +215,42 @@ module _ (s : Store) (f : List ℕ) (i : Consistent s f) (live : Live s) (k : La
   purge-goes o Nothing = reply-goes _ _ (order-room o)
 
   module _ (o : Operation) (w : l .waiting ≡ Served o) (b : blockOf (o .word) .0 ≡ a .0) where
-    fill-goes : searchOf l (s .c) a ≡ Nothing → (r : Found) → vacantOf l (s .c) ≡ r → refusedIn (fillAt r (s .c) x o t .answer) ≡ false
+    fill-goes : searchOf l (s .shape .c) a ≡ Nothing → (r : Found) → vacantOf l (s .shape .c) ≡ r → refusedIn (fillAt r (s .shape .c) x o t .answer) ≡ false
     unfolding complete
     fill-goes e (At j) q = refl
     fill-goes e Nothing q =
-        absurd (room-vacant (s .c) l o (sym (ap (hasRoom (s .c) l) w) ∙ live .lane (k .0) .room) (ap (searchOf l (s .c)) (same-block (blockOf (o .word)) a b) ∙ e) q)
+        absurd (room-vacant (s .shape .c) l o (sym (ap (hasRoom (s .shape .c) l) w) ∙ live .lane (k .0) .room) (ap (searchOf l (s .shape .c)) (same-block (blockOf (o .word)) a b) ∙ e) q)
 
-    words-goes : x .kind ≡ Grant → (r : Found) → searchOf l (s .c) a ≡ r → refusedIn (grantAt r (s .c) x o t .answer) ≡ false
+    words-goes : x .kind ≡ Grant → (r : Found) → searchOf l (s .shape .c) a ≡ r → refusedIn (grantAt r (s .shape .c) x o t .answer) ≡ false
     words-goes q r e = go r (sym e ∙ none)
       where
-        none : searchOf l (s .c) a ≡ Nothing
-        none = status-none (s .c) a l (head-due _ (project s (a .0)) (flatBlock f (a .0)) (k .0) Grant x rest (i .block (a .0) block-below .1) has-head q .0)
+        none : searchOf l (s .shape .c) a ≡ Nothing
+        none = status-none (s .shape .c) a l (head-due _ (project s (a .0)) (flatBlock f (a .0)) (k .0) Grant x rest (i .block (a .0) block-below .1) has-head q .0)
 
-        go : (r : Found) → r ≡ Nothing → refusedIn (grantAt r (s .c) x o t .answer) ≡ false
+        go : (r : Found) → r ≡ Nothing → refusedIn (grantAt r (s .shape .c) x o t .answer) ≡ false
         go (At j) z = clash (cc)
-        go Nothing z = fill-goes none (vacantOf l (s .c)) refl
+        go Nothing z = fill-goes none (vacantOf l (s .shape .c)) refl
 
-    bare-goes : x .kind ≡ BareGrant → (r : Found) → searchOf l (s .c) a ≡ r → refusedIn (bareAt r (s .c) o t .answer) ≡ false
+    bare-goes : x .kind ≡ BareGrant → (r : Found) → searchOf l (s .shape .c) a ≡ r → refusedIn (bareAt r (s .shape .c) o t .answer) ≡ false
     unfolding complete
     bare-goes q (At j) e = refl
-    bare-goes q Nothing e = absurd (status-found (s .c) a l (bare-held _ (project s (a .0)) (flatBlock f (a .0)) (k .0) x rest (i .block (a .0) block-below .1) has-head q) e)
+    bare-goes q Nothing e = absurd (status-found (s .shape .c) a l (bare-held _ (project s (a .0)) (flatBlock f (a .0)) (k .0) x rest (i .block (a .0) block-below .1) has-head q) e)
 
     served-go : servedOn (l .waiting) a ≡ Go o
     served-go = ap (λ (y : Waiting). servedOn y a) w ∙ rw (eq-eqb (blockOf (o .word) .0) (a .0) b)
 
-  kind-goes : (y : DownKind) → x .kind ≡ y → refusedIn (deliverKind y (s .c) x t .answer) ≡ false
-  kind-goes Update q = update-goes (ap isOrder q) (searchOf l (s .c) a)
-  kind-goes Purge q = purge-goes (ap isOrder q) (searchOf l (s .c) a)
+  kind-goes : (y : DownKind) → x .kind ≡ y → refusedIn (deliverKind y (s .shape .c) x t .answer) ≡ false
+  kind-goes Update q = update-goes (ap isOrder q) (searchOf l (s .shape .c) a)
+  kind-goes Purge q = purge-goes (ap isOrder q) (searchOf l (s .shape .c) a)
   kind-goes Grant q =
       let o = grant-served (ap isOrder q) in
-      ap (λ (r : Ready). refusedIn (grantTo r (s .c) x t .answer)) (served-go (o .0) (o .1) (o .2)) ∙ words-goes (o .0) (o .1) (o .2) q (searchOf l (s .c) a) refl
+      ap (λ (r : Ready). refusedIn (grantTo r (s .shape .c) x t .answer)) (served-go (o .0) (o .1) (o .2)) ∙ words-goes (o .0) (o .1) (o .2) q (searchOf l (s .shape .c) a) refl
   kind-goes BareGrant q =
       let o = grant-served (ap isOrder q) in
-      ap (λ (r : Ready). refusedIn (bareTo r (s .c) x t .answer)) (served-go (o .0) (o .1) (o .2)) ∙ bare-goes (o .0) (o .1) (o .2) q (searchOf l (s .c) a) refl
+      ap (λ (r : Ready). refusedIn (bareTo r (s .shape .c) x t .answer)) (served-go (o .0) (o .1) (o .2)) ∙ bare-goes (o .0) (o .1) (o .2) q (searchOf l (s .shape .c) a) refl
 
   pub deliver-goes : refusedOf (deliverOf s k .answer) ≡ false
   unfolding deliverLane commitLane
   deliver-goes =
-      ap (λ (r : Outcome). refusedOf (r .answer)) (deliver-is s k (i .sound) h) ∙ answer-goes k (deliverLane (s .c) l .answer) ∙
+      ap (λ (r : Outcome). refusedOf (r .answer)) (deliver-is s k (i .sound) h) ∙ answer-goes k (deliverLane (s .shape .c) l .answer) ∙
       pick (λ (r : LaneStep). refusedIn (r .answer) ≡ false) (emptyAt (l .downs .len)) _ _ (λ e. absurd (filled (eqb-true _ _ e))) (λ _. kind-goes (x .kind) refl)

@@ -7,6 +7,7 @@ use Rattle.words.specs.declared.LaneNo.{LaneNo}
 use Rattle.words.specs.declared.WordNo.{WordNo}
 use Rattle.words.specs.declared.BlockNo.{BlockNo}
 use Rattle.words.specs.declared.Op.{Op}
+use Rattle.words.specs.declared.Shape.{Shape}
 use Rattle.lanes.specs.declared.Lane.{Lane}
 use Rattle.lanes.specs.UseOrder.{placeAt}
 use Rattle.answers.specs.declared.Answer.the-variants.{Opened}
@@ -56,32 +57,32 @@ past-owed : (c : ℕ) (a : BlockNo) → owed (seen c a noLane) ≤ 1
 unfolding seen owed
 past-owed c a = omega arith
 
-fresh-live : (n c m : ℕ) → Live (freshOf n c m)
+fresh-live : (shape : Shape) → Live (freshOf shape)
 unfolding freshOf
-fresh-live n c m =
+fresh-live shape =
     record {
-      lane = each-lane (LaneLive c) n c m (blank-live c) (record { ejects = omega arith; room = refl });
-      one = λ a _. each-lane (λ (l : Lane). owed (seen c (blockNo a) l) ≤ 1) n c m (blank-owed c (blockNo a)) (past-owed c (blockNo a));
+      lane = each-lane (LaneLive (shape .c)) shape (blank-live (shape .c)) (record { ejects = omega arith; room = refl });
+      one = λ a _. each-lane (λ (l : Lane). owed (seen (shape .c) (blockNo a) l) ≤ 1) shape (blank-owed (shape .c) (blockNo a)) (past-owed (shape .c) (blockNo a));
       awaits = λ v e. clash (cc);
     }
 
-pub open-live : (n c m : ℕ) → openOf n c m .answer ≡ Opened → Live (openOf n c m .store)
-open-live n c m e = rw (opened-fresh n c m e .1) (fresh-live n c m)
+pub open-live : (shape : Shape) → openOf shape .answer ≡ Opened → Live (openOf shape .store)
+open-live shape e = rw (opened-fresh shape e .1) (fresh-live shape)
 
 -- a live lane that owes no more, put back
-lane-commits : (s : Store) (k : LaneNo) (r : LaneStep) → Live s → LaneLive (s .c) (r .lane) → OwesLess (s .c) (laneAt s (k .0)) (r .lane) → Live (commitLane s k r .store)
+lane-commits : (s : Store) (k : LaneNo) (r : LaneStep) → Live s → LaneLive (s .shape .c) (r .lane) → OwesLess (s .shape .c) (laneAt s (k .0)) (r .lane) → Live (commitLane s k r .store)
 lane-commits s k r live h less =
     lane-rule (λ (x : Outcome). Live (x .store)) s k r (λ _ _. live)
     (λ _. record {
-      lane = λ j. set-cases (LaneLive (s .c)) (s .lanes) (k .0) j (r .lane) noLane (λ _. h) (live .lane j);
-      one = λ a b j. set-cases (λ (l : Lane). owed (seen (s .c) (blockNo a) l) ≤ 1) (s .lanes) (k .0) j (r .lane) noLane
+      lane = λ j. set-cases (LaneLive (s .shape .c)) (s .lanes) (k .0) j (r .lane) noLane (λ _. h) (live .lane j);
+      one = λ a b j. set-cases (λ (l : Lane). owed (seen (s .shape .c) (blockNo a) l) ≤ 1) (s .lanes) (k .0) j (r .lane) noLane
           (λ _. let p = less (blockNo a) in let q = live .one a b (k .0) in omega arith) (live .one a b j);
       awaits = live .awaits;
     })
 
-module _ (s : Store) (f : List ℕ) (i : Consistent s f) (k : LaneNo) (h : k .0 < s .n) where
+module _ (s : Store) (f : List ℕ) (i : Consistent s f) (k : LaneNo) (h : k .0 < s .shape .n) where
   -- the oldest line is one of the lane's
-  oldest-below : placeAt (laneAt s (k .0) .order) 0 .0 < s .c
+  oldest-below : placeAt (laneAt s (k .0) .order) 0 .0 < s .shape .c
   oldest-below = sound s (i .sound) .lane (k .0) h .order .named 0 (sound s (i .sound) .c-low)
 
 pub begin-live : (s : Store) (f : List ℕ) (k : LaneNo) (op : Op) (w : WordNo) → Consistent s f → Live s → Live (beginOf s k op w .store)
@@ -92,17 +93,17 @@ begin-live s f k op w i live =
     let z = lane-sized s f i (k .0) h in
     let c = sound s (i .sound) .c-high in
     let o = oldest-below s f i k h in
-    lane-commits s k _ live (begin-lane-live (s .c) op w (laneAt s (k .0)) z c o (r .idle) (live .lane (k .0)))
-    (begin-owed (s .c) op w (laneAt s (k .0)) _ (begin-case (s .c) op w (laneAt s (k .0)) z c (i .unique (k .0)) o (r .idle))))
+    lane-commits s k _ live (begin-lane-live (s .shape .c) op w (laneAt s (k .0)) z c o (r .idle) (live .lane (k .0)))
+    (begin-owed (s .shape .c) op w (laneAt s (k .0)) _ (begin-case (s .shape .c) op w (laneAt s (k .0)) z c (i .unique (k .0)) o (r .idle))))
 
 pub deliver-live : (s : Store) (f : List ℕ) (k : LaneNo) → Consistent s f → Live s → Live (deliverOf s k .store)
 deliver-live s f k i live =
     deliver-rule (λ (r : Outcome). Live (r .store)) s k (λ _. live)
     (λ _ h.
     let z = lane-sized s f i (k .0) h in
-    lane-commits s k _ live (deliver-lane-live (s .c) (laneAt s (k .0)) z (live .lane (k .0)))
-    (deliver-owed (s .c) (laneAt s (k .0)) _
-    (deliver-case (s .c) (laneAt s (k .0)) z (sound s (i .sound) .c-high) (i .unique (k .0)) (sound s (i .sound) .lane (k .0) h .downs .short))))
+    lane-commits s k _ live (deliver-lane-live (s .shape .c) (laneAt s (k .0)) z (live .lane (k .0)))
+    (deliver-owed (s .shape .c) (laneAt s (k .0)) _
+    (deliver-case (s .shape .c) (laneAt s (k .0)) z (sound s (i .sound) .c-high) (i .unique (k .0)) (sound s (i .sound) .lane (k .0) h .downs .short))))
 
 -- a consistent and live store, with flat memory
 abbrev Running : Store → Type 0
@@ -136,7 +137,7 @@ call-live s f (Deliver k) i live = deliver-live s f k i live
 call-live s f Settle i live = settle-live s f i live
 
 -- any list of calls from an opening
-pub run-live : (n c m : ℕ) (calls : List Call) → openOf n c m .answer ≡ Opened → Live (run (openOf n c m .store) calls .store)
-run-live n c m calls e =
+pub run-live : (shape : Shape) (calls : List Call) → openOf shape .answer ≡ Opened → Live (run (openOf shape .store) calls .store)
+run-live shape calls e =
     run-pays (λ (s : Store) (f : List ℕ). Consistent s f × Live s) pendingIn (λ s f x r. let q = call-consistent s f x (r .0) in (q .0, (q .1, call-live s f x (r .0) (r .1)), q .2))
-    (openOf n c m .store) (flatOf m) calls (open-consistent n c m e, open-live n c m e) .1 .1
+    (openOf shape .store) (flatOf (shape .m)) calls (open-consistent shape e, open-live shape e) .1 .1

@@ -64,7 +64,7 @@ module _ (s : Store) (empty : (j : ℕ) → laneAt s j .downs .len ≡ 0) where
   unfolding commitMove
   commit-goes k a v g = rw (g .answer, none-full (v .to) (k .0) (v .lane) (g .downs)) (g .answer)
 
-  module _ (f : List ℕ) (i : Consistent s f) (k : LaneNo) (h : k .0 < s .n) where
+  module _ (f : List ℕ) (i : Consistent s f) (k : LaneNo) (h : k .0 < s .shape .n) where
     abbrev l : Lane
     l = laneAt s (k .0)
 
@@ -87,7 +87,7 @@ module _ (s : Store) (empty : (j : ℕ) → laneAt s j .downs .len ≡ 0) where
       unfolding owed
       answer-awaited e =
           owed-awaited s f i (a .0) (sound s (i .sound) .lane (k .0) h .returns .inside 0 (omega (arith, filled))) (k .0) (lane-below s f i (k .0) h)
-          (λ z. let n : answerCount (seen (s .c) a l .returns) ≡ 1 + answerCount rest = rw (has-head s f i k h filled, e) in absurd (omega arith))
+          (λ z. let n : answerCount (seen (s .shape .c) a l .returns) ≡ 1 + answerCount rest = rw (has-head s f i k h filled, e) in absurd (omega arith))
 
       -- .. and counts it, or closes
       answer-goes : (t : Lane) (u : Block) → t .downs .len ≡ 0 → Awaited s (a .0) → Goes (answered (answerOf (s .control) a) l b (s .control) t u)

@@ -44,25 +44,25 @@ send-grant to m g j e = by-cond (λ (l : Seen). owed l ≡ owed (g j)) (goesTo t
 
 -- what memory's part of a call has to show beside `Shows`
 pub record ShowsLive (s : Store) (k : LaneNo) (x : BlockNo) (v : Move) : Type 0 where
-  pub lane : LaneLive (s .c) (v .lane)
-  pub one : (j : ℕ) → owed (sendAll (v .to) (v .message) (upd (project s (x .0) .lane) (k .0) (seen (s .c) x (v .lane))) j) ≤ 1
+  pub lane : LaneLive (s .shape .c) (v .lane)
+  pub one : (j : ℕ) → owed (sendAll (v .to) (v .message) (upd (project s (x .0) .lane) (k .0) (seen (s .shape .c) x (v .lane))) j) ≤ 1
   pub awaits : (u : Service) → v .control ≡ Busy u → u .awaited ≢ 0
 
 module _ (s : Store) (f : List ℕ) (i : Consistent s f) (live : Live s) (k : LaneNo) (h : k .0 < 8) (x : BlockNo) (v : Move) (w : Shows s f k x v) (y : ShowsLive s k x v) where
   -- each lane after it
-  lane-moved : (j : ℕ) → LaneLive (s .c) (laneAt (movedStore s k x v) j)
+  lane-moved : (j : ℕ) → LaneLive (s .shape .c) (laneAt (movedStore s k x v) j)
   lane-moved j =
       rw (lane-sent s (k .0) (v .lane) (v .to) (v .message) j (w .to) (i .sized .lanes) h)
-      (by-cond (LaneLive (s .c)) (goesTo (v .to) j) _ _ (posted-live (s .c) (v .message) _ put) put)
+      (by-cond (LaneLive (s .shape .c)) (goesTo (v .to) j) _ _ (posted-live (s .shape .c) (v .message) _ put) put)
     where
-      put : LaneLive (s .c) (cond (eqb j (k .0)) (v .lane) (laneAt s j))
-      put = by-cond (LaneLive (s .c)) (eqb j (k .0)) (v .lane) (laneAt s j) (y .lane) (live .lane j)
+      put : LaneLive (s .shape .c) (cond (eqb j (k .0)) (v .lane) (laneAt s j))
+      put = by-cond (LaneLive (s .shape .c)) (eqb j (k .0)) (v .lane) (laneAt s j) (y .lane) (live .lane j)
 
   -- the store after it
   moved : Moves s k x v → Live (movedStore s k x v)
   moved g = record { lane = lane-moved; one = λ a b j. go a b j (same? a (x .0)); awaits = y .awaits }
     where
-      go : (a : ℕ) → a < s .m → (j : ℕ) → (a ≡ x .0) ⊎ (a ≢ x .0) → owed (project (movedStore s k x v) a .lane j) ≤ 1
+      go : (a : ℕ) → a < s .shape .m → (j : ℕ) → (a ≡ x .0) ⊎ (a ≢ x .0) → owed (project (movedStore s k x v) a .lane j) ≤ 1
       go a b j (inl e) =
           let p = ap (λ (d : ℕ). owed (project (movedStore s k x v) d .lane j)) e in
           let q = ap (λ (d : BlockState). owed (d .lane j)) (project-here s k x v g) in

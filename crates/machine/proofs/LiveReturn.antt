@@ -63,7 +63,7 @@ lowered-awaits v w n o e z =
     let d = ap (λ (y : Service). y .awaited) p in
     o (omega (arith, n))
 
-module _ (s : Store) (f : List ℕ) (i : Consistent s f) (live : Live s) (k : LaneNo) (h : k .0 < s .n) (filled : laneAt s (k .0) .returns .len ≢ 0) where
+module _ (s : Store) (f : List ℕ) (i : Consistent s f) (live : Live s) (k : LaneNo) (h : k .0 < s .shape .n) (filled : laneAt s (k .0) .returns .len ≢ 0) where
   abbrev l : Lane
   l = laneAt s (k .0)
 
@@ -88,23 +88,23 @@ module _ (s : Store) (f : List ℕ) (i : Consistent s f) (live : Live s) (k : La
   rest = keepIf (returnAbout a) (returnsIn (takeReturn (l .returns) .queue))
 
   -- the lane without its head
-  taken-live : LaneLive (s .c) t
-  taken-live = let p = ap ejectCount (taken s f i k h filled) in stays-live (s .c) l t refl (omega arith) (λ d e. e) (live .lane (k .0))
+  taken-live : LaneLive (s .shape .c) t
+  taken-live = let p = ap ejectCount (taken s f i k h filled) in stays-live (s .shape .c) l t refl (omega arith) (λ d e. e) (live .lane (k .0))
 
   -- what it owes, and every lane then
-  taken-owed : owed (seen (s .c) a t) ≤ owed (seen (s .c) a l)
+  taken-owed : owed (seen (s .shape .c) a t) ≤ owed (seen (s .shape .c) a l)
   unfolding seen
-  taken-owed = take-owed x rest (seen (s .c) a l) (has-head s f i k h filled)
+  taken-owed = take-owed x rest (seen (s .shape .c) a l) (has-head s f i k h filled)
 
   abbrev lanes : ℕ → Seen
-  lanes = upd (project s (a .0) .lane) (k .0) (seen (s .c) a t)
+  lanes = upd (project s (a .0) .lane) (k .0) (seen (s .shape .c) a t)
 
   one-owed : (j : ℕ) → owed (lanes j) ≤ 1
   one-owed =
       let m = sound s (i .sound) .lane (k .0) h .returns .inside 0 (omega (arith, filled)) in
       let p = taken-owed in
       let q = live .one (a .0) m (k .0) in
-      upd-cases (λ (j : ℕ) (y : Seen). owed y ≤ 1) (project s (a .0) .lane) (k .0) (seen (s .c) a t) (omega arith) (λ j _. live .one (a .0) m j)
+      upd-cases (λ (j : ℕ) (y : Seen). owed y ≤ 1) (project s (a .0) .lane) (k .0) (seen (s .shape .c) a t) (omega arith) (λ j _. live .one (a .0) m j)
 
   -- nothing is sent, with the control y after it; or the service closes
   quiet-live : (y : Control) → ((v : Service) → y ≡ Busy v → v .awaited ≢ 0) → ShowsLive s k a (sendNothing t u y)

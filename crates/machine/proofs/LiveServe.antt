@@ -42,7 +42,7 @@ use Rattle.machine.proofs.Live.{hasRoom, LaneLive, Live}
 use Rattle.machine.proofs.LiveMove.{send-most, ShowsLive, commit-live}
 use Rattle.machine.proofs.Rules.{serve-rule}
 
-module _ (s : Store) (f : List ℕ) (i : Consistent s f) (live : Live s) (k : LaneNo) (h : k .0 < s .n) (o : Operation) (e : laneAt s (k .0) .waiting ≡ Unserved o)
+module _ (s : Store) (f : List ℕ) (i : Consistent s f) (live : Live s) (k : LaneNo) (h : k .0 < s .shape .n) (o : Operation) (e : laneAt s (k .0) .waiting ≡ Unserved o)
     (free : s .control ≡ Free) (clear : laneAt s (k .0) .returns .len ≡ 0) where
   -- the block of the operation, its entry, the lanes that orders go to, the service, the lane after it
   abbrev x : BlockNo
@@ -61,8 +61,8 @@ module _ (s : Store) (f : List ℕ) (i : Consistent s f) (live : Live s) (k : La
   t = withWaiting (Served o) (laneAt s (k .0))
 
   -- no message of the lane is under way, and it waits for what it waited for
-  served-live : LaneLive (s .c) t
-  served-live = record { ejects = rw clear (omega arith); room = sym (ap (hasRoom (s .c) (laneAt s (k .0))) e) ∙ live .lane (k .0) .room }
+  served-live : LaneLive (s .shape .c) t
+  served-live = record { ejects = rw clear (omega arith); room = sym (ap (hasRoom (s .shape .c) (laneAt s (k .0))) e) ∙ live .lane (k .0) .room }
 
   -- no lane owes the block anything, and the lane's view of it is as before
   none-owed : (j : ℕ) → owed (project s (x .0) .lane j) ≡ 0
@@ -70,18 +70,18 @@ module _ (s : Store) (f : List ℕ) (i : Consistent s f) (live : Live s) (k : La
       let p = i .block (x .0) (sound s (i .sound) .lane (k .0) h .unserved o e) in
       nothing-owed (p .0) (project s (x .0)) _ (p .1) (ap (λ (y : Control). awaitedOf (serviceOf y x)) free)
 
-  same-owed : owed (seen (s .c) x t) ≡ owed (project s (x .0) .lane (k .0))
+  same-owed : owed (seen (s .shape .c) x t) ≡ owed (project s (x .0) .lane (k .0))
   unfolding owed seen
   same-owed = refl
 
   abbrev served : ℕ → Seen
-  served = upd (project s (x .0) .lane) (k .0) (seen (s .c) x t)
+  served = upd (project s (x .0) .lane) (k .0) (seen (s .shape .c) x t)
 
   -- .. so at most one after a message is sent
   one-owed : (u : List Bool) (m : DownMessage) (j : ℕ) → owed (sendAll u m served j) ≤ 1
   one-owed u m j =
       send-most u m served j
-      (upd-cases (λ (j : ℕ) (l : Seen). owed l ≡ 0) (project s (x .0) .lane) (k .0) (seen (s .c) x t) (same-owed ∙ none-owed (k .0)) (λ j _. none-owed j) j)
+      (upd-cases (λ (j : ℕ) (l : Seen). owed l ≡ 0) (project s (x .0) .lane) (k .0) (seen (s .shape .c) x t) (same-owed ∙ none-owed (k .0)) (λ j _. none-owed j) j)
 
   -- the service is open, or closes at once
   opens : countOf to ≢ 0 → ShowsLive s k x (record { answer = Step; lane = t; block = b; control = Busy v; to = to; message = bareDown (orderOf (o .command)) x })

@@ -4,6 +4,7 @@ use Prim.Native.Nat.{ℕ, suc}
 use mathlib.Core.Path.{_≡_, refl, ap, _∙_}
 use mathlib.Core.Bool.{true, false}
 use mathlib.Core.List.{List, [], _∷_, _++_, List·Memᴰ}
+use Rattle.words.specs.declared.Shape.{Shape}
 use Rattle.words.proofs.Folds.{or-right}
 use Rattle.answers.specs.declared.Answer.{Answer}
 use Rattle.answers.specs.declared.Answer.the-variants.{Opened, Done, Wait, Step}
@@ -77,14 +78,14 @@ settle-goes s l =
     record { count = lastOf s .count; answer = ap (λ (r : Settlement). r .answer) z; quiet = ap (λ (r : Settlement). quietOf (r .store)) z ∙ q }
 
 -- what any list of calls reaches
-run-lively : (n c m : ℕ) (calls : List Call) → openOf n c m .answer ≡ Opened → Lively (run (openOf n c m .store) calls .store)
-run-lively n c m calls e =
-    let r = reaches n c m calls e in
-    record { flat = r .0; consistent = r .1 .consistent; live = run-live n c m calls e; spare = run-spare (openOf n c m .store) calls (open-spare n c m) }
+run-lively : (shape : Shape) (calls : List Call) → openOf shape .answer ≡ Opened → Lively (run (openOf shape .store) calls .store)
+run-lively shape calls e =
+    let r = reaches shape calls e in
+    record { flat = r .0; consistent = r .1 .consistent; live = run-live shape calls e; spare = run-spare (openOf shape .store) calls (open-spare shape) }
 
 -- settle is never refused, and leaves a quiet store
 pub always-settles : AlwaysSettles
-always-settles n c m calls e = settle-goes (run (openOf n c m .store) calls .store) (run-lively n c m calls e)
+always-settles shape calls e = settle-goes (run (openOf shape .store) calls .store) (run-lively shape calls e)
 
 -- a list of calls and then another
 run-more : (s : Store) (xs ys : List Call) → run s (xs ++ ys) .store ≡ run (run s xs .store) ys .store
@@ -92,12 +93,12 @@ unfolding run
 run-more s [] ys = refl
 run-more s (x ∷ xs) ys = run-more (callOf s x .store) xs ys
 
-settled-quiet : (n c m : ℕ) (calls : List Call) → openOf n c m .answer ≡ Opened → quietOf (run (openOf n c m .store) (calls ++ (Settle ∷ [])) .store) ≡ true
+settled-quiet : (shape : Shape) (calls : List Call) → openOf shape .answer ≡ Opened → quietOf (run (openOf shape .store) (calls ++ (Settle ∷ [])) .store) ≡ true
 unfolding run callOf
-settled-quiet n c m calls e = ap quietOf (run-more (openOf n c m .store) calls (Settle ∷ [])) ∙ always-settles n c m calls e .quiet
+settled-quiet shape calls e = ap quietOf (run-more (openOf shape .store) calls (Settle ∷ [])) ∙ always-settles shape calls e .quiet
 
 -- after any list of calls and a settle, every operation begun has completed
-pub all-complete : (n c m : ℕ) (calls : List Call) → openOf n c m .answer ≡ Opened →
-    (b : Begun) → List·Memᴰ b (begun (run (openOf n c m .store) (calls ++ (Settle ∷ [])) .history)) →
-    List·Memᴰ b (operations (run (openOf n c m .store) (calls ++ (Settle ∷ [])) .history))
-all-complete n c m calls e = order-of-memory n c m (calls ++ (Settle ∷ [])) e .when-quiet (settled-quiet n c m calls e) .all-completed
+pub all-complete : (shape : Shape) (calls : List Call) → openOf shape .answer ≡ Opened →
+    (b : Begun) → List·Memᴰ b (begun (run (openOf shape .store) (calls ++ (Settle ∷ [])) .history)) →
+    List·Memᴰ b (operations (run (openOf shape .store) (calls ++ (Settle ∷ [])) .history))
+all-complete shape calls e = order-of-memory shape (calls ++ (Settle ∷ [])) e .when-quiet (settled-quiet shape calls e) .all-completed

@@ -12,7 +12,8 @@ use Rattle.words.specs.declared.LaneNo.{LaneNo}
 use Rattle.words.specs.declared.BlockNo.{BlockNo}
 use Rattle.words.specs.declared.WordNo.{WordNo}
 use Rattle.words.specs.declared.Op.{Op}
-use Rattle.words.specs.Units.{blockOf}
+use Rattle.words.specs.declared.Shape.{Shape}
+use Rattle.words.specs.Units.{blockOf, shaped}
 use Rattle.words.specs.Folds.{upTo}
 use Rattle.words.proofs.Folds.{by-cond}
 use Rattle.queues.specs.declared.ReturnMessage.{ReturnMessage}
@@ -60,26 +61,26 @@ pub record Empty (l : Lane) : Type 0 where
 
 -- the places past the lanes have none
 abbrev pub Spare : Store → Type 0
-Spare s = (j : ℕ) → s .n ≤ j → Empty (laneAt s j)
+Spare s = (j : ℕ) → s .shape .n ≤ j → Empty (laneAt s j)
 
 -- an opening
 blank-empty : Empty blankLane
 unfolding blankLane
 blank-empty = record { returns = refl; downs = refl }
 
-fresh-spare : (n c m : ℕ) → Spare (freshOf n c m)
-fresh-spare n c m j _ = each-lane Empty n c m blank-empty (record { returns = refl; downs = refl }) j
+fresh-spare : (shape : Shape) → Spare (freshOf shape)
+fresh-spare shape j _ = each-lane Empty shape blank-empty (record { returns = refl; downs = refl }) j
 
-pub open-spare : (n c m : ℕ) → Spare (openOf n c m .store)
+pub open-spare : (shape : Shape) → Spare (openOf shape .store)
 unfolding openOf
-open-spare n c m = by-cond (λ (r : Outcome). Spare (r .store)) (badShape n c m) _ _ (fresh-spare 0 0 0) (fresh-spare n c m)
+open-spare shape = by-cond (λ (r : Outcome). Spare (r .store)) (badShape shape) _ _ (fresh-spare (shaped 0 0 0)) (fresh-spare shape)
 
 -- a lane put back
 set-spare : (n : ℕ) (ls : List Lane) (k : ℕ) (l : Lane) → k < n → ((j : ℕ) → n ≤ j → Empty (getD ls j noLane)) → (j : ℕ) → n ≤ j → Empty (getD (set ls k l) j noLane)
 set-spare n ls k l h e j g = rw (getD-set-other ls k j l noLane (λ q. omega arith)) (e j g)
 
-lane-spare : (s : Store) (k : LaneNo) (r : LaneStep) → k .0 < s .n → Spare s → Spare (commitLane s k r .store)
-lane-spare s k r h e = lane-rule (λ (x : Outcome). Spare (x .store)) s k r (λ _ _. e) (λ _. set-spare (s .n) (s .lanes) (k .0) (r .lane) h e)
+lane-spare : (s : Store) (k : LaneNo) (r : LaneStep) → k .0 < s .shape .n → Spare s → Spare (commitLane s k r .store)
+lane-spare s k r h e = lane-rule (λ (x : Outcome). Spare (x .store)) s k r (λ _ _. e) (λ _. set-spare (s .shape .n) (s .lanes) (k .0) (r .lane) h e)
 
 -- a message leaves the lanes that it does not go to as they were
 post-skip : (to : List Bool) (x : DownMessage) (j t : ℕ) (ls : List Lane) → (j ≡ t → goesTo to t ≡ false) → getD (postTo to x t ls) j noLane ≡ getD ls j noLane
@@ -93,13 +94,13 @@ post-skips to x j (suc t) ls e =
     post-skip to x j t (upTo (postTo to x) t ls) (λ z. ap (goesTo to) (sym z) ∙ e (omega arith)) ∙ post-skips to x j t ls (λ h. e (omega arith))
 
 -- memory's part of a call, whose message goes to lanes only
-move-spare : (s : Store) (k : LaneNo) (a : BlockNo) (v : Move) → k .0 < s .n → ((j : ℕ) → s .n ≤ j → j < 8 → goesTo (v .to) j ≡ false) → Spare s →
+move-spare : (s : Store) (k : LaneNo) (a : BlockNo) (v : Move) → k .0 < s .shape .n → ((j : ℕ) → s .shape .n ≤ j → j < 8 → goesTo (v .to) j ≡ false) → Spare s →
     Spare (commitMove s k a v .store)
 unfolding postAll
 move-spare s k a v h to e = move-rule (λ (r : Outcome). Spare (r .store)) s k a v (λ _. e) (λ _ _. moved)
   where
     moved : Spare (movedStore s k a v)
-    moved j g = rw (post-skips (v .to) (v .message) j 8 (set (s .lanes) (k .0) (v .lane)) (to j g)) (set-spare (s .n) (s .lanes) (k .0) (v .lane) h e j g)
+    moved j g = rw (post-skips (v .to) (v .message) j 8 (set (s .lanes) (k .0) (v .lane)) (to j g)) (set-spare (s .shape .n) (s .lanes) (k .0) (v .lane) h e j g)
 
 -- one lane alone
 only-spare : (n : ℕ) (k : LaneNo) → k .0 < n → (j : ℕ) → n ≤ j → goesTo (only k) j ≡ false
@@ -118,7 +119,7 @@ serve-spare s k e =
     (λ o r.
     let a = sound s (r .sound) in
     move-spare s k (blockOf (o .word)) _ (r .lane)
-    (serve-to (s .n) k o (laneAt s (k .0)) (blockAt s (blockOf (o .word) .0)) (s .control) (r .lane) (a .block (blockOf (o .word) .0) (a .lane (k .0) (r .lane) .unserved o (r .unserved)))) e)
+    (serve-to (s .shape .n) k o (laneAt s (k .0)) (blockAt s (blockOf (o .word) .0)) (s .control) (r .lane) (a .block (blockOf (o .word) .0) (a .lane (k .0) (r .lane) .unserved o (r .unserved)))) e)
 
 -- return
 answered-to : (n m : ℕ) (x : Control) (a : BlockNo) (l : Lane) (b : Block) (t : Lane) (u : Block) → ControlSound n m x → (j : ℕ) → n ≤ j →
@@ -144,7 +145,7 @@ return-spare s k e =
     (λ r.
     let x = headReturn (laneAt s (k .0) .returns) in
     move-spare s k (x .block) _ (r .lane)
-    (λ j p _. return-to (s .n) (s .m) k x (laneAt s (k .0)) (blockAt s (x .block .0)) (s .control) (sound s (r .sound) .control) j p) e)
+    (λ j p _. return-to (s .shape .n) (s .shape .m) k x (laneAt s (k .0)) (blockAt s (x .block .0)) (s .control) (sound s (r .sound) .control) j p) e)
 
 deliver-spare : (s : Store) (k : LaneNo) → Spare s → Spare (deliverOf s k .store)
 deliver-spare s k e = deliver-rule (λ (r : Outcome). Spare (r .store)) s k (λ _. e) (λ _ h. lane-spare s k _ h e)

@@ -44,17 +44,17 @@ module _ (s : Store) (f : List ℕ) (i : Consistent s f) (live : Live s) (spare 
   -- no down queue of a lane is filled, so none is
   module _ (no-downs : NoDowns s) where
     all-downs : (j : ℕ) → laneAt s j .downs .len ≡ 0
-    all-downs j = go (below? j (s .n))
+    all-downs j = go (below? j (s .shape .n))
       where
-        go : (j < s .n) ⊎ (s .n ≤ j) → laneAt s j .downs .len ≡ 0
+        go : (j < s .shape .n) ⊎ (s .shape .n ≤ j) → laneAt s j .downs .len ≡ 0
         go (inl h) = no-downs j h
         go (inr h) = spare j h .downs
 
     module _ (no-returns : NoReturns s) where
       all-returns : (j : ℕ) → laneAt s j .returns .len ≡ 0
-      all-returns j = go (below? j (s .n))
+      all-returns j = go (below? j (s .shape .n))
         where
-          go : (j < s .n) ⊎ (s .n ≤ j) → laneAt s j .returns .len ≡ 0
+          go : (j < s .shape .n) ⊎ (s .shape .n ≤ j) → laneAt s j .returns .len ≡ 0
           go (inl h) = no-returns j h
           go (inr h) = spare j h .returns
 
@@ -71,7 +71,7 @@ module _ (s : Store) (f : List ℕ) (i : Consistent s f) (live : Live s) (spare 
           go (Busy v) e = absurd (live .awaits v e (awaited-owed s f i v e (sound s (i .sound) .control .service v e .block) (λ k _. none-owed (v .block .0) k)))
 
       -- .. and no operation is served
-      none-served : (k : ℕ) → k < s .n → (o : Operation) → laneAt s k .waiting ≢ Served o
+      none-served : (k : ℕ) → k < s .shape .n → (o : Operation) → laneAt s k .waiting ≢ Served o
       unfolding seen
       none-served k h o e =
           let a = blockOf (o .word) .0 in
@@ -82,11 +82,11 @@ module _ (s : Store) (f : List ℕ) (i : Consistent s f) (live : Live s) (spare 
           absurd (omega arith)
 
       -- .. so that a store with no unserved operation is quiet
-      quiet : ((k : ℕ) → k < s .n → unservedOf (laneAt s k .waiting) ≡ false) → quietOf s ≡ true
+      quiet : ((k : ℕ) → k < s .shape .n → unservedOf (laneAt s k .waiting) ≡ false) → quietOf s ≡ true
       unfolding quietOf activeOf
-      quiet none = rw free (ap not (any-never (λ k. activeOf (laneAt s k)) (s .n) (λ k h. go k h (laneAt s k .waiting) refl)))
+      quiet none = rw free (ap not (any-never (λ k. activeOf (laneAt s k)) (s .shape .n) (λ k h. go k h (laneAt s k .waiting) refl)))
         where
-          go : (k : ℕ) → k < s .n → (w : Waiting) → laneAt s k .waiting ≡ w → activeOf (laneAt s k) ≡ false
+          go : (k : ℕ) → k < s .shape .n → (w : Waiting) → laneAt s k .waiting ≡ w → activeOf (laneAt s k) ≡ false
           go k h Idle e = rw (e, all-returns k, all-downs k)
           go k h (Unserved o) e = clash (cc (none k h))
           go k h (Served o) e = absurd (none-served k h o e)

@@ -2,6 +2,7 @@
 use Prim.Native.Nat.{ℕ}
 use mathlib.Core.Path.{_≡_, _∙_}
 use mathlib.Core.List.{List}
+use Rattle.words.specs.declared.Shape.{Shape}
 use Rattle.answers.specs.declared.Answer.the-variants.{Opened}
 use Rattle.store.specs.declared.Store.{Store}
 use Rattle.store.specs.Opening.{openOf}
@@ -34,46 +35,39 @@ call-consistent s f (Deliver k) i = deliver-leads s f k i
 call-consistent s f Settle i = settle-leads s f i
 
 -- a consistent store of a shape
-pub record Reached (n c m : ℕ) (s : Store) (f : List ℕ) : Type 0 where
-  pub lanes : s .n ≡ n
-  pub lines : s .c ≡ c
-  pub blocks : s .m ≡ m
+pub record Reached (shape : Shape) (s : Store) (f : List ℕ) : Type 0 where
+  pub same : s .shape ≡ shape
   pub consistent : Consistent s f
 
-reached-keeps : (n c m : ℕ) (s : Store) (f : List ℕ) (x : Call) → Reached n c m s f → Keeps (Reached n c m) pendingIn s f x
-reached-keeps n c m s f x i =
+reached-keeps : (shape : Shape) (s : Store) (f : List ℕ) (x : Call) → Reached shape s f → Keeps (Reached shape) pendingIn s f x
+reached-keeps shape s f x i =
     let r = call-consistent s f x (i .consistent) in
-    let z = call-shape s x in
-    (r .0, record { lanes = z .n ∙ i .lanes; lines = z .c ∙ i .lines; blocks = z .m ∙ i .blocks; consistent = r .1 }, r .2)
+    (r .0, record { same = call-shape s x ∙ i .same; consistent = r .1 }, r .2)
 
-pub reached-open : (n c m : ℕ) → openOf n c m .answer ≡ Opened → Reached n c m (openOf n c m .store) (flatOf m)
-reached-open n c m e =
-    let z = open-shape n c m e in
-    record { lanes = z .0; lines = z .1; blocks = z .2; consistent = open-consistent n c m e }
+pub reached-open : (shape : Shape) → openOf shape .answer ≡ Opened → Reached shape (openOf shape .store) (flatOf (shape .m))
+reached-open shape e = record { same = open-shape shape e; consistent = open-consistent shape e }
 
 -- what a list of calls from an opening reaches, and that it paid what it owes
-pub reaches : (n c m : ℕ) (calls : List Call) → openOf n c m .answer ≡ Opened →
-    (g : List ℕ) × Reached n c m (run (openOf n c m .store) calls .store) g ×
-    Paid (pendingIn (openOf n c m .store)) (flatOf m) (run (openOf n c m .store) calls .history) (pendingIn (run (openOf n c m .store) calls .store)) g
-reaches n c m calls e = run-pays (Reached n c m) pendingIn (reached-keeps n c m) (openOf n c m .store) (flatOf m) calls (reached-open n c m e)
+pub reaches : (shape : Shape) (calls : List Call) → openOf shape .answer ≡ Opened →
+    (g : List ℕ) × Reached shape (run (openOf shape .store) calls .store) g ×
+    Paid (pendingIn (openOf shape .store)) (flatOf (shape .m)) (run (openOf shape .store) calls .history) (pendingIn (run (openOf shape .store) calls .store)) g
+reaches shape calls e = run-pays (Reached shape) pendingIn (reached-keeps shape) (openOf shape .store) (flatOf (shape .m)) calls (reached-open shape e)
 
 -- the order of completion is the order of memory
 pub order-of-memory : Demand3
-order-of-memory n c m calls e =
-    let r = reaches n c m calls e in
-    let s = run (openOf n c m .store) calls .store in
-    let t : Told m (run (openOf n c m .store) calls .history) (pendingIn s) (r .0) = outer m _ (pendingIn s) (r .0) (rw (open-rests n c m e) at (r .2)) in
+order-of-memory shape calls e =
+    let r = reaches shape calls e in
+    let s = run (openOf shape .store) calls .store in
+    let t : Told (shape .m) (run (openOf shape .store) calls .history) (pendingIn s) (r .0) = outer (shape .m) _ (pendingIn s) (r .0) (rw (open-rests shape e) at (r .2)) in
     let i = r .1 .consistent in
     record {
-      lanes = r .1 .lanes;
-      lines = r .1 .lines;
-      blocks = r .1 .blocks;
+      same = r .1 .same;
       owned = t .owned;
       once = t .once;
       values = t .values;
       when-quiet = λ q. record {
         all-completed = t .all-completed (quiet-rests s (r .0) i q);
-        shows = λ a l. rw (← t .end) (quiet-shows s (r .0) i q a (rw (r .1 .blocks) l));
+        shows = λ a l. rw (← t .end) (quiet-shows s (r .0) i q a (rw (r .1 .same) l));
         flags = quiet-flags s (r .0) i q;
       };
     }

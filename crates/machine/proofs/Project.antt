@@ -48,13 +48,13 @@ pick-of f false x y = refl
 
 -- lane k put back
 pub project-lane : (s : Store) (k : ℕ) (l : Lane) (a : ℕ) → k < length (s .lanes) →
-    project (withLane s k l) a ≡ putLane k (seen (s .c) (blockNo a) l) (project s a)
+    project (withLane s k l) a ≡ putLane k (seen (s .shape .c) (blockNo a) l) (project s a)
 project-lane s k l a h =
     ap (λ (f : ℕ → Seen). record { lane = f; block = blockAt s a; service = serviceOf (s .control) (blockNo a) })
-    (fun-ext (λ j. ap (seen (s .c) (blockNo a)) (getD-set (s .lanes) k j l noLane h) ∙ pick-of (seen (s .c) (blockNo a)) (eqb j k) l (laneAt s j)))
+    (fun-ext (λ j. ap (seen (s .shape .c) (blockNo a)) (getD-set (s .lanes) k j l noLane h) ∙ pick-of (seen (s .shape .c) (blockNo a)) (eqb j k) l (laneAt s j)))
 
 -- .. where the block sees nothing of it
-pub project-lane-same : (s : Store) (k : ℕ) (l : Lane) (a : ℕ) → k < length (s .lanes) → seen (s .c) (blockNo a) l ≡ seen (s .c) (blockNo a) (laneAt s k) →
+pub project-lane-same : (s : Store) (k : ℕ) (l : Lane) (a : ℕ) → k < length (s .lanes) → seen (s .shape .c) (blockNo a) l ≡ seen (s .shape .c) (blockNo a) (laneAt s k) →
     project (withLane s k l) a ≡ project s a
 project-lane-same s k l a h e =
     project-lane s k l a h ∙ ap (λ (x : Seen). putLane k x (project s a)) e ∙
@@ -145,22 +145,22 @@ module _ (s : Store) (k : LaneNo) (x : BlockNo) (v : Move) (g : Moves s k x v) w
 
   -- each lane, as block a sees it
   lane-seen : (a : BlockNo) (j : ℕ) →
-      seen (s .c) a (getD (postAll (v .to) (v .message) (set (s .lanes) (k .0) (v .lane))) j noLane) ≡
-      cond (goesTo (v .to) j && downAbout a (v .message)) (postSeen (v .message) (seen (s .c) a (was j))) (seen (s .c) a (was j))
+      seen (s .shape .c) a (getD (postAll (v .to) (v .message) (set (s .lanes) (k .0) (v .lane))) j noLane) ≡
+      cond (goesTo (v .to) j && downAbout a (v .message)) (postSeen (v .message) (seen (s .shape .c) a (was j))) (seen (s .shape .c) a (was j))
   unfolding was
   lane-seen a j =
-      ap (seen (s .c) a) (lane-sent s (k .0) (v .lane) (v .to) (v .message) j (g .to) (g .sized .lanes) (g .lane-below)) ∙
+      ap (seen (s .shape .c) a) (lane-sent s (k .0) (v .lane) (v .to) (v .message) j (g .to) (g .sized .lanes) (g .lane-below)) ∙
       on (goesTo (v .to) j)
-      (λ e. rw e (seen-posted (s .c) a (v .message) (was j) (was-sized j (goes-below (v .to) j (g .to) e)) (was-room j e)))
+      (λ e. rw e (seen-posted (s .shape .c) a (v .message) (was j) (was-sized j (goes-below (v .to) j (g .to) e)) (was-room j e)))
       (λ e. rw e refl)
 
-  was-seen : (a : BlockNo) (j : ℕ) → seen (s .c) a (was j) ≡ upd (λ i. seen (s .c) a (laneAt s i)) (k .0) (seen (s .c) a (v .lane)) j
+  was-seen : (a : BlockNo) (j : ℕ) → seen (s .shape .c) a (was j) ≡ upd (λ i. seen (s .shape .c) a (laneAt s i)) (k .0) (seen (s .shape .c) a (v .lane)) j
   unfolding was
-  was-seen a j = pick-of (seen (s .c) a) (eqb j (k .0)) (v .lane) (laneAt s j)
+  was-seen a j = pick-of (seen (s .shape .c) a) (eqb j (k .0)) (v .lane) (laneAt s j)
 
   -- the store after it, as its block sees it
   pub project-here : project (movedStore s k x v) (x .0) ≡ record {
-    lane = sendAll (v .to) (v .message) (upd (project s (x .0) .lane) (k .0) (seen (s .c) x (v .lane)));
+    lane = sendAll (v .to) (v .message) (upd (project s (x .0) .lane) (k .0) (seen (s .shape .c) x (v .lane)));
     block = v .block;
     service = serviceOf (v .control) x;
   }
@@ -173,7 +173,7 @@ module _ (s : Store) (k : LaneNo) (x : BlockNo) (v : Move) (g : Moves s k x v) w
           _≡_ {A = BlockState} (record { lane = f; block = b; service = serviceOf (v .control) x }) (record { lane = h; block = d; service = serviceOf (v .control) x })
       cong3 e q = rw (e, q)
 
-      lane : (j : ℕ) → project (movedStore s k x v) (x .0) .lane j ≡ sendAll (v .to) (v .message) (upd (project s (x .0) .lane) (k .0) (seen (s .c) x (v .lane))) j
+      lane : (j : ℕ) → project (movedStore s k x v) (x .0) .lane j ≡ sendAll (v .to) (v .message) (upd (project s (x .0) .lane) (k .0) (seen (s .shape .c) x (v .lane))) j
       lane j =
           lane-seen x j ∙
           on (goesTo (v .to) j)
@@ -181,7 +181,7 @@ module _ (s : Store) (k : LaneNo) (x : BlockNo) (v : Move) (g : Moves s k x v) w
           (λ e. rw (e, was-seen x j))
 
   -- .. and as another block sees it, which sees nothing of the lane's and the control's change
-  pub project-there : (a : ℕ) → a ≢ x .0 → seen (s .c) (blockNo a) (v .lane) ≡ seen (s .c) (blockNo a) (laneAt s (k .0)) →
+  pub project-there : (a : ℕ) → a ≢ x .0 → seen (s .shape .c) (blockNo a) (v .lane) ≡ seen (s .shape .c) (blockNo a) (laneAt s (k .0)) →
       serviceOf (v .control) (blockNo a) ≡ serviceOf (s .control) (blockNo a) → project (movedStore s k x v) a ≡ project s a
   project-there a n e q = rw (q, getD-set-other (s .blocks) (x .0) a (v .block) noBlock n) (ap (λ (f : ℕ → Seen). record { lane = f; block = blockAt s a; service = serviceOf (s .control) (blockNo a) }) (fun-ext lane))
     where

@@ -42,23 +42,23 @@ use Rattle.machine.specs.Deliver.{deliverLane, deliverOf}
 use Rattle.machine.proofs.KeepsLane.{clash}
 
 -- 14, then 6
-guarded-rule : (P : Outcome → Type 0) (s : Store) (k : LaneNo) (r : Outcome) → ((x : Refusal) → P (refuse x s)) → (corruptOf s ≡ false → k .0 < s .n → P r) →
+guarded-rule : (P : Outcome → Type 0) (s : Store) (k : LaneNo) (r : Outcome) → ((x : Refusal) → P (refuse x s)) → (corruptOf s ≡ false → k .0 < s .shape .n → P r) →
     P (guarded s k r)
 guarded-rule P s k r stays next =
-    pick P (corruptOf s) (refuse Corrupt s) (cond (leb (s .n) (k .0)) (refuse NoSuchLane s) r) (λ _. stays Corrupt)
-    (λ e. pick P (leb (s .n) (k .0)) (refuse NoSuchLane s) r (λ _. stays NoSuchLane) (λ q. next e (leb-false _ _ q)))
+    pick P (corruptOf s) (refuse Corrupt s) (cond (leb (s .shape .n) (k .0)) (refuse NoSuchLane s) r) (λ _. stays Corrupt)
+    (λ e. pick P (leb (s .shape .n) (k .0)) (refuse NoSuchLane s) r (λ _. stays NoSuchLane) (λ q. next e (leb-false _ _ q)))
 
-guarded-is : (s : Store) (k : LaneNo) (r : Outcome) → corruptOf s ≡ false → k .0 < s .n → guarded s k r ≡ r
-guarded-is s k r e h = pick (λ (x : Outcome). x ≡ r) (corruptOf s) _ _ (λ q. clash (cc)) (λ _. pick (λ (x : Outcome). x ≡ r) (leb (s .n) (k .0)) _ _ (λ q. above q) (λ _. refl))
+guarded-is : (s : Store) (k : LaneNo) (r : Outcome) → corruptOf s ≡ false → k .0 < s .shape .n → guarded s k r ≡ r
+guarded-is s k r e h = pick (λ (x : Outcome). x ≡ r) (corruptOf s) _ _ (λ q. clash (cc)) (λ _. pick (λ (x : Outcome). x ≡ r) (leb (s .shape .n) (k .0)) _ _ (λ q. above q) (λ _. refl))
   where
-    above : leb (s .n) (k .0) ≡ true → refuse NoSuchLane s ≡ r
-    above q = let p = leb-true (s .n) (k .0) q in absurd (omega arith)
+    above : leb (s .shape .n) (k .0) ≡ true → refuse NoSuchLane s ≡ r
+    above q = let p = leb-true (s .shape .n) (k .0) q in absurd (omega arith)
 
 -- nothing refuses a begin before the lane's part
 pub record BeginReady (s : Store) (k : LaneNo) (w : WordNo) : Type 0 where
   pub sound : corruptOf s ≡ false
-  pub lane : k .0 < s .n
-  pub inside : blockOf w .0 < s .m
+  pub lane : k .0 < s .shape .n
+  pub inside : blockOf w .0 < s .shape .m
   pub idle : laneAt s (k .0) .waiting ≡ Idle
 
 pub idle-waiting : (x : Waiting) → idleOf x ≡ true → x ≡ Idle
@@ -67,19 +67,19 @@ idle-waiting (Unserved o) e = clash (cc)
 idle-waiting (Served o) e = clash (cc)
 
 pub begin-rule : (P : Outcome → Type 0) (s : Store) (k : LaneNo) (op : Op) (w : WordNo) → ((x : Refusal) → P (refuse x s)) →
-    (BeginReady s k w → P (commitLane s k (beginLane (s .c) op w (laneAt s (k .0))))) → P (beginOf s k op w)
+    (BeginReady s k w → P (commitLane s k (beginLane (s .shape .c) op w (laneAt s (k .0))))) → P (beginOf s k op w)
 unfolding beginOf
 begin-rule P s k op w stays next =
     guarded-rule P s k _ stays
-    (λ c h. pick P (leb (4 * s .m) (w .0)) _ _ (λ _. stays NoSuchWord)
+    (λ c h. pick P (leb (4 * s .shape .m) (w .0)) _ _ (λ _. stays NoSuchWord)
     (λ e. pick P (idleOf (laneAt s (k .0) .waiting)) _ _
-    (λ q. next (record { sound = c; lane = h; inside = let v = leb-false (4 * s .m) (w .0) e in omega arith; idle = idle-waiting (laneAt s (k .0) .waiting) q }))
+    (λ q. next (record { sound = c; lane = h; inside = let v = leb-false (4 * s .shape .m) (w .0) e in omega arith; idle = idle-waiting (laneAt s (k .0) .waiting) q }))
     (λ _. stays LaneBusy)))
 
 -- nothing refuses a serve before memory's part: operation o waits, unserved; the control is free; no return is queued
 pub record ServeReady (s : Store) (k : LaneNo) (o : Operation) : Type 0 where
   pub sound : corruptOf s ≡ false
-  pub lane : k .0 < s .n
+  pub lane : k .0 < s .shape .n
   pub unserved : laneAt s (k .0) .waiting ≡ Unserved o
   pub free : busyOf (s .control) ≡ false
   pub clear : laneAt s (k .0) .returns .len ≡ 0
@@ -92,7 +92,7 @@ pub serve-rule : (P : Outcome → Type 0) (s : Store) (k : LaneNo) → ((x : Ref
 unfolding serveOf readyOf
 serve-rule P s k stays next = guarded-rule P s k _ stays (λ c h. go c h (laneAt s (k .0) .waiting) refl)
   where
-    go : corruptOf s ≡ false → k .0 < s .n → (w : Waiting) → laneAt s (k .0) .waiting ≡ w → P (serveReady (readyWith w (laneAt s (k .0)) (s .control)) s k)
+    go : corruptOf s ≡ false → k .0 < s .shape .n → (w : Waiting) → laneAt s (k .0) .waiting ≡ w → P (serveReady (readyWith w (laneAt s (k .0)) (s .control)) s k)
     go c h Idle e = stays NothingPending
     go c h (Served o) e = stays NothingPending
     go c h (Unserved o) e =
@@ -107,7 +107,7 @@ serve-is s k o r = guarded-is s k _ (r .sound) (r .lane) ∙ rw (r .unserved, r 
 -- nothing refuses a return before memory's part
 pub record ReturnReady (s : Store) (k : LaneNo) : Type 0 where
   pub sound : corruptOf s ≡ false
-  pub lane : k .0 < s .n
+  pub lane : k .0 < s .shape .n
   pub filled : laneAt s (k .0) .returns .len ≢ 0
 
 -- return where nothing refuses it
@@ -128,11 +128,11 @@ return-is s k r = guarded-is s k _ (r .sound) (r .lane) ∙ rw (ne-eqb _ _ (r .f
 
 -- deliver: 9 is the lane's own
 pub deliver-rule : (P : Outcome → Type 0) (s : Store) (k : LaneNo) → ((x : Refusal) → P (refuse x s)) →
-    (corruptOf s ≡ false → k .0 < s .n → P (commitLane s k (deliverLane (s .c) (laneAt s (k .0))))) → P (deliverOf s k)
+    (corruptOf s ≡ false → k .0 < s .shape .n → P (commitLane s k (deliverLane (s .shape .c) (laneAt s (k .0))))) → P (deliverOf s k)
 unfolding deliverOf
 deliver-rule P s k stays next = guarded-rule P s k _ stays next
 
-pub deliver-is : (s : Store) (k : LaneNo) → corruptOf s ≡ false → k .0 < s .n → deliverOf s k ≡ commitLane s k (deliverLane (s .c) (laneAt s (k .0)))
+pub deliver-is : (s : Store) (k : LaneNo) → corruptOf s ≡ false → k .0 < s .shape .n → deliverOf s k ≡ commitLane s k (deliverLane (s .shape .c) (laneAt s (k .0)))
 unfolding deliverOf
 deliver-is s k c h = guarded-is s k _ c h
 

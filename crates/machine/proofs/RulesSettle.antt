@@ -57,13 +57,13 @@ lowest-rule P p n x y some none =
 
 -- no lane has a filled down queue; a filled return queue; an unserved operation
 abbrev pub NoDowns : Store → Type 0
-NoDowns s = (k : ℕ) → k < s .n → laneAt s k .downs .len ≡ 0
+NoDowns s = (k : ℕ) → k < s .shape .n → laneAt s k .downs .len ≡ 0
 
 abbrev pub NoReturns : Store → Type 0
-NoReturns s = (k : ℕ) → k < s .n → laneAt s k .returns .len ≡ 0
+NoReturns s = (k : ℕ) → k < s .shape .n → laneAt s k .returns .len ≡ 0
 
 abbrev pub NoUnserved : Store → Type 0
-NoUnserved s = (k : ℕ) → k < s .n → unservedOf (laneAt s k .waiting) ≡ false
+NoUnserved s = (k : ℕ) → k < s .shape .n → unservedOf (laneAt s k .waiting) ≡ false
 
 filled : (len : ℕ) → ltb 0 len ≡ true → len ≢ 0
 filled len e q = let h = ltb-true 0 len e in absurd (omega arith)
@@ -72,15 +72,15 @@ empty : (len : ℕ) → ltb 0 len ≡ false → len ≡ 0
 empty len e = let h = ltb-false 0 len e in omega arith
 
 -- a step of settle is a deliver; or a return, where no deliver can be; or a serve, where neither can be; or 16
-pub step-rule : (P : Outcome → Type 0) (s : Store) → ((k : ℕ) → k < s .n → laneAt s k .downs .len ≢ 0 → P (deliverOf s (lane k))) →
-    (NoDowns s → (k : ℕ) → k < s .n → laneAt s k .returns .len ≢ 0 → P (returnOf s (lane k))) →
-    (NoDowns s → NoReturns s → (k : ℕ) → k < s .n → unservedOf (laneAt s k .waiting) ≡ true → P (serveOf s (lane k))) →
+pub step-rule : (P : Outcome → Type 0) (s : Store) → ((k : ℕ) → k < s .shape .n → laneAt s k .downs .len ≢ 0 → P (deliverOf s (lane k))) →
+    (NoDowns s → (k : ℕ) → k < s .shape .n → laneAt s k .returns .len ≢ 0 → P (returnOf s (lane k))) →
+    (NoDowns s → NoReturns s → (k : ℕ) → k < s .shape .n → unservedOf (laneAt s k .waiting) ≡ true → P (serveOf s (lane k))) →
     (NoDowns s → NoReturns s → NoUnserved s → P (refuse Unexpected s)) → P (settleStep s)
 unfolding settleStep
 step-rule P s delivers returns serves stuck =
-    lowest-rule P (λ k. ltb 0 (laneAt s k .downs .len)) (s .n) _ _ (λ h e. delivers _ h (filled _ e))
-    (λ d. lowest-rule P (λ k. ltb 0 (laneAt s k .returns .len)) (s .n) _ _ (λ h e. returns (λ k l. empty _ (d k l)) _ h (filled _ e))
-    (λ r. lowest-rule P (λ k. unservedOf (laneAt s k .waiting)) (s .n) _ _
+    lowest-rule P (λ k. ltb 0 (laneAt s k .downs .len)) (s .shape .n) _ _ (λ h e. delivers _ h (filled _ e))
+    (λ d. lowest-rule P (λ k. ltb 0 (laneAt s k .returns .len)) (s .shape .n) _ _ (λ h e. returns (λ k l. empty _ (d k l)) _ h (filled _ e))
+    (λ r. lowest-rule P (λ k. unservedOf (laneAt s k .waiting)) (s .shape .n) _ _
     (λ h e. serves (λ k l. empty _ (d k l)) (λ k l. empty _ (r k l)) _ h e)
     (λ u. stuck (λ k l. empty _ (d k l)) (λ k l. empty _ (r k l)) u)))
 

@@ -12,6 +12,7 @@ use Rattle.words.specs.declared.BlockNo.{BlockNo}
 use Rattle.words.specs.declared.WordNo.{WordNo}
 use Rattle.words.specs.declared.Line.{Line}
 use Rattle.words.specs.declared.Op.{Op}
+use Rattle.words.specs.declared.Shape.{Shape}
 use Rattle.words.specs.Units.{blockOf}
 use Rattle.words.specs.Operations.{performOf, isLoad}
 use Rattle.words.specs.Folds.{upTo}
@@ -311,9 +312,9 @@ blank-sized : LaneSized blankLane
 unfolding blankLane
 blank-sized = record { lines = refl; order = refl; returns = refl; downs = refl }
 
-pub open-sized : (n c m : ℕ) → Sized (freshOf n c m)
+pub open-sized : (shape : Shape) → Sized (freshOf shape)
 unfolding freshOf blankBlock
-open-sized n c m =
+open-sized shape =
     record {
       lanes = length-replicate 8 blankLane;
       blocks = length-replicate 64 blankBlock;
@@ -325,7 +326,7 @@ open-sized n c m =
 pub begin-sized : (s : Store) (k : LaneNo) (op : Op) (w : WordNo) → Sized s → Sized (beginOf s k op w .store)
 begin-sized s k op w g =
     begin-rule (λ (r : Outcome). Sized (r .store)) s k op w (λ _. g)
-    (λ _. commit-lane-sized s k _ g (λ h. begin-lane-sized (laneAt s (k .0)) (g .lane (k .0) h) (s .c) op w))
+    (λ _. commit-lane-sized s k _ g (λ h. begin-lane-sized (laneAt s (k .0)) (g .lane (k .0) h) (s .shape .c) op w))
 
 pub serve-sized : (s : Store) (k : LaneNo) → Sized s → Sized (serveOf s k .store)
 serve-sized s k g =
@@ -346,7 +347,7 @@ return-sized s k g =
 pub deliver-sized : (s : Store) (k : LaneNo) → Sized s → Sized (deliverOf s k .store)
 deliver-sized s k g =
     deliver-rule (λ (r : Outcome). Sized (r .store)) s k (λ _. g)
-    (λ _ _. commit-lane-sized s k _ g (λ h. deliver-lane-sized (s .c) (laneAt s (k .0)) (g .lane (k .0) h)))
+    (λ _ _. commit-lane-sized s k _ g (λ h. deliver-lane-sized (s .shape .c) (laneAt s (k .0)) (g .lane (k .0) h)))
 
 -- settle's step, which is one of three of them
 pub settle-step-sized : (s : Store) → Sized s → Sized (settleStep s .store)
@@ -355,5 +356,5 @@ settle-step-sized s g =
     (λ _ _ _. g)
 
 -- the use order of each lane has its 8 places
-pub sized-whole : (s : Store) → s .n ≤ 8 → Sized s → Whole s
+pub sized-whole : (s : Store) → s .shape .n ≤ 8 → Sized s → Whole s
 sized-whole s h g k l = let e = g .lane k (omega arith) .order in omega arith

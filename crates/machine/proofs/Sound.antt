@@ -64,15 +64,15 @@ pub record ControlSound (n m : ℕ) (x : Control) : Type 0 where
   pub service : (v : Service) → x ≡ Busy v → ServiceSound n m v
 
 pub record Sound (s : Store) : Type 0 where
-  pub n-low : 2 ≤ s .n
-  pub n-high : s .n ≤ 8
-  pub c-low : 1 ≤ s .c
-  pub c-high : s .c ≤ 8
-  pub m-low : 1 ≤ s .m
-  pub m-high : s .m ≤ 64
-  pub control : ControlSound (s .n) (s .m) (s .control)
-  pub lane : (k : ℕ) → k < s .n → LaneSound (s .c) (s .m) (laneAt s k)
-  pub block : (a : ℕ) → a < s .m → BlockSound (s .n) (blockAt s a)
+  pub n-low : 2 ≤ s .shape .n
+  pub n-high : s .shape .n ≤ 8
+  pub c-low : 1 ≤ s .shape .c
+  pub c-high : s .shape .c ≤ 8
+  pub m-low : 1 ≤ s .shape .m
+  pub m-high : s .shape .m ≤ 64
+  pub control : ControlSound (s .shape .n) (s .shape .m) (s .control)
+  pub lane : (k : ℕ) → k < s .shape .n → LaneSound (s .shape .c) (s .shape .m) (laneAt s k)
+  pub block : (a : ℕ) → a < s .shape .m → BlockSound (s .shape .n) (blockAt s a)
 
 -- the test of a place of a queue, and of a queue
 abbrev placeTest : ℕ → ℕ → (ℕ → ℕ) → ℕ → Bool
@@ -206,7 +206,7 @@ pub sound : (s : Store) → corruptOf s ≡ false → Sound s
 unfolding corruptOf
 sound s e =
     let a = all-false _ e in
-    let b = shape-bounds (s .n) (s .c) (s .m) (a .0) in
+    let b = shape-bounds (s .shape) (a .0) in
     record {
       n-low = b .0;
       n-high = b .1;
@@ -214,9 +214,9 @@ sound s e =
       c-high = b .3;
       m-low = b .4;
       m-high = b .5;
-      control = control-sound (s .n) (s .m) (s .control) (a .1 .0);
-      lane = λ k h. lane-sound (s .c) (s .m) (laneAt s k) (any-false (λ j. badLane (s .c) (s .m) (laneAt s j)) (s .n) k (a .1 .1 .0) h);
-      block = λ k h. block-sound (s .n) (blockAt s k) (any-false (λ j. badFlags (s .n) (blockAt s j)) (s .m) k (a .1 .1 .1 .0) h);
+      control = control-sound (s .shape .n) (s .shape .m) (s .control) (a .1 .0);
+      lane = λ k h. lane-sound (s .shape .c) (s .shape .m) (laneAt s k) (any-false (λ j. badLane (s .shape .c) (s .shape .m) (laneAt s j)) (s .shape .n) k (a .1 .1 .0) h);
+      block = λ k h. block-sound (s .shape .n) (blockAt s k) (any-false (λ j. badFlags (s .shape .n) (blockAt s j)) (s .shape .m) k (a .1 .1 .1 .0) h);
     }
 
 -- .. and back
@@ -224,13 +224,13 @@ pub not-corrupt : (s : Store) → Sound s → corruptOf s ≡ false
 unfolding corruptOf
 not-corrupt s g =
     none-of _ (
-      bounds-shape (s .n) (s .c) (s .m) (g .n-low) (g .n-high) (g .c-low) (g .c-high) (g .m-low) (g .m-high),
+      bounds-shape (s .shape) (g .n-low) (g .n-high) (g .c-low) (g .c-high) (g .m-low) (g .m-high),
       (
-        sound-control (s .n) (s .m) (s .control) (g .control),
+        sound-control (s .shape .n) (s .shape .m) (s .control) (g .control),
         (
-          any-never (λ k. badLane (s .c) (s .m) (laneAt s k)) (s .n) (λ k h. sound-lane (s .c) (s .m) (laneAt s k) (g .lane k h)),
+          any-never (λ k. badLane (s .shape .c) (s .shape .m) (laneAt s k)) (s .shape .n) (λ k h. sound-lane (s .shape .c) (s .shape .m) (laneAt s k) (g .lane k h)),
           (
-            any-never (λ a. badFlags (s .n) (blockAt s a)) (s .m) (λ a h. sound-block (s .n) (blockAt s a) (g .block a h)),
+            any-never (λ a. badFlags (s .shape .n) (blockAt s a)) (s .shape .m) (λ a h. sound-block (s .shape .n) (blockAt s a) (g .block a h)),
             tt,
           ),
         ),

@@ -19,6 +19,7 @@ use Rattle.machine.specs.Demand3.{Demand3, begun, operations}
 use Rattle.machine.specs.Completion.{AlwaysSettles, SettleBound}
 use Rattle.machine.specs.Sized.{Sized}
 pub use Rattle.machine.proofs.Table.{cases}
+use Rattle.words.specs.declared.Shape.{Shape}
 use Rattle.machine.proofs.FallsSettle.{startAt, settle-count, repeat-ends, repeat-same}
 use Rattle.machine.proofs.OrderOfMemory.{order-of-memory}
 use Rattle.machine.proofs.LiveSettle.{always-settles, all-complete}
@@ -50,9 +51,9 @@ pub settle-succeeds : AlwaysSettles
 settle-succeeds = always-settles
 
 -- .. so that every operation that was begun completes: after any list of calls and one settle there is none that has not.
-pub begun-completes : (n c m : ℕ) (calls : List Call) → openOf n c m .answer ≡ Opened → (b : Begun) →
-    List·Memᴰ b (begun (run (openOf n c m .store) (calls ++ (Settle ∷ [])) .history)) →
-    List·Memᴰ b (operations (run (openOf n c m .store) (calls ++ (Settle ∷ [])) .history))
+pub begun-completes : (shape : Shape) (calls : List Call) → openOf shape .answer ≡ Opened → (b : Begun) →
+    List·Memᴰ b (begun (run (openOf shape .store) (calls ++ (Settle ∷ [])) .history)) →
+    List·Memᴰ b (operations (run (openOf shape .store) (calls ++ (Settle ∷ [])) .history))
 begun-completes = all-complete
 
 -- 01's bound: the count of a settle that isn't refused is at most R + G + 2 × Q + S + 2 × n × U (`boundOf`, specs/Settle.antt), on every

@@ -102,5 +102,5 @@ beginLane c op w l = beginAt (searchOf l c (blockOf w)) c op w l
 unfoldable pub beginOf : Store → LaneNo → Op → WordNo → Outcome
 beginOf s k op w =
     guarded s k
-    (cond (leb (4 * s .m) (w .0)) (refuse NoSuchWord s)
-    (cond (idleOf (laneAt s (k .0) .waiting)) (commitLane s k (beginLane (s .c) op w (laneAt s (k .0)))) (refuse LaneBusy s)))
+    (cond (leb (4 * s .shape .m) (w .0)) (refuse NoSuchWord s)
+    (cond (idleOf (laneAt s (k .0) .waiting)) (commitLane s k (beginLane (s .shape .c) op w (laneAt s (k .0)))) (refuse LaneBusy s)))

@@ -37,7 +37,7 @@ refuse r s = record { answer = Refused r; store = s }
 
 -- 14, then 6: the first checks of every call on a lane
 abbrev pub guarded : Store → LaneNo → Outcome → Outcome
-guarded s k r = cond (corruptOf s) (refuse Corrupt s) (cond (leb (s .n) (k .0)) (refuse NoSuchLane s) r)
+guarded s k r = cond (corruptOf s) (refuse Corrupt s) (cond (leb (s .shape .n) (k .0)) (refuse NoSuchLane s) r)
 
 -- a refusal of a lane's part
 abbrev pub refuseLane : Refusal → Lane → LaneStep

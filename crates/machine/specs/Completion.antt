@@ -5,6 +5,7 @@ use Prim.Native.Nat.{ℕ, _≤_}
 use mathlib.Core.Path.{_≡_}
 use mathlib.Core.Bool.{true}
 use mathlib.Core.List.{List}
+use Rattle.words.specs.declared.Shape.{Shape}
 use Rattle.answers.specs.declared.Answer.the-variants.{Opened}
 use Rattle.store.specs.declared.Store.{Store}
 use Rattle.store.specs.Opening.{openOf}
@@ -22,7 +23,7 @@ pub record Settles (s : Store) : Type 0 where
 
 -- .. after any list of calls from any opening that isn't refused
 abbrev pub AlwaysSettles : Type 0
-AlwaysSettles = (n c m : ℕ) (calls : List Call) → openOf n c m .answer ≡ Opened → Settles (run (openOf n c m .store) calls .store)
+AlwaysSettles = (shape : Shape) (calls : List Call) → openOf shape .answer ≡ Opened → Settles (run (openOf shape .store) calls .store)
 
 -- The count is at most R + G + 2 × Q + S + 2 × n × U; the store may be one that no opening gives, of arrays with their declared lengths
 abbrev pub SettleBound : Type 0

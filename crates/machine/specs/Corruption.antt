@@ -84,8 +84,8 @@ badControl n m (Busy v) = leb n (v .lane .0) || (badBlock m (v .block) || leb n 
 unfoldable pub corruptOf : Store → Bool
 corruptOf s =
     anyOf
-    (badShape (s .n) (s .c) (s .m) ∷
-    badControl (s .n) (s .m) (s .control) ∷
-    anyTo (λ k. badLane (s .c) (s .m) (laneAt s k)) (s .n) ∷
-    anyTo (λ a. badFlags (s .n) (blockAt s a)) (s .m) ∷
+    (badShape (s .shape) ∷
+    badControl (s .shape .n) (s .shape .m) (s .control) ∷
+    anyTo (λ k. badLane (s .shape .c) (s .shape .m) (laneAt s k)) (s .shape .n) ∷
+    anyTo (λ a. badFlags (s .shape .n) (blockAt s a)) (s .shape .m) ∷
     [])

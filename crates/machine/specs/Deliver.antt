@@ -113,4 +113,4 @@ deliverLane c l =
 
 -- 14, 6, 9, 16, 12
 unfoldable pub deliverOf : Store → LaneNo → Outcome
-deliverOf s k = guarded s k (commitLane s k (deliverLane (s .c) (laneAt s (k .0))))
+deliverOf s k = guarded s k (commitLane s k (deliverLane (s .shape .c) (laneAt s (k .0))))

@@ -6,6 +6,7 @@ use Prim.Native.Nat.{ℕ, _<_}
 use mathlib.Core.Path.{_≡_}
 use mathlib.Core.Bool.{true}
 use mathlib.Core.List.{List, [], _∷_, map, List·Memᴰ}
+use Rattle.words.specs.declared.Shape.{Shape}
 use Rattle.answers.specs.declared.Answer.the-variants.{Opened}
 use Rattle.store.specs.declared.Store.{Store}
 use Rattle.store.specs.Opening.{openOf}
@@ -48,22 +49,20 @@ pub record WhenQuiet (m : ℕ) (h : List Entry) (s : Store) : Type 0 where
   -- the four properties of the flags
   pub flags : Flags s
 
--- the claim, of a history and the last store, from an opening of n, c, m
-pub record Coherent (n c m : ℕ) (h : List Entry) (s : Store) : Type 0 where
+-- the claim, of a history and the last store, from an opening of a shape
+pub record Coherent (shape : Shape) (h : List Entry) (s : Store) : Type 0 where
   -- the store still has the shape that it was opened with
-  pub lanes : s .n ≡ n
-  pub lines : s .c ≡ c
-  pub blocks : s .m ≡ m
+  pub same : s .shape ≡ shape
   -- every completion is of an operation begun
   pub owned : (x : Attributed) → List·Memᴰ x (completed h) → Owned h x
   -- no operation completes twice: its begin call's place in the list tells it from all others
   pub once : Distinct (map (λ (b : Begun). b .place) (operations h))
   -- each completion's value equals the one flat memory then gives, fed the operations in the order of the completions
-  pub values : map (λ (x : Attributed). x .completion .value) (completed h) ≡ flatValues (flatOf m) (operations h)
-  pub when-quiet : quietOf s ≡ true → WhenQuiet m h s
+  pub values : map (λ (x : Attributed). x .completion .value) (completed h) ≡ flatValues (flatOf (shape .m)) (operations h)
+  pub when-quiet : quietOf s ≡ true → WhenQuiet (shape .m) h s
 
 -- demand 3
 abbrev pub Demand3 : Type 0
 Demand3 =
-    (n c m : ℕ) (calls : List Call) → openOf n c m .answer ≡ Opened →
-    Coherent n c m (run (openOf n c m .store) calls .history) (run (openOf n c m .store) calls .store)
+    (shape : Shape) (calls : List Call) → openOf shape .answer ≡ Opened →
+    Coherent shape (run (openOf shape .store) calls .history) (run (openOf shape .store) calls .store)

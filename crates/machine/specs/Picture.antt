@@ -31,7 +31,7 @@ lineBytes s k i = let x = getD (laneAt s k .lines) i noLine in cond (x .valid) (
 
 -- for each valid line its record: by lane, then by line (01 leaves the order free)
 unfoldable pub pictureBytes : Store → List ℕ
-pictureBytes s = gatherTo (λ k. gatherTo (lineBytes s k) (s .c)) (s .n)
+pictureBytes s = gatherTo (λ k. gatherTo (lineBytes s k) (s .shape .c)) (s .shape .n)
 
 -- It gives the length; bytes after the records are unchanged. On 14 and on 15 nothing is written
 unfoldable pub pictureOf : Store → List ℕ → Filling

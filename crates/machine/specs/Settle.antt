@@ -37,15 +37,15 @@ lane k = record { 0 = k }
 -- deliver to the lowest lane with a filled down queue; else return from the lowest with a filled return queue; else serve the lowest unserved; 16 where there is none of these
 unfoldable pub settleStep : Store → Outcome
 settleStep s =
-    let d = lowestTo (λ k. ltb 0 (laneAt s k .downs .len)) (s .n) in
-    let r = lowestTo (λ k. ltb 0 (laneAt s k .returns .len)) (s .n) in
-    let u = lowestTo (λ k. unservedOf (laneAt s k .waiting)) (s .n) in
-    cond (ltb d (s .n)) (deliverOf s (lane d))
-    (cond (ltb r (s .n)) (returnOf s (lane r)) (cond (ltb u (s .n)) (serveOf s (lane u)) (refuse Unexpected s)))
+    let d = lowestTo (λ k. ltb 0 (laneAt s k .downs .len)) (s .shape .n) in
+    let r = lowestTo (λ k. ltb 0 (laneAt s k .returns .len)) (s .shape .n) in
+    let u = lowestTo (λ k. unservedOf (laneAt s k .waiting)) (s .shape .n) in
+    cond (ltb d (s .shape .n)) (deliverOf s (lane d))
+    (cond (ltb r (s .shape .n)) (returnOf s (lane r)) (cond (ltb u (s .shape .n)) (serveOf s (lane u)) (refuse Unexpected s)))
 
 -- R: messages in return queues
 abbrev pub returnsIn : Store → ℕ
-returnsIn s = sumTo (λ k. laneAt s k .returns .len) (s .n)
+returnsIn s = sumTo (λ k. laneAt s k .returns .len) (s .shape .n)
 
 -- UPDATE and PURGE are orders, the others grants
 abbrev pub isOrder : DownKind → Bool
@@ -61,11 +61,11 @@ downsOf order q =
 
 -- G: grants in down queues
 abbrev pub grantsIn : Store → ℕ
-grantsIn s = sumTo (λ k. downsOf false (laneAt s k .downs)) (s .n)
+grantsIn s = sumTo (λ k. downsOf false (laneAt s k .downs)) (s .shape .n)
 
 -- Q: orders in down queues
 abbrev pub ordersIn : Store → ℕ
-ordersIn s = sumTo (λ k. downsOf true (laneAt s k .downs)) (s .n)
+ordersIn s = sumTo (λ k. downsOf true (laneAt s k .downs)) (s .shape .n)
 
 -- S: services (0 or 1)
 abbrev pub servicesIn : Store → ℕ
@@ -73,11 +73,11 @@ servicesIn s = cond (busyOf (s .control)) 1 0
 
 -- U: unserved operations
 abbrev pub unservedIn : Store → ℕ
-unservedIn s = countTo (λ k. unservedOf (laneAt s k .waiting)) (s .n)
+unservedIn s = countTo (λ k. unservedOf (laneAt s k .waiting)) (s .shape .n)
 
 -- The count is at most R + G + 2 × Q + S + 2 × n × U
 unfoldable pub boundOf : Store → ℕ
-boundOf s = returnsIn s + grantsIn s + 2 * ordersIn s + servicesIn s + 2 * s .n * unservedIn s
+boundOf s = returnsIn s + grantsIn s + 2 * ordersIn s + servicesIn s + 2 * s .shape .n * unservedIn s
 
 -- how far a settle is: its steps, its completions in order, the last step's answer and store
 pub record Progress : Type 0 where

@@ -9,6 +9,7 @@ use Rattle.words.specs.declared.BlockNo.{BlockNo}
 use Rattle.words.specs.declared.Op.the-variants as Op
 use Rattle.words.specs.Operations.{applyOf}
 use Rattle.words.specs.Lines.{filledLine}
+use Rattle.words.specs.Units.{shaped}
 use Rattle.queues.specs.declared.DownKind.{DownKind}
 use Rattle.queues.specs.declared.DownKind.the-variants.{Purge, Grant, BareGrant}
 use Rattle.queues.specs.declared.ReturnKind.the-variants.{Gone}
@@ -27,8 +28,9 @@ use Rattle.answers.specs.Refusals.{numberOf}
 use Rattle.store.specs.declared.Store.{Store}
 use Rattle.store.specs.declared.Control.the-variants.{Busy}
 use Rattle.store.specs.Opening.{freshOf, openOf, zeros, line}
-use Rattle.store.specs.Stores.{laneAt, blockAt, withLane}
+use Rattle.store.specs.Stores.{laneAt, blockAt, withLane, withControl, withBlock}
 use Rattle.store.specs.Quiet.{quietOf}
+use Rattle.store.specs.Blocks.{withPresent}
 use Rattle.machine.specs.declared.Settled.{Settled}
 use Rattle.machine.specs.declared.Settled.the-variants.{Steps}
 use Rattle.machine.specs.declared.Filled.the-variants as Filled
@@ -81,7 +83,7 @@ said (Reply.Settles (Settled.Refused r) cs) = refused (numberOf r)
 
 -- an opening; a refused one has the blank store
 abbrev pub opening : ℕ → ℕ → ℕ → Shown
-opening n c m = let r = openOf n c m in Opening (wordOf (r .answer)) (r .store .n) (r .store .c) (r .store .m)
+opening n c m = let r = openOf (shaped n c m) in Opening (wordOf (r .answer)) (r .store .shape .n) (r .store .shape .c) (r .store .shape .m)
 
 -- a tape's answers
 abbrev pub reads : List ℕ → List Said → Row
@@ -89,7 +91,7 @@ reads tape answers = record { given = Says (map wordOf (replayOf tape)); wanted 
 
 -- the store of an opening
 abbrev pub opened : ℕ → ℕ → ℕ → Store
-opened n c m = openOf n c m .store
+opened n c m = openOf (shaped n c m) .store
 
 -- the word of number w
 abbrev pub word : ℕ → WordNo
@@ -531,14 +533,7 @@ abbrev pub sent : DownKind → ℕ → ℕ → Store → Store
 sent x k a s = withLane s k (posted (bareDown x (block a)) (laneAt s k))
 
 abbrev pub serving : ℕ → ℕ → ℕ → Store → Store
-serving k a awaited s = record {
-  n = s .n;
-  c = s .c;
-  m = s .m;
-  control = Busy (record { lane = lane k; block = block a; command = ReadExclusive; awaited = awaited; bare = false });
-  lanes = s .lanes;
-  blocks = s .blocks;
-}
+serving k a awaited s = withControl s (Busy (record { lane = lane k; block = block a; command = ReadExclusive; awaited = awaited; bare = false }))
 
 abbrev pub filled : ℕ → ℕ → Store → Store
 filled k a s = withLane s k (withLine (line 0) (filledLine (block a) zeros) (laneAt s k))
@@ -563,14 +558,7 @@ ordered i j s =
     withLane s 0 (withOrder (line i ∷ line j ∷ drop 2 (l .order)) l)
 
 abbrev pub flagged : ℕ → Store → Store
-flagged k s = record {
-  n = s .n;
-  c = s .c;
-  m = s .m;
-  control = s .control;
-  lanes = s .lanes;
-  blocks = set (s .blocks) 0 (record { words = zeros; present = set (blockAt s 0 .present) k true; modified = false });
-}
+flagged k s = let b = blockAt s 0 in withBlock s 0 (withPresent (set (b .present) k true) b)
 
 -- a row of 14: serve finds the store corrupt, or finds nothing to serve
 abbrev pub corrupt : Store → Row
@@ -597,19 +585,19 @@ pictures =
       });
     } ∷
     record { given = pictured stored 18; wanted = Fills (record { answer = Filled.Refused BufferTooShort; buffer = replicate 18 255 }) } ∷
-    record { given = pictured (freshOf 9 1 1) 20; wanted = Fills (record { answer = Filled.Refused Corrupt; buffer = replicate 20 255 }) } ∷
+    record { given = pictured (freshOf (shaped 9 1 1)) 20; wanted = Fills (record { answer = Filled.Refused Corrupt; buffer = replicate 20 255 }) } ∷
     []
 
 -- each condition of 14, and the store just within it
 abbrev pub corruptStores : List Row
 corruptStores =
-    corrupt (freshOf 1 1 1) ∷
-    corrupt (freshOf 9 1 1) ∷
-    corrupt (freshOf 2 0 1) ∷
-    corrupt (freshOf 2 9 1) ∷
-    corrupt (freshOf 2 1 0) ∷
-    corrupt (freshOf 2 1 65) ∷
-    sound (freshOf 8 8 64) ∷
+    corrupt (freshOf (shaped 1 1 1)) ∷
+    corrupt (freshOf (shaped 9 1 1)) ∷
+    corrupt (freshOf (shaped 2 0 1)) ∷
+    corrupt (freshOf (shaped 2 9 1)) ∷
+    corrupt (freshOf (shaped 2 1 0)) ∷
+    corrupt (freshOf (shaped 2 1 65)) ∷
+    sound (freshOf (shaped 8 8 64)) ∷
     -- a valid line
     corrupt (filled 0 2 (opened 2 1 2)) ∷
     sound (filled 0 1 (opened 2 1 2)) ∷
@@ -645,7 +633,7 @@ corruptStores =
 abbrev pub heldStores : List Row
 heldStores =
     -- 14 before 6
-    on (freshOf 9 1 1) (load 9 0 says refused 14 ∷ serve 9 says refused 14 ∷ return 9 says refused 14 ∷ deliver 9 says refused 14 ∷ Settle says refused 14 ∷ []) ∷
+    on (freshOf (shaped 9 1 1)) (load 9 0 says refused 14 ∷ serve 9 says refused 14 ∷ return 9 says refused 14 ∷ deliver 9 says refused 14 ∷ Settle says refused 14 ∷ []) ∷
     -- 16: an answer with no service, for a block not in service, with 0 awaited
     on (gone 0 0 (opened 2 1 2)) (return 0 says refused 16 ∷ Settle says refused 16 ∷ []) ∷
     on (serving 1 1 1 (gone 0 0 (opened 2 1 2))) (return 0 says refused 16 ∷ []) ∷

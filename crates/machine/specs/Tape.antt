@@ -4,6 +4,7 @@ use mathlib.Core.Bool.{Bool, not, cond}
 use mathlib.Core.List.{List, [], _∷_}
 use lib.Dec.{eqb}
 use lib.ListN.{length, drop}
+use Rattle.words.specs.declared.Shape.{Shape}
 use Rattle.records.specs.declared.Record.{Record}
 use Rattle.records.specs.declared.Record.the-variants as Record
 use Rattle.records.specs.Records.{parseOf}
@@ -12,7 +13,7 @@ use Rattle.answers.specs.declared.Answer.the-variants.{Opened}
 use Rattle.answers.specs.declared.Refusal.the-variants.{Truncated, UnknownKind, NotOpen, AlreadyOpen, InvalidShape}
 use Rattle.store.specs.declared.Store.{Store}
 use Rattle.store.specs.declared.Outcome.{Outcome}
-use Rattle.store.specs.Opening.{badShape, freshOf}
+use Rattle.store.specs.Opening.{badShape, freshOf, blankStore}
 use Rattle.machine.specs.Change.{refuse}
 use Rattle.machine.specs.Begin.{beginOf}
 use Rattle.machine.specs.Serve.{serveOf}
@@ -21,14 +22,14 @@ use Rattle.machine.specs.Deliver.{deliverOf}
 
 -- an open that wasn't refused has been read; before it the store is the blank one, with n = 0
 abbrev pub isOpen : Store → Bool
-isOpen s = not (eqb (s .n) 0)
+isOpen s = not (eqb (s .shape .n) 0)
 
 -- kind 00: 4, 5, then the opening
-unfoldable pub openRecord : Store → ℕ → ℕ → ℕ → Outcome
-openRecord s n c m =
+unfoldable pub openRecord : Store → Shape → Outcome
+openRecord s shape =
     cond (isOpen s) (refuse AlreadyOpen s)
-    (cond (badShape n c m) (refuse InvalidShape s)
-    (record { answer = Opened; store = freshOf n c m }))
+    (cond (badShape shape) (refuse InvalidShape s)
+    (record { answer = Opened; store = freshOf shape }))
 
 -- kinds 01 to 07: 3 before an open that wasn't refused, then the call
 abbrev pub whenOpen : Store → Outcome → Outcome
@@ -38,7 +39,7 @@ whenOpen s r = cond (isOpen s) r (refuse NotOpen s)
 unfoldable pub recordOf : Store → Record → Outcome
 recordOf s Record.Unknown = refuse UnknownKind s
 recordOf s Record.Truncated = refuse Truncated s
-recordOf s (Record.Open n c m) = openRecord s n c m
+recordOf s (Record.Open shape) = openRecord s shape
 recordOf s (Record.Begin k op w) = whenOpen s (beginOf s k op w)
 recordOf s (Record.Serve k) = whenOpen s (serveOf s k)
 recordOf s (Record.Return k) = whenOpen s (returnOf s k)
@@ -55,4 +56,4 @@ replayFrom (suc more) s tape =
 
 -- a whole tape, from the blank store; a record takes a byte or more, so its length is number enough
 unfoldable pub replayOf : List ℕ → List Answer
-replayOf tape = replayFrom (length tape) (freshOf 0 0 0) tape
+replayOf tape = replayFrom (length tape) (blankStore) tape

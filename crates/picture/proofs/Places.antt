@@ -32,12 +32,12 @@ gather-behind f k (suc n) h = let l : k ≤ n = omega arith in go (eq-or-lt-of-l
     go (inr l) r = let b = r l in record { rest = b .rest ++ f n; is = rw (b .is) (simp append-assoc) }
 
 -- the record of a valid line stands behind those of the valid lines before it
-pub record-at : (s : Store) (k i : ℕ) → k < s .n → i < s .c → getD (laneAt s k .lines) i noLine .valid ≡ true →
+pub record-at : (s : Store) (k i : ℕ) → k < s .shape .n → i < s .shape .c → getD (laneAt s k .lines) i noLine .valid ≡ true →
     take 19 (drop (19 * (sumTo (validAt s) k + validIn (laneAt s k) i)) (pictureBytes s)) ≡ recordBytes k (getD (laneAt s k .lines) i noLine)
 record-at s k i h l v =
     let x = getD (laneAt s k .lines) i noLine in
-    let lane = gather-behind (recordsAt s) k (s .n) h in
-    let line = gather-behind (λ j. lineRecord k (getD (laneAt s k .lines) j noLine)) i (s .c) l in
+    let lane = gather-behind (recordsAt s) k (s .shape .n) h in
+    let line = gather-behind (λ j. lineRecord k (getD (laneAt s k .lines) j noLine)) i (s .shape .c) l in
     let front = gatherTo (recordsAt s) k ++ laneRecords k (laneAt s k) i in
     let size : length front ≡ 19 * (sumTo (validAt s) k + validIn (laneAt s k) i) =
     simp length-append (omega (arith, lanes-length s k, lane-length k (laneAt s k) i)) in

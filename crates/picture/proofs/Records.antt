@@ -76,12 +76,12 @@ unfolding sumTo
 sum-more f k = rw add-one
 
 -- eight lines at most in a lane
-pub valid-most : (s : Store) (n : ℕ) → s .c ≤ 8 → sumTo (validAt s) n ≤ 8 * n
+pub valid-most : (s : Store) (n : ℕ) → s .shape .c ≤ 8 → sumTo (validAt s) n ≤ 8 * n
 unfolding sumTo
 valid-most s zero h = omega arith
 valid-most s (suc n) h =
     let r = valid-most s n h in
-    omega (arith, count-most (λ i. getD (laneAt s n .lines) i noLine .valid) (s .c))
+    omega (arith, count-most (λ i. getD (laneAt s n .lines) i noLine .valid) (s .shape .c))
 
 -- a record has 19 bytes
 pub record-length : (k : ℕ) (x : Line) → length (recordBytes k x) ≡ 19
@@ -118,7 +118,7 @@ lane-length k l (suc c) =
     simp length-append (omega arith)
 
 -- the picture is the records of the lines, lane by lane
-pub picture-lanes : (s : Store) → pictureBytes s ≡ gatherTo (recordsAt s) (s .n)
+pub picture-lanes : (s : Store) → pictureBytes s ≡ gatherTo (recordsAt s) (s .shape .n)
 unfolding pictureBytes lineRecord
 picture-lanes s = refl
 
@@ -127,9 +127,9 @@ unfolding gatherTo sumTo
 lanes-length s zero = refl
 lanes-length s (suc n) =
     let h = lanes-length s n in
-    let e = lane-length n (laneAt s n) (s .c) in
+    let e = lane-length n (laneAt s n) (s .shape .c) in
     simp length-append (omega arith)
 
 -- .. and its length 19 for each valid line
 pub picture-length : (s : Store) → length (pictureBytes s) ≡ 19 * validOf s
-picture-length s = rw (picture-lanes s) (lanes-length s (s .n))
+picture-length s = rw (picture-lanes s) (lanes-length s (s .shape .n))

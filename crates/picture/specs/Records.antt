@@ -21,7 +21,7 @@ laneRecords k l c = gatherTo (λ i. lineRecord k (getD (l .lines) i noLine)) c
 
 -- the records of lane k of a store
 abbrev pub recordsAt : Store → ℕ → List ℕ
-recordsAt s k = laneRecords k (laneAt s k) (s .c)
+recordsAt s k = laneRecords k (laneAt s k) (s .shape .c)
 
 -- how many of the first c lines of a lane are valid
 abbrev pub validIn : Lane → ℕ → ℕ
@@ -29,7 +29,7 @@ validIn l c = countTo (λ i. getD (l .lines) i noLine .valid) c
 
 -- .. of lane k of a store, and of all its lanes
 abbrev pub validAt : Store → ℕ → ℕ
-validAt s k = validIn (laneAt s k) (s .c)
+validAt s k = validIn (laneAt s k) (s .shape .c)
 
 abbrev pub validOf : Store → ℕ
-validOf s = sumTo (validAt s) (s .n)
+validOf s = sumTo (validAt s) (s .shape .n)

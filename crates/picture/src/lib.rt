@@ -46,11 +46,11 @@ fn valid_in(l: Lane, c: u8) -> usize
 
 // How many lines are valid.
 fn valid_lines(s: Store) -> usize
-    requires { ⌜ (s .n ≤ 8) × (s .c ≤ 8) ⌝ }
+    requires { ⌜ (s .shape .n ≤ 8) × (s .shape .c ≤ 8) ⌝ }
     ensures { λ r. ⌜ r ≡ validOf s ⌝ }
 {
-    let n = s.n;
-    let c = s.c;
+    let n = s.shape.n;
+    let c = s.shape.c;
     let mut count: usize = 0;
     let mut k: u8 = 0;
     while k < n {
@@ -118,11 +118,11 @@ fn write_lane(buffer: &mut [u8], at: usize, k: LaneNo, l: Lane, c: u8) -> usize
 
 // The records of all lanes.
 fn write_lanes(buffer: &mut [u8], s: Store) -> usize
-    requires { ⌜ (s .n ≤ 8) × (s .c ≤ 8) × (length (pictureBytes s) ≤ length (now buffer)) ⌝ }
+    requires { ⌜ (s .shape .n ≤ 8) × (s .shape .c ≤ 8) × (length (pictureBytes s) ≤ length (now buffer)) ⌝ }
     ensures { λ r. ⌜ (r ≡ length (pictureBytes s)) × (now (buffer .exit) ≡ written (now (buffer .entry)) 0 (pictureBytes s)) ⌝ }
 {
-    let n = s.n;
-    let c = s.c;
+    let n = s.shape.n;
+    let c = s.shape.c;
     let mut place: usize = 0;
     let mut k: u8 = 0;
     while k < n {

@@ -8,6 +8,8 @@ use Rattle.words.specs.declared.LaneNo.{LaneNo}
 use Rattle.words.specs.declared.WordNo.{WordNo}
 use Rattle.words.specs.declared.Op.{Op}
 use Rattle.words.specs.declared.Op.the-variants as Op
+use Rattle.words.specs.declared.Shape.{Shape}
+use Rattle.words.specs.Units.{shaped}
 use Rattle.records.specs.declared.Kind.{Kind}
 use Rattle.records.specs.declared.Kind.the-variants as Kind
 use Rattle.records.specs.declared.Form.{Form}
@@ -82,9 +84,13 @@ wordField body = record { 0 = field body 1 }
 abbrev pub beginFields : Op → List ℕ → Record
 beginFields op body = Record.Begin (laneField body) op (wordField body)
 
+-- an open: n, c, m
+abbrev pub shapeOf : List ℕ → Shape
+shapeOf body = shaped (field body 0) (field body 1) (field body 2)
+
 -- the record of a kind from its body
 abbrev pub fieldsOf : Kind → List ℕ → Record
-fieldsOf Kind.Open body = Record.Open (field body 0) (field body 1) (field body 2)
+fieldsOf Kind.Open body = Record.Open (shapeOf body)
 fieldsOf Kind.Load body = beginFields Op.Load body
 fieldsOf Kind.Store body = beginFields (Op.Store (operandOf body)) body
 fieldsOf Kind.Exchange body = beginFields (Op.Exchange (operandOf body)) body

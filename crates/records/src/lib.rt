@@ -3,9 +3,10 @@
 ghost use mathlib.Core.Path.{_≡_};
 ghost use Prim.Native.Nat.{_≤_};
 ghost use lib.ListN.{length};
-ghost use Rattle.records.specs.Records.{knownOf, bodyLength, formWith, formOf, valueOf, operandOf, beginFields, fieldsOf, lastOf, parseOf};
+ghost use Rattle.records.specs.Records.{knownOf, bodyLength, formWith, formOf, valueOf, operandOf, beginFields, fieldsOf, shapeOf, lastOf, parseOf};
 use words::LaneNo;
 use words::Op;
+use words::Shape;
 use words::WordNo;
 
 // The kind bytes.
@@ -68,7 +69,7 @@ pub struct Form {
 
 // A record: its kind's case with its fields; or the tape ends inside it (01: cut), or no record has its kind (01: stranger).
 pub enum Record {
-    Open(u8, u8, u8),
+    Open(Shape),
     Begin(LaneNo, Op, WordNo),
     Serve(LaneNo),
     Return(LaneNo),
@@ -139,13 +140,25 @@ fn begin_fields(body: &[u8], op: Op) -> Record
     Record::Begin(LaneNo(body[0]), op, WordNo(body[1]))
 }
 
+// The shape in the body of an open record.
+fn shape(body: &[u8]) -> Shape
+    requires { ⌜ 3 ≤ length (now body) ⌝ }
+    ensures { λ r. ⌜ r ≡ shapeOf (now (body .entry)) ⌝ }
+{
+    Shape {
+        n: body[0],
+        c: body[1],
+        m: body[2],
+    }
+}
+
 // The record of a kind from its body.
 fn fields(kind: Kind, body: &[u8]) -> Record
     requires { ⌜ bodyLength kind ≤ length (now body) ⌝ }
     ensures { λ r. ⌜ r ≡ fieldsOf kind (now (body .entry)) ⌝ }
 {
     match kind {
-        Kind::Open => Record::Open(body[0], body[1], body[2]),
+        Kind::Open => Record::Open(shape(body)),
         Kind::Load => begin_fields(body, Op::Load),
         Kind::Store => begin_fields(body, Op::Store(operand(body))),
         Kind::Exchange => begin_fields(body, Op::Exchange(operand(body))),

@@ -81,10 +81,10 @@ module _ (tape out : List ℕ) where
   abbrev pub Short : Type 0
   Short = (length tape ≤ tapeMost) × (textMost ≤ length out)
 
-  pub going-start : Short → (z : Store) → z ≡ freshOf 0 0 0 → Going (length tape) 0 z out 0 0
+  pub going-start : Short → (z : Store) → z ≡ blankStore → Going (length tape) 0 z out 0 0
   unfolding printed replayOf
   going-start h z e =
-      let same : 0 + length (replayFrom (length tape) (freshOf 0 0 0) tape) ≡ length (replayFrom (length tape) (freshOf 0 0 0) tape) = omega arith in
+      let same : 0 + length (replayFrom (length tape) (blankStore) tape) ≡ length (replayFrom (length tape) (blankStore) tape) = omega arith in
       let is : Rest (length tape) 0 z 0 ≡ printed tape = rw (e, le-ltb tapeMost (length tape) (h .0), same) in
       record {
         enough = omega arith;

@@ -109,10 +109,10 @@ fn enabled(x: StepKind, l: Lane) -> bool
 
 // The lowest lane that has something for the step, or n.
 fn lowest(x: StepKind, s: Store) -> u8
-    requires { ⌜ s .n ≤ 8 ⌝ }
-    ensures { λ r. ⌜ r ≡ lowestTo (λ k. enabledOf x (laneAt s k)) (s .n) ⌝ }
+    requires { ⌜ s .shape .n ≤ 8 ⌝ }
+    ensures { λ r. ⌜ r ≡ lowestTo (λ k. enabledOf x (laneAt s k)) (s .shape .n) ⌝ }
 {
-    let n = s.n;
+    let n = s.shape.n;
     let mut k: u8 = 0;
     while k < n {
         let i = k as usize;
@@ -142,7 +142,7 @@ fn step(s: Store) -> Outcome
     requires { ⌜ corruptOf s ≡ false ⌝ }
     ensures { λ r. ⌜ r ≡ settleStep s ⌝ }
 {
-    let n = s.n;
+    let n = s.shape.n;
     let d = lowest(StepKind::Deliver, s);
     if d < n {
         return take_step(StepKind::Deliver, s, LaneNo(d));

@@ -42,11 +42,11 @@ below-eight : (n m : ℕ) (x : Control) → n ≤ 8 → ControlSound n m x → l
 below-eight n m Free h g = tt
 below-eight n m (Busy v) h g = let l = g .service v refl .lane in omega arith
 
-module _ (s : Store) (k : LaneNo) (e : corruptOf s ≡ false) (h : k .0 < s .n) where
+module _ (s : Store) (k : LaneNo) (e : corruptOf s ≡ false) (h : k .0 < s .shape .n) where
   pub lane-bound : k .0 < 8
   lane-bound = let g = sound s e .n-high in omega arith
 
-  pub lines-bound : s .c ≤ 8
+  pub lines-bound : s .shape .c ≤ 8
   lines-bound = sound s e .c-high
 
   pub oldest-bound : placeAt (laneAt s (k .0) .order) 0 .0 < 8
@@ -68,4 +68,4 @@ module _ (s : Store) (k : LaneNo) (e : corruptOf s ≡ false) (h : k .0 < s .n) 
       omega arith
 
   pub service-bound : laneBelow (s .control) 8
-  service-bound = below-eight (s .n) (s .m) (s .control) (sound s e .n-high) (sound s e .control)
+  service-bound = below-eight (s .shape .n) (s .shape .m) (s .control) (sound s e .n-high) (sound s e .control)

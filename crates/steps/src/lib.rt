@@ -33,17 +33,17 @@ pub fn begin_sound(s: Store, k: LaneNo, op: Op, w: WordNo) -> Outcome
     ensures { λ r. ⌜ r ≡ beginOf s k op w ⌝ }
 {
     let mut t = s;
-    let n = t.n;
+    let n = t.shape.n;
     if n <= k.0 {
         return refused(Refusal::NoSuchLane, t);
     }
-    let m = t.m;
+    let m = t.shape.m;
     if m <= w.0 / 4 {
         return refused(Refusal::NoSuchWord, t);
     }
     let i = k.0 as usize;
     let l = t.lanes[i];
-    let r = lanestep::begin_lane(l, t.c, k, op, w);
+    let r = lanestep::begin_lane(l, t.shape.c, k, op, w);
     let e = r.answer;
     if e.refused() {
         return Outcome {
@@ -64,7 +64,7 @@ pub fn serve_sound(s: Store, k: LaneNo) -> Outcome
     requires { ⌜ corruptOf s ≡ false ⌝ }
     ensures { λ r. ⌜ r ≡ serveOf s k ⌝ }
 {
-    let n = s.n;
+    let n = s.shape.n;
     if n <= k.0 {
         return refused(Refusal::NoSuchLane, s);
     }
@@ -88,7 +88,7 @@ pub fn return_sound(s: Store, k: LaneNo) -> Outcome
     requires { ⌜ corruptOf s ≡ false ⌝ }
     ensures { λ r. ⌜ r ≡ returnOf s k ⌝ }
 {
-    let n = s.n;
+    let n = s.shape.n;
     if n <= k.0 {
         return refused(Refusal::NoSuchLane, s);
     }
@@ -113,13 +113,13 @@ pub fn deliver_sound(s: Store, k: LaneNo) -> Outcome
     ensures { λ r. ⌜ r ≡ deliverOf s k ⌝ }
 {
     let mut t = s;
-    let n = t.n;
+    let n = t.shape.n;
     if n <= k.0 {
         return refused(Refusal::NoSuchLane, t);
     }
     let i = k.0 as usize;
     let l = t.lanes[i];
-    let r = lanedeliver::deliver_lane(l, t.c, k);
+    let r = lanedeliver::deliver_lane(l, t.shape.c, k);
     let a = r.answer;
     if a.refused() {
         return Outcome {

@@ -6,6 +6,8 @@ use lib.Dec.{ltb}
 use lib.ListN.{replicate}
 use Rattle.words.specs.declared.Line.{Line}
 use Rattle.words.specs.declared.LineNo.{LineNo}
+use Rattle.words.specs.declared.Shape.{Shape}
+use Rattle.words.specs.Units.{shaped}
 use Rattle.words.specs.Folds.{anyOf}
 use Rattle.queues.specs.declared.ReturnKind.the-variants.{Eject}
 use Rattle.queues.specs.declared.DownKind.the-variants.{Update}
@@ -19,8 +21,8 @@ use Rattle.store.specs.declared.Control.the-variants.{Free}
 use Rattle.store.specs.declared.Outcome.{Outcome}
 
 -- Lanes n: 2 to 8. Lines per lane c: 1 to 8. Blocks m: 1 to 64
-unfoldable pub badShape : ℕ → ℕ → ℕ → Bool
-badShape n c m = anyOf (ltb n 2 ∷ ltb 8 n ∷ ltb c 1 ∷ ltb 8 c ∷ ltb m 1 ∷ ltb 64 m ∷ [])
+unfoldable pub badShape : Shape → Bool
+badShape shape = anyOf (ltb (shape .n) 2 ∷ ltb 8 (shape .n) ∷ ltb (shape .c) 1 ∷ ltb 8 (shape .c) ∷ ltb (shape .m) 1 ∷ ltb 64 (shape .m) ∷ [])
 
 -- four words, all 0
 abbrev pub zeros : List ℕ
@@ -48,12 +50,16 @@ blankLane = record {
 unfoldable pub blankBlock : Block
 blankBlock = record { words = zeros; present = replicate 8 false; modified = false }
 
--- the store of an opening; with 0, 0, 0 the blank store that a tape has before it is opened
-unfoldable pub freshOf : ℕ → ℕ → ℕ → Store
-freshOf n c m = record { n = n; c = c; m = m; control = Free; lanes = replicate 8 blankLane; blocks = replicate 64 blankBlock }
+-- the store of an opening
+unfoldable pub freshOf : Shape → Store
+freshOf shape = record { shape = shape; control = Free; lanes = replicate 8 blankLane; blocks = replicate 64 blankBlock }
+
+-- the blank store, which a tape has before it is opened
+abbrev pub blankStore : Store
+blankStore = freshOf (shaped 0 0 0)
 
 -- opening: 5 where n, c or m is outside its range, with the blank store
-unfoldable pub openOf : ℕ → ℕ → ℕ → Outcome
-openOf n c m =
-    cond (badShape n c m) (record { answer = Refused InvalidShape; store = freshOf 0 0 0 })
-    (record { answer = Opened; store = freshOf n c m })
+unfoldable pub openOf : Shape → Outcome
+openOf shape =
+    cond (badShape shape) (record { answer = Refused InvalidShape; store = blankStore })
+    (record { answer = Opened; store = freshOf shape })

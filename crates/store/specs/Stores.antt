@@ -25,13 +25,13 @@ blockAt s a = getD (s .blocks) a noBlock
 
 -- a store with another control, other lanes, other blocks
 abbrev pub withControl : Store → Control → Store
-withControl s x = record { n = s .n; c = s .c; m = s .m; control = x; lanes = s .lanes; blocks = s .blocks }
+withControl s x = record { shape = s .shape; control = x; lanes = s .lanes; blocks = s .blocks }
 
 abbrev pub withLanes : Store → List Lane → Store
-withLanes s ls = record { n = s .n; c = s .c; m = s .m; control = s .control; lanes = ls; blocks = s .blocks }
+withLanes s ls = record { shape = s .shape; control = s .control; lanes = ls; blocks = s .blocks }
 
 abbrev pub withBlocks : Store → List Block → Store
-withBlocks s bs = record { n = s .n; c = s .c; m = s .m; control = s .control; lanes = s .lanes; blocks = bs }
+withBlocks s bs = record { shape = s .shape; control = s .control; lanes = s .lanes; blocks = bs }
 
 -- a store with another lane k, another block a
 abbrev pub withLane : Store → ℕ → Lane → Store

@@ -2,7 +2,7 @@
 // Functions that are not listed in docs/ARCHITECTURE.md, "Calls open to others", are for the crates above.
 ghost use mathlib.Core.Path.{_≡_};
 ghost use Rattle.store.specs.Control.{busyOf, serviceOf, answerOf};
-ghost use Rattle.store.specs.Opening.{badShape, blankLine, blankLane, blankBlock, freshOf, openOf};
+ghost use Rattle.store.specs.Opening.{badShape, blankLine, blankLane, blankBlock, freshOf, blankStore, openOf};
 ghost use Rattle.store.specs.Quiet.{activeOf, quietOf};
 use answers::Answer;
 use answers::Refusal;
@@ -19,6 +19,7 @@ use words::BlockNo;
 use words::LaneNo;
 use words::Line;
 use words::LineNo;
+use words::Shape;
 
 // A block of main memory with its directory entry: PRESENT, a presence flag for each lane, and MODIFIED.
 pub struct Block {
@@ -103,9 +104,7 @@ impl Control {
 
 // The whole store: n lanes of c lines and m blocks; what stands past n, c and m is no part of it.
 pub struct Store {
-    pub n: u8,
-    pub c: u8,
-    pub m: u8,
+    pub shape: Shape,
     pub control: Control,
     pub lanes: [Lane; 8],
     pub blocks: [Block; 64],
@@ -118,9 +117,12 @@ pub struct Outcome {
 }
 
 // Whether n, c or m is outside its range.
-pub fn bad_shape(n: u8, c: u8, m: u8) -> bool
-    ensures { λ r. ⌜ r ≡ badShape n c m ⌝ }
+pub fn bad_shape(shape: Shape) -> bool
+    ensures { λ r. ⌜ r ≡ badShape shape ⌝ }
 {
+    let n = shape.n;
+    let c = shape.c;
+    let m = shape.m;
     if n < 2 {
         return true;
     }
@@ -199,33 +201,39 @@ fn blank_block() -> Block
 }
 
 // The store of an opening, whatever its shape.
-pub fn fresh(n: u8, c: u8, m: u8) -> Store
-    ensures { λ r. ⌜ r ≡ freshOf n c m ⌝ }
+pub fn fresh(shape: Shape) -> Store
+    ensures { λ r. ⌜ r ≡ freshOf shape ⌝ }
 {
     let lane = blank_lane();
     let block = blank_block();
     Store {
-        n: n,
-        c: c,
-        m: m,
+        shape: shape,
         control: Control::Free,
         lanes: [lane; 8],
         blocks: [block; 64],
     }
 }
 
-// Opening.
-pub fn open(n: u8, c: u8, m: u8) -> Outcome
-    ensures { λ r. ⌜ r ≡ openOf n c m ⌝ }
+// The blank store, before any opening.
+pub fn blank() -> Store
+    ensures { λ r. ⌜ r ≡ blankStore ⌝ }
 {
-    if bad_shape(n, c, m) {
-        let s = fresh(0, 0, 0);
+    let shape = Shape { n: 0, c: 0, m: 0 };
+    fresh(shape)
+}
+
+// Opening.
+pub fn open(shape: Shape) -> Outcome
+    ensures { λ r. ⌜ r ≡ openOf shape ⌝ }
+{
+    if bad_shape(shape) {
+        let s = blank();
         return Outcome {
             answer: Answer::Refused(Refusal::InvalidShape),
             store: s,
         };
     }
-    let s = fresh(n, c, m);
+    let s = fresh(shape);
     Outcome {
         answer: Answer::Opened,
         store: s,
@@ -254,7 +262,7 @@ pub fn quiet(s: Store) -> bool
     if x.busy() {
         return false;
     }
-    let n = s.n;
+    let n = s.shape.n;
     let mut k: u8 = 0;
     while k < n {
         if 8 <= k {

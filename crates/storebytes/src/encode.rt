@@ -291,9 +291,9 @@ pub fn put_store(out: &mut [u8], at: usize, s: Store)
     let control = s.control;
     let lanes = s.lanes;
     let blocks = s.blocks;
-    put(out, at, s.n);
-    put(out, at + 1, s.c);
-    put(out, at + 2, s.m);
+    put(out, at, s.shape.n);
+    put(out, at + 1, s.shape.c);
+    put(out, at + 2, s.shape.m);
     put_control(out, at + 3, control);
     put_lanes(out, at + 9, lanes);
     put_blocks(out, at + 1945, blocks);

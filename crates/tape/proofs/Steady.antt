@@ -17,7 +17,7 @@ use Rattle.machine.proofs.Keeps.{Whole, open-keeps, open-whole, begin-keeps, se
 use Rattle.tape.specs.Steady.{Steady}
 
 -- a store that a tape can have and that is open is not corrupt
-pub steady-open : (s : Store) → Steady s → (s .n ≡ 0 → ⊥) → corruptOf s ≡ false
+pub steady-open : (s : Store) → Steady s → (s .shape .n ≡ 0 → ⊥) → corruptOf s ≡ false
 steady-open s (inl e) n = absurd (n e)
 steady-open s (inr e) n = e
 
@@ -30,22 +30,22 @@ abbrev After : Outcome → Type 0
 After r = Tapes (r .store)
 
 -- the blank store
-pub blank-tapes : Tapes (freshOf 0 0 0)
+pub blank-tapes : Tapes (blankStore)
 unfolding freshOf
 blank-tapes = record { steady = inl refl; whole = λ k h. absurd (omega arith) }
 
-open-after : (s : Store) (n c m : ℕ) → Tapes s → After (openRecord s n c m)
+open-after : (s : Store) (shape : Shape) → Tapes s → After (openRecord s n c m)
 unfolding openRecord
 open-after s n c m g =
     pick After (isOpen s) _ _ (λ _. g)
-    (λ _. pick After (badShape n c m) _ _ (λ _. g) (λ e. record { steady = inr (open-keeps n c m e); whole = open-whole n c m e }))
+    (λ _. pick After (badShape shape) _ _ (λ _. g) (λ e. record { steady = inr (open-keeps n c m e); whole = open-whole n c m e }))
 
 -- a call on an open store
 module _ (s : Store) (g : Tapes s) where
   call-after : (r : Outcome) → (corruptOf s ≡ false → corruptOf (r .store) ≡ false) → Whole (r .store) → After (whenOpen s r)
   call-after r keeps whole =
       pick After (isOpen s) _ _
-      (λ o. record { steady = inr (keeps (steady-open s (g .steady) (λ e. true≢false (sym o ∙ ap not (eq-eqb (s .n) 0 e))))); whole = whole })
+      (λ o. record { steady = inr (keeps (steady-open s (g .steady) (λ e. true≢false (sym o ∙ ap not (eq-eqb (s .shape .n) 0 e))))); whole = whole })
       (λ _. g)
 
   pub record-after : (rec : Record) → After (recordOf s rec)

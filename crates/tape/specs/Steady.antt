@@ -7,4 +7,4 @@ use Rattle.machine.specs.Corruption.{corruptOf}
 
 -- a store that a tape can have: not open yet, or not corrupt
 abbrev pub Steady : Store → Type 0
-Steady s = (s .n ≡ 0) ⊎ (corruptOf s ≡ false)
+Steady s = (s .shape .n ≡ 0) ⊎ (corruptOf s ≡ false)

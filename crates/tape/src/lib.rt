@@ -15,7 +15,7 @@ use store::Store;
 fn open_record(s: Store, n: u8, c: u8, m: u8) -> Outcome
     ensures { λ r. ⌜ r ≡ openRecord s n c m ⌝ }
 {
-    if s.n == 0 {
+    if s.shape.n == 0 {
         if store::bad_shape(n, c, m) {
             return steps::refused(Refusal::InvalidShape, s);
         }
@@ -45,25 +45,25 @@ pub fn record_sound(s: Store, rec: Record) -> Outcome
         Record::Truncated => steps::refused(Refusal::Truncated, s),
         Record::Open(n, c, m) => open_record(s, n, c, m),
         Record::Begin(k, op, w) => {
-            if s.n == 0 {
+            if s.shape.n == 0 {
                 return not_open(s);
             }
             steps::begin_sound(s, k, op, w)
         }
         Record::Serve(k) => {
-            if s.n == 0 {
+            if s.shape.n == 0 {
                 return not_open(s);
             }
             steps::serve_sound(s, k)
         }
         Record::Return(k) => {
-            if s.n == 0 {
+            if s.shape.n == 0 {
                 return not_open(s);
             }
             steps::return_sound(s, k)
         }
         Record::Deliver(k) => {
-            if s.n == 0 {
+            if s.shape.n == 0 {
                 return not_open(s);
             }
             steps::deliver_sound(s, k)

@@ -2,6 +2,11 @@
 use Prim.Native.Nat.{ℕ, _/_, _%_}
 use Rattle.words.specs.declared.BlockNo.{BlockNo}
 use Rattle.words.specs.declared.WordNo.{WordNo}
+use Rattle.words.specs.declared.Shape.{Shape}
+
+-- the shape of n lanes, c lines per lane, m blocks
+abbrev pub shaped : ℕ → ℕ → ℕ → Shape
+shaped n c m = record { n = n; c = c; m = m }
 
 -- Word w belongs to block w ÷ 4, rounded down
 abbrev pub blockOf : WordNo → BlockNo

@@ -1,4 +1,4 @@
-// The four units of number, the four operations on a word, and a line.
+// The four units of number, a shape, the four operations on a word, and a line.
 ghost use mathlib.Core.Path.{_≡_};
 ghost use Rattle.words.specs.Units.{blockOf};
 ghost use Rattle.words.specs.Operations.{applyOf, performOf};
@@ -23,6 +23,13 @@ impl WordNo {
     {
         BlockNo(self.0 / 4)
     }
+}
+
+// What an opening fixes: lanes n, lines per lane c, blocks m.
+pub struct Shape {
+    pub n: u8,
+    pub c: u8,
+    pub m: u8,
 }
 
 // An operation of a lane, with its v where there is one.

@@ -36,7 +36,7 @@ valid-in-requires c κs = search needs
 
 add-count : tie.Need-add-count Inv-loop μ-loop
 add-count c = let v = valid-most (c .before .before .before .before .args .t1) (c .before .before .before .loop .k) (c .before .before .before .before .pre .1) in
-    omega (arith, count-most (λ i. getD (laneAt (c .before .before .before .before .args .t1) (c .before .before .before .loop .k) .lines) i noLine .valid) (c .before .before .before .before .args .t1 .c))
+    omega (arith, count-most (λ i. getD (laneAt (c .before .before .before .before .args .t1) (c .before .before .before .loop .k) .lines) i noLine .valid) (c .before .before .before .before .args .t1 .shape .c))
 
 add-k : tie.Need-add-k Inv-loop μ-loop
 add-k c = search needs
@@ -48,7 +48,7 @@ loop-again : tie.Need-loop-again Inv-loop μ-loop
 loop-again c = (omega arith, rw (c .before .before .before .loop .inv .1, c .valid-in .ensures, sum-more))
 
 returns : tie.Need-returns Inv-loop μ-loop
-returns c = let e : c .before .loop .k ≡ c .before .before .args .t1 .n = omega arith in rw (c .before .loop .inv .1, e)
+returns c = let e : c .before .loop .k ≡ c .before .before .args .t1 .shape .n = omega arith in rw (c .before .loop .inv .1, e)
 
 pub valid-lines-spec : {M : Type 1} → statement M
 valid-lines-spec =

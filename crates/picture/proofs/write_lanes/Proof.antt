@@ -30,8 +30,8 @@ element-copy-out-l : tie.Need-element-copy-out-l Inv-loop μ-loop
 element-copy-out-l c = search needs
 
 write-lane-requires : tie.Need-write-lane-requires Inv-loop μ-loop
-write-lane-requires c κs = let g = gather-next (recordsAt (c .before .before .before .before .before .args .t2)) (c .before .before .before .loop .k) (c .before .before .before .before .before .args .t2 .n) (c .before .before .loop-test .taken) in
-    let e = wrote-kept (recordsAt (c .before .before .before .before .before .args .t2)) (c .before .before .before .loop .k) (c .before .before .before .before .before .args .t2 .n) (c .before .before .before .before .before .args .buffer .now) 0 (c .before .before .before .loop .inv .1) (c .before .before .before .loop .inv .0) (omega (arith, ap length (picture-lanes (c .before .before .before .before .before .args .t2)))) in
+write-lane-requires c κs = let g = gather-next (recordsAt (c .before .before .before .before .before .args .t2)) (c .before .before .before .loop .k) (c .before .before .before .before .before .args .t2 .shape .n) (c .before .before .loop-test .taken) in
+    let e = wrote-kept (recordsAt (c .before .before .before .before .before .args .t2)) (c .before .before .before .loop .k) (c .before .before .before .before .before .args .t2 .shape .n) (c .before .before .before .before .before .args .buffer .now) 0 (c .before .before .before .loop .inv .1) (c .before .before .before .loop .inv .0) (omega (arith, ap length (picture-lanes (c .before .before .before .before .before .args .t2)))) in
     (c .before .before .before .before .before .pre .1, omega (arith, ap length (picture-lanes (c .before .before .before .before .before .args .t2))))
 
 add-k : tie.Need-add-k Inv-loop μ-loop
@@ -41,13 +41,13 @@ loop-less : tie.Need-loop-less Inv-loop μ-loop
 loop-less c = search needs
 
 loop-again : tie.Need-loop-again Inv-loop μ-loop
-loop-again c = (omega arith, wrote-more (recordsAt (c .before .before .before .before .before .before .before .before .args .t2)) _ (c .before .before .before .before .before .before .before .before .args .t2 .n) _ _ (c .before .before .before .before .before .before .loop .inv .1) (c .before .before .write-lane .ensures) (omega arith) (omega (arith, ap length (picture-lanes (c .before .before .before .before .before .before .before .before .args .t2)))))
+loop-again c = (omega arith, wrote-more (recordsAt (c .before .before .before .before .before .before .before .before .args .t2)) _ (c .before .before .before .before .before .before .before .before .args .t2 .shape .n) _ _ (c .before .before .before .before .before .before .loop .inv .1) (c .before .before .write-lane .ensures) (omega arith) (omega (arith, ap length (picture-lanes (c .before .before .before .before .before .before .before .before .args .t2)))))
 
 same-length : tie.Need-same-length Inv-loop μ-loop
-same-length c = wrote-kept (recordsAt (c .before .before .before .args .t2)) (c .before .loop .k) (c .before .before .before .args .t2 .n) (c .before .before .before .args .buffer .now) 0 (c .before .loop .inv .1) (c .before .loop .inv .0) (omega (arith, ap length (picture-lanes (c .before .before .before .args .t2))))
+same-length c = wrote-kept (recordsAt (c .before .before .before .args .t2)) (c .before .loop .k) (c .before .before .before .args .t2 .shape .n) (c .before .before .before .args .buffer .now) 0 (c .before .loop .inv .1) (c .before .loop .inv .0) (omega (arith, ap length (picture-lanes (c .before .before .before .args .t2))))
 
 returns : tie.Need-returns Inv-loop μ-loop
-returns c = let e : c .before .loop .k ≡ c .before .before .before .args .t2 .n = omega arith in
+returns c = let e : c .before .loop .k ≡ c .before .before .before .args .t2 .shape .n = omega arith in
     let w = rw e at (c .before .loop .inv .1) in
     rw (picture-lanes (c .before .before .before .args .t2)) (omega arith, w .1)
 

@@ -8,14 +8,8 @@ use Rattle.records.proofs.fields.Tie as tie
 enum-told : tie.Need-enum-told
 enum-told c = search needs
 
-shared-slice-read-t5 : tie.Need-shared-slice-read-t5
-shared-slice-read-t5 c = omega (arith, least (c .before .enum-told .given .1) (c .before .before .before .before .pre))
-
-shared-slice-read-t7 : tie.Need-shared-slice-read-t7
-shared-slice-read-t7 c = omega (arith, least (c .before .before .enum-told .given .1) (c .before .before .before .before .before .pre))
-
-shared-slice-read-t9 : tie.Need-shared-slice-read-t9
-shared-slice-read-t9 c = omega (arith, least (c .before .before .before .enum-told .given .1) (c .before .before .before .before .before .before .pre))
+shape-requires : tie.Need-shape-requires
+shape-requires c κs = omega (arith, least (c .enum-told .given .1) (c .before .before .before .pre))
 
 enum-told-2 : tie.Need-enum-told-2
 enum-told-2 c = search needs
@@ -53,26 +47,26 @@ begin-fields-requires-4 c κs = omega (arith, least (c .before .enum-told5 .give
 enum-told-6 : tie.Need-enum-told-6
 enum-told-6 c = search needs
 
-shared-slice-read-t18 : tie.Need-shared-slice-read-t18
-shared-slice-read-t18 c = omega (arith, least (c .before .enum-told6 .given .1) (c .before .before .before .before .pre))
+shared-slice-read-t13 : tie.Need-shared-slice-read-t13
+shared-slice-read-t13 c = omega (arith, least (c .before .enum-told6 .given .1) (c .before .before .before .before .pre))
 
 enum-told-7 : tie.Need-enum-told-7
 enum-told-7 c = search needs
 
-shared-slice-read-t21 : tie.Need-shared-slice-read-t21
-shared-slice-read-t21 c = omega (arith, least (c .before .enum-told7 .given .1) (c .before .before .before .before .pre))
+shared-slice-read-t16 : tie.Need-shared-slice-read-t16
+shared-slice-read-t16 c = omega (arith, least (c .before .enum-told7 .given .1) (c .before .before .before .before .pre))
 
 enum-told-8 : tie.Need-enum-told-8
 enum-told-8 c = search needs
 
-shared-slice-read-t24 : tie.Need-shared-slice-read-t24
-shared-slice-read-t24 c = omega (arith, least (c .before .enum-told8 .given .1) (c .before .before .before .before .pre))
+shared-slice-read-t19 : tie.Need-shared-slice-read-t19
+shared-slice-read-t19 c = omega (arith, least (c .before .enum-told8 .given .1) (c .before .before .before .before .pre))
 
 enum-told-9 : tie.Need-enum-told-9
 enum-told-9 c = search needs
 
 returns : tie.Need-returns
-returns c = rw (c .before .before .before .enum-told .given .1)
+returns c = rw (c .shape .ensures, c .before .enum-told .given .1)
 
 returns-2 : tie.Need-returns-2
 returns-2 c = rw (c .begin-fields .ensures, c .before .enum-told2 .given .1)
@@ -103,9 +97,7 @@ fields-spec =
     tie.close
     (tie.spec
     enum-told
-    shared-slice-read-t5
-    shared-slice-read-t7
-    shared-slice-read-t9
+    shape-requires
     enum-told-2
     begin-fields-requires
     enum-told-3
@@ -118,11 +110,11 @@ fields-spec =
     operand-requires-3
     begin-fields-requires-4
     enum-told-6
-    shared-slice-read-t18
+    shared-slice-read-t13
     enum-told-7
-    shared-slice-read-t21
+    shared-slice-read-t16
     enum-told-8
-    shared-slice-read-t24
+    shared-slice-read-t19
     enum-told-9
     returns
     returns-2

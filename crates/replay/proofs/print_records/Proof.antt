@@ -181,8 +181,8 @@ module _ {M : Type 1} (𝓤 : URA M) (H : Heap 𝓤) (A : Atoms 𝓤) (at-mem : 
   End = tripleOf 𝓤 H A end.signature (end.spec 𝓤 H A at-mem run)
 
   -- and of two of them the clause alone
-  fresh-of : (r : Store) → ent 𝓤 (ensured 𝓤 H A fresh.ended (fresh.clauses 𝓤 H A at-mem run) tt zeros tt r) (fact 𝓤 (r ≡ freshOf 0 0 0))
-  fresh-of r = exE 𝓤 _ (λ ws. snd∗ 𝓤 (sem 𝓤 H A (lasts fresh.ended tt zeros ws)) (fact 𝓤 (r ≡ freshOf 0 0 0)))
+  fresh-of : (r : Store) → ent 𝓤 (ensured 𝓤 H A fresh.ended (fresh.clauses 𝓤 H A at-mem run) tt zeros tt r) (fact 𝓤 (r ≡ blankStore))
+  fresh-of r = exE 𝓤 _ (λ ws. snd∗ 𝓤 (sem 𝓤 H A (lasts fresh.ended tt zeros ws)) (fact 𝓤 (r ≡ blankStore)))
 
   parse-of : (κ : Lft) (s : RefT (List ℕ)) (r : Parsed) → ent 𝓤 (ensured 𝓤 H A parse.ended (parse.clauses 𝓤 H A at-mem run) (κ, tt) (s, tt) tt r) (fact 𝓤 (r ≡ parseOf (s .now)))
   parse-of κ s r = exE 𝓤 _ (λ ws. snd∗ 𝓤 (sem 𝓤 H A (lasts parse.ended (κ, tt) (s, tt) ws)) (fact 𝓤 (r ≡ parseOf (s .now))))
@@ -450,7 +450,7 @@ module _ {M : Type 1} (𝓤 : URA M) (H : Heap 𝓤) (A : Atoms 𝓤) (W : Given
         use0 W (raw (Fresh 𝓤 H A at-mem run .pre ((tt, tt, tt, zeros, zero-vals), tt))) goes-fresh $
         calls-at ! (fmOf 𝓤 H (W .laws) 𝓣) (Fresh 𝓤 H A at-mem run) (known .of-fresh) ((tt, tt, tt, zeros, zero-vals), tt) (and-then ! (lit ! tt) (and-then ! (lit ! tt) (and-then ! (lit ! tt) (no-more !)))) (λ v.
         use1 W (later (some (λ (h : Store). (‵ ftrue ⊛ ‵ (T.the-row .own h (v ∷ []))) ⊛ raw (ensured 𝓤 H A fresh.ended (fresh.clauses 𝓤 H A at-mem run) tt zeros tt h)))) (id⊢ 𝓤 _) $ await ! tt $ pick ! (λ h.
-        split ! $ move ! (1 ∷ []) $ use1 W (raw (fact 𝓤 (h ≡ freshOf 0 0 0))) (fresh-of 𝓤 H A at-mem run h) $ heard ! (h ≡ freshOf 0 0 0) (λ e. split ! $ drop ! $
+        split ! $ move ! (1 ∷ []) $ use1 W (raw (fact 𝓤 (h ≡ blankStore))) (fresh-of 𝓤 H A at-mem run h) $ heard ! (h ≡ blankStore) (λ e. split ! $ drop ! $
         peeks ! T.the-row (Is T.the-row) (shows 𝓤 H A T.the-row) h (v ∷ []) (λ is. rewrite ! 0 (λ (us : List Val). ‵ (T.the-row .own h us)) (LL.tells T.the-type T′.the-laws h (v ∷ []) is) refl $
         peeks ! T.the-row (Is T.the-row) (shows 𝓤 H A T.the-row) h (mach h ∷ []) (λ is₁. drop ! $
         land ! (from ! (stop !)) (init ! 13 refl (store-typed 𝓤 H A W (storeBy f) eS h v is)) $ rewrite ! 13 (λ (u : Val). ‵ (fat fullShare (storeBy f) l₉ 0 u)) (ap only (LL.tells T.the-type T′.the-laws h (v ∷ []) is)) refl $

@@ -44,7 +44,7 @@ loop-again : tie.Need-loop-again Inv-loop μ-loop
 loop-again c = (omega arith, lowest-more _ _ (c .before .before .before .before .loop .inv .1) (sym (c .before .enabled .ensures) ∙ c .if1 .left))
 
 returns-2 : tie.Need-returns-2 Inv-loop μ-loop
-returns-2 c = let e : c .before .loop .k ≡ c .before .before .args .t2 .n = omega arith in sym (rw e at (c .before .loop .inv .1))
+returns-2 c = let e : c .before .loop .k ≡ c .before .before .args .t2 .shape .n = omega arith in sym (rw e at (c .before .loop .inv .1))
 
 pub lowest-spec : {M : Type 1} → statement M
 lowest-spec =

@@ -31,8 +31,8 @@ loop-holds c = (omega arith, any-none _)
 
 returns-2 : tie.Need-returns-2 Inv-loop μ-loop
 unfolding quietOf
-returns-2 c = let h : length (c .before .before .before .before .before .args .t1 .lanes) ≡ 8 = simp length-map at (c .before .before .before .before .before .good .0 .1 .1 .1 .1 .1 .1 .0 .1 .0 .1) in
-    let z = active-past (c .before .before .before .before .before .args .t1) (c .before .before .loop .k) (c .before .before .before .before .before .args .t1 .n) (omega arith) (c .before .before .loop .inv .1) in
+returns-2 c = let h : length (c .before .before .before .before .before .args .t1 .lanes) ≡ 8 = simp length-map at (c .before .before .before .before .before .good .0 .1 .1 .1 .1 .0 .1 .0 .1) in
+    let z = active-past (c .before .before .before .before .before .args .t1) (c .before .before .loop .k) (c .before .before .before .before .before .args .t1 .shape .n) (omega arith) (c .before .before .loop .inv .1) in
     rw (quietOf, ← c .before .before .before .before .busy .ensures, c .before .before .before .if1 .left, z)
 
 cast-i : tie.Need-cast-i Inv-loop μ-loop
@@ -49,7 +49,7 @@ active-requires c κs = search needs
 
 returns-3 : tie.Need-returns-3 Inv-loop μ-loop
 unfolding quietOf
-returns-3 c = let h = any-true (λ i. activeOf (laneAt (c .before .before .before .before .before .before .before .before .args .t1) i)) (c .before .before .before .before .before .before .before .before .args .t1 .n) (c .before .before .before .before .before .loop .k) (sym (c .before .active .ensures) ∙ c .if3 .taken) (omega arith) in
+returns-3 c = let h = any-true (λ i. activeOf (laneAt (c .before .before .before .before .before .before .before .before .args .t1) i)) (c .before .before .before .before .before .before .before .before .args .t1 .shape .n) (c .before .before .before .before .before .loop .k) (sym (c .before .active .ensures) ∙ c .if3 .taken) (omega arith) in
     rw (quietOf, ← c .before .before .before .before .before .before .before .busy .ensures, c .before .before .before .before .before .before .if1 .left, h)
 
 add-k : tie.Need-add-k Inv-loop μ-loop
@@ -63,7 +63,7 @@ loop-again c = (omega arith, any-more _ _ (c .before .before .before .before .be
 
 returns-4 : tie.Need-returns-4 Inv-loop μ-loop
 unfolding quietOf
-returns-4 c = let e : c .before .loop .k ≡ c .before .before .before .before .args .t1 .n = omega arith in
+returns-4 c = let e : c .before .loop .k ≡ c .before .before .before .before .args .t1 .shape .n = omega arith in
     rw (quietOf, ← c .before .before .before .busy .ensures, c .before .before .if1 .left, rw e at (c .before .loop .inv .1))
 
 pub quiet-spec : {M : Type 1} → statement M
