@@ -17,7 +17,7 @@ use words::WordNo;
 fn begin(s: Store, k: LaneNo, op: Op, w: WordNo) -> Outcome
     ensures { λ r. ⌜ r ≡ beginOf s k op w ⌝ }
 {
-    if checks::corrupt(s) {
+    if corruption::corrupt(s) {
         return steps::refused(Refusal::Corrupt, s);
     }
     steps::begin_sound(s, k, op, w)
@@ -55,7 +55,7 @@ pub fn add(s: Store, k: LaneNo, w: WordNo, v: u32) -> Outcome
 pub fn serve(s: Store, k: LaneNo) -> Outcome
     ensures { λ r. ⌜ r ≡ serveOf s k ⌝ }
 {
-    if checks::corrupt(s) {
+    if corruption::corrupt(s) {
         return steps::refused(Refusal::Corrupt, s);
     }
     steps::serve_sound(s, k)
@@ -65,7 +65,7 @@ pub fn serve(s: Store, k: LaneNo) -> Outcome
 pub fn return_head(s: Store, k: LaneNo) -> Outcome
     ensures { λ r. ⌜ r ≡ returnOf s k ⌝ }
 {
-    if checks::corrupt(s) {
+    if corruption::corrupt(s) {
         return steps::refused(Refusal::Corrupt, s);
     }
     steps::return_sound(s, k)
@@ -75,7 +75,7 @@ pub fn return_head(s: Store, k: LaneNo) -> Outcome
 pub fn deliver(s: Store, k: LaneNo) -> Outcome
     ensures { λ r. ⌜ r ≡ deliverOf s k ⌝ }
 {
-    if checks::corrupt(s) {
+    if corruption::corrupt(s) {
         return steps::refused(Refusal::Corrupt, s);
     }
     steps::deliver_sound(s, k)

@@ -139,7 +139,7 @@ fn write_lanes(buffer: &mut [u8], s: Store) -> usize
 pub fn picture(s: Store, buffer: &mut [u8]) -> Filled
     ensures { λ r. ⌜ (r ≡ pictureOf s (now (buffer .entry)) .answer) × (now (buffer .exit) ≡ pictureOf s (now (buffer .entry)) .buffer) ⌝ }
 {
-    if checks::corrupt(s) {
+    if corruption::corrupt(s) {
         return Filled::Refused(Refusal::Corrupt);
     }
     let lines = valid_lines(s);

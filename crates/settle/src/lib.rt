@@ -191,7 +191,7 @@ fn settle_sound(first: Store) -> SettleOutcome
 pub fn settle(s: Store) -> SettleOutcome
     ensures { λ r. ⌜ (r ≡ outcomeOf (settleOf s)) × CountWithin (boundOf s) (r .answer) ⌝ }
 {
-    if checks::corrupt(s) {
+    if corruption::corrupt(s) {
         return refuse(Refusal::Corrupt, s);
     }
     settle_sound(s)
