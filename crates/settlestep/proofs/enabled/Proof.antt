@@ -1,7 +1,7 @@
--- `settle::enabled` meets its contract. Assumes nothing.
+-- `settlestep::enabled` meets its contract. Assumes nothing.
 use borrow.Author.Needs.{needs}
-use Rattle.settle.proofs.enabled.Statement.{statement}
-use Rattle.settle.proofs.enabled.Tie as tie
+use Rattle.settlestep.proofs.enabled.Statement.{statement}
+use Rattle.settlestep.proofs.enabled.Tie as tie
 
 enum-told : tie.Need-enum-told
 enum-told c = search needs

@@ -1,7 +1,7 @@
--- `settle::take_step` meets its contract. Assumes nothing.
+-- `settlestep::take_step` meets its contract. Assumes nothing.
 use borrow.Author.Needs.{needs}
-use Rattle.settle.proofs.take_step.Statement.{statement}
-use Rattle.settle.proofs.take_step.Tie as tie
+use Rattle.settlestep.proofs.take_step.Statement.{statement}
+use Rattle.settlestep.proofs.take_step.Tie as tie
 
 enum-told : tie.Need-enum-told
 enum-told c = search needs

@@ -1,10 +1,10 @@
--- `settle::step` meets its contract. Assumes nothing.
+-- `settlestep::step` meets its contract. Assumes nothing.
 use borrow.Author.Tests.{lt-ltb, le-ltb}
 use Rattle.machine.specs.Settle.{settleStep}
 use Rattle.machine.proofs.Sound.{sound}
 use borrow.Author.Needs.{needs}
-use Rattle.settle.proofs.step.Statement.{statement}
-use Rattle.settle.proofs.step.Tie as tie
+use Rattle.settlestep.proofs.step.Statement.{statement}
+use Rattle.settlestep.proofs.step.Tie as tie
 
 lowest-requires : tie.Need-lowest-requires
 lowest-requires c κs = sound _ (c .pre) .n-high

@@ -1,14 +1,14 @@
--- `settle::lowest` meets its contract. Assumes nothing.
+-- `settlestep::lowest` meets its contract. Assumes nothing.
 use borrow.Author.Needs.{needs}
 use Prim.Native.Nat.{_≤_, _-_}
 use native.Mathlib.Omega.{arith}
 use mathlib.Core.Path.{_≡_, sym, _∙_}
 use Rattle.words.specs.Folds.{lowestTo}
 use Rattle.store.specs.Quiet.{laneAt}
-use Rattle.settle.specs.Settles.{enabledOf}
-use Rattle.settle.proofs.Searches.{lowest-none, lowest-more, lowest-at}
-use Rattle.settle.proofs.lowest.Statement.{statement}
-use Rattle.settle.proofs.lowest.Tie as tie
+use Rattle.settlestep.specs.Kinds.{enabledOf}
+use Rattle.settlestep.proofs.Searches.{lowest-none, lowest-more, lowest-at}
+use Rattle.settlestep.proofs.lowest.Statement.{statement}
+use Rattle.settlestep.proofs.lowest.Tie as tie
 
 abbrev Inv-loop : tie.InvT-loop
 Inv-loop x s n k₀ k = (k ≤ n) × (lowestTo (λ i. enabledOf x (laneAt s i)) k ≡ k)
