@@ -97,7 +97,7 @@ pub fn corrupt(s: Store) -> bool
     let n = s.n;
     let c = s.c;
     let m = s.m;
-    if store::bad_shape(n, c, m) {
+    if opening::bad_shape(n, c, m) {
         return true;
     }
     let x = s.control;

@@ -16,10 +16,10 @@ fn open_record(s: Store, n: u8, c: u8, m: u8) -> Outcome
     ensures { λ r. ⌜ r ≡ openRecord s n c m ⌝ }
 {
     if s.n == 0 {
-        if store::bad_shape(n, c, m) {
+        if opening::bad_shape(n, c, m) {
             return steps::refused(Refusal::InvalidShape, s);
         }
-        let t = store::fresh(n, c, m);
+        let t = opening::fresh(n, c, m);
         return Outcome {
             answer: Answer::Opened,
             store: t,

@@ -1,8 +1,8 @@
--- `store::fresh` meets its contract. Assumes nothing.
+-- `opening::fresh` meets its contract. Assumes nothing.
 use Rattle.store.specs.Opening.{freshOf}
 use borrow.Author.Needs.{needs}
-use Rattle.store.proofs.fresh.Statement.{statement}
-use Rattle.store.proofs.fresh.Tie as tie
+use Rattle.opening.proofs.fresh.Statement.{statement}
+use Rattle.opening.proofs.fresh.Tie as tie
 
 blank-lane-requires : tie.Need-blank-lane-requires
 blank-lane-requires c κs = search needs

@@ -1,4 +1,4 @@
--- `store::quiet` meets its contract. Assumes nothing.
+-- `quiet::quiet` meets its contract. Assumes nothing.
 use borrow.Author.Needs.{needs}
 use Prim.Native.Nat.{_≤_, _-_}
 use native.Mathlib.Omega.{arith}
@@ -7,10 +7,10 @@ use mathlib.Core.Path.{_≡_, sym, _∙_}
 use lib.ListN.{length, length-map}
 use Rattle.words.specs.Folds.{anyTo}
 use Rattle.words.proofs.Folds.{any-none, any-more, any-true}
 use Rattle.store.specs.Quiet.{laneAt, activeOf, quietOf}
-use Rattle.store.proofs.Quieting.{active-past}
-use Rattle.store.proofs.quiet.Statement.{statement}
-use Rattle.store.proofs.quiet.Tie as tie
+use Rattle.quiet.proofs.Quieting.{active-past}
+use Rattle.quiet.proofs.quiet.Statement.{statement}
+use Rattle.quiet.proofs.quiet.Tie as tie
 
 abbrev Inv-loop : tie.InvT-loop
 Inv-loop s n k₀ k = (k ≤ n) × (anyTo (λ i. activeOf (laneAt s i)) k ≡ false)

@@ -1,8 +1,8 @@
--- `store::blank_lane` meets its contract. Assumes nothing.
+-- `opening::blank_lane` meets its contract. Assumes nothing.
 use Rattle.store.specs.Opening.{blankLane}
 use borrow.Author.Needs.{needs}
-use Rattle.store.proofs.blank_lane.Statement.{statement}
-use Rattle.store.proofs.blank_lane.Tie as tie
+use Rattle.opening.proofs.blank_lane.Statement.{statement}
+use Rattle.opening.proofs.blank_lane.Tie as tie
 
 blank-line-requires : tie.Need-blank-line-requires
 blank-line-requires c κs = search needs

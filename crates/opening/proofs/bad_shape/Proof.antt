@@ -1,9 +1,9 @@
--- `store::bad_shape` meets its contract. Assumes nothing.
+-- `opening::bad_shape` meets its contract. Assumes nothing.
 use borrow.Author.Tests.{lt-ltb, le-ltb}
 use Rattle.words.specs.Folds.{anyOf}
 use Rattle.store.specs.Opening.{badShape}
-use Rattle.store.proofs.bad_shape.Statement.{statement}
-use Rattle.store.proofs.bad_shape.Tie as tie
+use Rattle.opening.proofs.bad_shape.Statement.{statement}
+use Rattle.opening.proofs.bad_shape.Tie as tie
 
 returns : tie.Need-returns
 unfolding badShape anyOf

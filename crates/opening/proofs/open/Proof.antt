@@ -1,8 +1,8 @@
--- `store::open` meets its contract. Assumes nothing.
+-- `opening::open` meets its contract. Assumes nothing.
 use Rattle.store.specs.Opening.{openOf}
 use borrow.Author.Needs.{needs}
-use Rattle.store.proofs.open.Statement.{statement}
-use Rattle.store.proofs.open.Tie as tie
+use Rattle.opening.proofs.open.Statement.{statement}
+use Rattle.opening.proofs.open.Tie as tie
 
 bad-shape-requires : tie.Need-bad-shape-requires
 bad-shape-requires c κs = search needs

@@ -1,9 +1,9 @@
--- `store::active` meets its contract. Assumes nothing.
+-- `quiet::active` meets its contract. Assumes nothing.
 use borrow.Author.Tests.{lt-ltb, le-ltb}
 use Rattle.store.specs.Quiet.{activeOf}
 use borrow.Author.Needs.{needs}
-use Rattle.store.proofs.active.Statement.{statement}
-use Rattle.store.proofs.active.Tie as tie
+use Rattle.quiet.proofs.active.Statement.{statement}
+use Rattle.quiet.proofs.active.Tie as tie
 
 idle-requires : tie.Need-idle-requires
 idle-requires c κs = search needs
