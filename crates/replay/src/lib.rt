@@ -5,7 +5,7 @@ ghost use Prim.Native.Nat.{_≤_};
 ghost use lib.ListN.{length};
 ghost use Rattle.machine.specs.Tape.{recordOf};
 ghost use Rattle.machine.specs.Text.{tapeMost, textMost, printed, printOf};
-ghost use Rattle.text.specs.Written.{written};
+ghost use Rattle.buffers.specs.Written.{written};
 ghost use Rattle.tape.specs.Steady.{Steady};
 use answers::Answer;
 use answers::Refusal;

@@ -61,7 +61,7 @@ use Rattle.store.specs.declared.Store.{Store}
 use Rattle.store.specs.Opening.{freshOf}
 use Rattle.machine.specs.Tape.{recordOf}
 use Rattle.machine.specs.Text.{lineText, endText, tapeMost, textMost, printed}
-use Rattle.text.specs.Written.{written}
+use Rattle.buffers.specs.Written.{written}
 use Rattle.tape.specs.Steady.{Steady}
 use Rattle.records.proofs.Record as R
 use Rattle.records.proofs.Record.Laws as R′

@@ -1,9 +1,9 @@
--- `text::put4` meets its contract. Assumes nothing.
+-- `buffers::put4` meets its contract. Assumes nothing.
 use native.Mathlib.Omega.{arith}
-use Rattle.text.proofs.Writing.{wrote-then}
+use Rattle.buffers.proofs.Writing.{wrote-then}
 use borrow.Author.Needs.{needs}
-use Rattle.text.proofs.put4.Statement.{statement}
-use Rattle.text.proofs.put4.Tie as tie
+use Rattle.buffers.proofs.put4.Statement.{statement}
+use Rattle.buffers.proofs.put4.Tie as tie
 
 put-requires : tie.Need-put-requires
 put-requires c κs = search needs

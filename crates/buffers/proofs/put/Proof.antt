@@ -1,8 +1,8 @@
--- `text::put` meets its contract. Assumes nothing.
-use Rattle.text.proofs.Writing.{written-one}
+-- `buffers::put` meets its contract. Assumes nothing.
+use Rattle.buffers.proofs.Writing.{written-one}
 use borrow.Author.Needs.{needs}
-use Rattle.text.proofs.put.Statement.{statement}
-use Rattle.text.proofs.put.Tie as tie
+use Rattle.buffers.proofs.put.Statement.{statement}
+use Rattle.buffers.proofs.put.Tie as tie
 
 slice-write-out : tie.Need-slice-write-out
 slice-write-out c = search needs

@@ -1,18 +1,18 @@
--- `text::decimal_in` meets its contract. Assumes nothing.
+-- `decimals::decimal_in` meets its contract. Assumes nothing.
 use native.Mathlib.Omega.{arith}
 use borrow.Author.Needs.{needs}
 use Rattle.machine.proofs.Lengths.{decimal-fits}
-use Rattle.text.proofs.Writing.{written-none, wrote-then}
-use Rattle.text.proofs.Decimals.{decimal-none, decimal-one, decimal-more}
+use Rattle.buffers.proofs.Writing.{written-none, wrote-then}
+use Rattle.decimals.proofs.Decimals.{decimal-none, decimal-one, decimal-more}
 use Prim.Native.Nat.{ℕ, _<_, _-_, _/_}
 use borrow.Fn.Kinds.{In}
 use borrow.Fn.PlainCycle.{Measures, is, falls, and}
-use Rattle.text.proofs.decimal_in.Reads as decimal-in
-use Rattle.text.proofs.decimal_in.Kinds as decimal-in-kinds
-use Rattle.text.proofs.+decimal_in.Lts-decimal_in as decimal-in-lts
-use Rattle.text.proofs.put.Reads as put-reads
-use Rattle.text.proofs.+decimal_in.{statement}
-use Rattle.text.proofs.+decimal_in.Tie.{close}
+use Rattle.decimals.proofs.decimal_in.Reads as decimal-in
+use Rattle.decimals.proofs.decimal_in.Kinds as decimal-in-kinds
+use Rattle.decimals.proofs.+decimal_in.Lts-decimal_in as decimal-in-lts
+use Rattle.buffers.proofs.put.Reads as put-reads
+use Rattle.decimals.proofs.+decimal_in.{statement}
+use Rattle.decimals.proofs.+decimal_in.Tie.{close}
 
 abbrev μ-decimal-in : Measures 1 decimal-in-kinds.ps ℕ
 μ-decimal-in κs a = a .1 .1 .0

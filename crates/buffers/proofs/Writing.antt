@@ -6,7 +6,7 @@ use mathlib.Core.Path.{_≡_, sym, _∙_}
 use mathlib.Core.List.{List, [], _∷_, _++_, append-assoc}
 use lib.ListN.{length, take, drop, set, length-append, length-take, length-drop, take-append-drop}
 use lib.Seq.{set-split, take-at, drop-append-add, drop-drop}
-use Rattle.text.specs.Written.{written}
+use Rattle.buffers.specs.Written.{written}
 
 -- nothing is written
 pub written-none : (xs : List ℕ) (at : ℕ) → xs ≡ written xs at []
