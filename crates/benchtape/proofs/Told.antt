@@ -10,8 +10,8 @@ use Rattle.machine.specs.declared.Filled.the-variants.{Length, Refused}
 use Rattle.machine.specs.Fill.{Filling}
 use Rattle.machine.specs.Text.{textMost, printed, printOf}
 use Rattle.machine.proofs.Lengths.{text-fits}
-use Rattle.text.specs.Written.{written}
-use Rattle.text.proofs.Writing.{written-length}
+use Rattle.buffers.specs.Written.{written}
+use Rattle.buffers.proofs.Writing.{written-length}
 use Rattle.replay.proofs.Prints.{print-fits}
 
 module _ (tape out : List ℕ) {r : Filled} {after : List ℕ} (room : textMost ≤ length out) (told : (r ≡ printOf tape out .answer) × (after ≡ printOf tape out .buffer)) where

@@ -68,7 +68,7 @@ fn answer(s: Store, bytes: &[u8]) -> Store
 {
     let kind = bytes[0];
     if kind == OPEN {
-        let o = store::open(bytes[1], bytes[2], bytes[3]);
+        let o = opening::open(bytes[1], bytes[2], bytes[3]);
         return told(o);
     }
     if kind == SETTLE {
@@ -104,7 +104,7 @@ fn next(s: Store) -> Turn {
 
 // The first opening stands in the input; before it the store is the blank one.
 fn main() {
-    let o = store::open(0, 0, 0);
+    let o = opening::open(0, 0, 0);
     let mut s = o.store;
     let mut more = true;
     let mut turns: u32 = 0;

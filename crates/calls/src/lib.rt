@@ -1,7 +1,6 @@
-// The calls open to others: load, store, exchange, add, serve, return, deliver. None has a requires; each is an equation with document
-// 01's machine, refusals too.
+// The calls on any store: begin, serve, return, deliver. None has a requires; each is an equation with document 01's machine,
+// refusals too. `begin` is for `operations`; the others are open to others.
 ghost use mathlib.Core.Path.{_≡_};
-ghost use Rattle.words.specs.declared.Op.the-variants as Op;
 ghost use Rattle.machine.specs.Begin.{beginOf};
 ghost use Rattle.machine.specs.Serve.{serveOf};
 ghost use Rattle.machine.specs.Return.{returnOf};
@@ -14,48 +13,20 @@ use words::Op;
 use words::WordNo;
 
 // A begin call on any store.
-fn begin(s: Store, k: LaneNo, op: Op, w: WordNo) -> Outcome
+pub fn begin(s: Store, k: LaneNo, op: Op, w: WordNo) -> Outcome
     ensures { λ r. ⌜ r ≡ beginOf s k op w ⌝ }
 {
-    if checks::corrupt(s) {
+    if corruption::corrupt(s) {
         return steps::refused(Refusal::Corrupt, s);
     }
     steps::begin_sound(s, k, op, w)
-}
-
-// Load.
-pub fn load(s: Store, k: LaneNo, w: WordNo) -> Outcome
-    ensures { λ r. ⌜ r ≡ beginOf s k Op.Load w ⌝ }
-{
-    begin(s, k, Op::Load, w)
-}
-
-// Store v.
-pub fn store_value(s: Store, k: LaneNo, w: WordNo, v: u32) -> Outcome
-    ensures { λ r. ⌜ r ≡ beginOf s k (Op.Store v) w ⌝ }
-{
-    begin(s, k, Op::Store(v), w)
-}
-
-// Exchange v.
-pub fn exchange(s: Store, k: LaneNo, w: WordNo, v: u32) -> Outcome
-    ensures { λ r. ⌜ r ≡ beginOf s k (Op.Exchange v) w ⌝ }
-{
-    begin(s, k, Op::Exchange(v), w)
-}
-
-// Add v.
-pub fn add(s: Store, k: LaneNo, w: WordNo, v: u32) -> Outcome
-    ensures { λ r. ⌜ r ≡ beginOf s k (Op.Add v) w ⌝ }
-{
-    begin(s, k, Op::Add(v), w)
 }
 
 // Serve k.
 pub fn serve(s: Store, k: LaneNo) -> Outcome
     ensures { λ r. ⌜ r ≡ serveOf s k ⌝ }
 {
-    if checks::corrupt(s) {
+    if corruption::corrupt(s) {
         return steps::refused(Refusal::Corrupt, s);
     }
     steps::serve_sound(s, k)
@@ -65,7 +36,7 @@ pub fn serve(s: Store, k: LaneNo) -> Outcome
 pub fn return_head(s: Store, k: LaneNo) -> Outcome
     ensures { λ r. ⌜ r ≡ returnOf s k ⌝ }
 {
-    if checks::corrupt(s) {
+    if corruption::corrupt(s) {
         return steps::refused(Refusal::Corrupt, s);
     }
     steps::return_sound(s, k)
@@ -75,7 +46,7 @@ pub fn return_head(s: Store, k: LaneNo) -> Outcome
 pub fn deliver(s: Store, k: LaneNo) -> Outcome
     ensures { λ r. ⌜ r ≡ deliverOf s k ⌝ }
 {
-    if checks::corrupt(s) {
+    if corruption::corrupt(s) {
         return steps::refused(Refusal::Corrupt, s);
     }
     steps::deliver_sound(s, k)

@@ -10,8 +10,8 @@ use Rattle.store.specs.declared.Store.{Store}
 use Rattle.machine.specs.declared.Filled.the-variants.{Length, Refused}
 use Rattle.machine.specs.Corruption.{corruptOf}
 use Rattle.machine.specs.Picture.{pictureBytes, pictureOf}
-use Rattle.text.specs.Written.{written}
-use Rattle.text.proofs.Writing.{written-front}
+use Rattle.buffers.specs.Written.{written}
+use Rattle.buffers.proofs.Writing.{written-front}
 
 -- 14
 pub picture-corrupt : (s : Store) (b : List ℕ) → corruptOf s ≡ true → pictureOf s b ≡ record { answer = Refused Corrupt; buffer = b }

@@ -17,8 +17,8 @@ use Rattle.lanes.specs.declared.Lane.{Lane}
 use Rattle.store.specs.declared.Store.{Store}
 use Rattle.store.specs.Stores.{laneAt}
 use Rattle.machine.specs.Picture.{recordBytes, pictureBytes}
-use Rattle.text.specs.Written.{written}
-use Rattle.text.proofs.Writing.{written-length, Wrote, wrote-then}
+use Rattle.buffers.specs.Written.{written}
+use Rattle.buffers.proofs.Writing.{written-length, Wrote, wrote-then}
 use Rattle.picture.specs.Records.{lineRecord, laneRecords, recordsAt, validIn, validAt, validOf}
 
 -- gathering: none, one more, and a part is no longer than the whole

@@ -4,7 +4,7 @@ ghost use mathlib.Core.Path.{_≡_};
 ghost use mathlib.Core.Bool.{cond};
 ghost use Prim.Native.Nat.{_+_, _≤_};
 ghost use lib.ListN.{length};
-ghost use Rattle.text.specs.Written.{written};
+ghost use Rattle.buffers.specs.Written.{written};
 ghost use Rattle.machine.specs.Picture.{wordBytes, recordBytes, pictureBytes, pictureOf};
 ghost use Rattle.picture.specs.Records.{lineRecord, laneRecords, validIn, validOf};
 use answers::Refusal;
@@ -72,7 +72,7 @@ fn write_word(part: &mut [u8], at: usize, x: u32) -> usize
     let b = (x / 256 % 256) as u8;
     let c = (x / 65536 % 256) as u8;
     let d = (x / 16777216 % 256) as u8;
-    text::put4(part, at, a, b, c, d)
+    buffers::put4(part, at, a, b, c, d)
 }
 
 // A record, from the start of a part of the buffer on.
@@ -80,7 +80,7 @@ fn write_record(part: &mut [u8], k: LaneNo, x: Line)
     requires { ⌜ 19 ≤ length (now part) ⌝ }
     ensures { λ _. ⌜ now (part .exit) ≡ written (now (part .entry)) 0 (recordBytes (k .0) x) ⌝ }
 {
-    let first = text::put3(part, 0, 16, k.0, x.block.0);
+    let first = buffers::put3(part, 0, 16, k.0, x.block.0);
     let second = write_word(part, first, x.words[0]);
     let third = write_word(part, second, x.words[1]);
     let fourth = write_word(part, third, x.words[2]);
@@ -139,7 +139,7 @@ fn write_lanes(buffer: &mut [u8], s: Store) -> usize
 pub fn picture(s: Store, buffer: &mut [u8]) -> Filled
     ensures { λ r. ⌜ (r ≡ pictureOf s (now (buffer .entry)) .answer) × (now (buffer .exit) ≡ pictureOf s (now (buffer .entry)) .buffer) ⌝ }
 {
-    if checks::corrupt(s) {
+    if corruption::corrupt(s) {
         return Filled::Refused(Refusal::Corrupt);
     }
     let lines = valid_lines(s);

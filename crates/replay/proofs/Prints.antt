@@ -8,8 +8,8 @@ use Rattle.answers.specs.declared.Refusal.the-variants.{TapeTooLong, BufferTooS
 use Rattle.machine.specs.declared.Filled.the-variants.{Length}
 use Rattle.machine.specs.Fill.{unwritten}
 use Rattle.machine.specs.Text.{refusedText, tapeMost, textMost, printed, printOf}
-use Rattle.text.specs.Written.{written}
-use Rattle.text.proofs.Writing.{written-front}
+use Rattle.buffers.specs.Written.{written}
+use Rattle.buffers.proofs.Writing.{written-front}
 
 module _ (tape out : List ℕ) where
   -- a buffer that may not hold the longest text

@@ -18,8 +18,8 @@ use Rattle.store.proofs.Store as T
 use Rattle.machine.specs.Tape.{recordOf, replayFrom, replayOf}
 use Rattle.machine.specs.Text.{lineText, linesText, endText, tapeMost, textMost, printed}
 use Rattle.machine.proofs.Lengths.{replay-none, text-fits}
-use Rattle.text.specs.Written.{written}
-use Rattle.text.proofs.Writing.{written-then}
+use Rattle.buffers.specs.Written.{written}
+use Rattle.buffers.proofs.Writing.{written-then}
 use Rattle.tape.proofs.Steady.{Tapes, blank-tapes, record-after}
 use Rattle.records.proofs.Parsing.{Takes}
 use Rattle.replay.proofs.Types.{mach}

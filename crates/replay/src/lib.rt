@@ -5,7 +5,7 @@ ghost use Prim.Native.Nat.{_≤_};
 ghost use lib.ListN.{length};
 ghost use Rattle.machine.specs.Tape.{recordOf};
 ghost use Rattle.machine.specs.Text.{tapeMost, textMost, printed, printOf};
-ghost use Rattle.text.specs.Written.{written};
+ghost use Rattle.buffers.specs.Written.{written};
 ghost use Rattle.tape.specs.Steady.{Steady};
 use answers::Answer;
 use answers::Refusal;
@@ -35,7 +35,7 @@ fn print_records(tape: &[u8], out: &mut [u8]) -> usize
     requires { ⌜ (length (now tape) ≤ tapeMost) × (textMost ≤ length (now out)) ⌝ }
     ensures { λ r. ⌜ (r ≡ length (printed (now (tape .entry)))) × (now (out .exit) ≡ written (now (out .entry)) 0 (printed (now (tape .entry)))) ⌝ }
 {
-    let mut store = store::fresh(0, 0, 0);
+    let mut store = opening::fresh(0, 0, 0);
     let mut at: usize = 0;
     let mut index: u32 = 0;
     let mut filled: usize = 0;

@@ -79,10 +79,10 @@ pub fn settle_reply(a: Settled, listed: u8) -> Reply {
 // What a call gives that is no picture and no settle.
 pub fn called(s: Store, kind: u8, k: LaneNo, w: WordNo, v: u32) -> Outcome {
     match kind {
-        LOAD => calls::load(s, k, w),
-        STORE => calls::store_value(s, k, w, v),
-        EXCHANGE => calls::exchange(s, k, w, v),
-        ADD => calls::add(s, k, w, v),
+        LOAD => operations::load(s, k, w),
+        STORE => operations::store_value(s, k, w, v),
+        EXCHANGE => operations::exchange(s, k, w, v),
+        ADD => operations::add(s, k, w, v),
         SERVE => calls::serve(s, k),
         RETURN => calls::return_head(s, k),
         _ => calls::deliver(s, k),

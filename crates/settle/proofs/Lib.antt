@@ -1,3 +1,2 @@
-pub mod Searches
 pub mod Arrays
 pub mod Going

@@ -1,30 +1,18 @@
 -- How settle's code gives what 01 says of it, and what its parts compute. Assumes nothing.
 use Prim.Native.Nat.{ℕ, _+_, _-_, _≤_}
-use mathlib.Core.Bool.{Bool}
 use mathlib.Core.List.{List, _++_}
-use lib.Dec.{ltb}
 use lib.ListN.{length, set, replicate}
-use Rattle.words.specs.declared.LaneNo.{LaneNo}
-use Rattle.lanes.specs.declared.Lane.{Lane}
-use Rattle.lanes.specs.Waits.{unservedOf}
 use Rattle.answers.specs.declared.Answer.{Answer}
 use Rattle.answers.specs.declared.Answer.the-variants.{Opened, Done, Wait, Step}
 use Rattle.answers.specs.declared.Completion.{Completion}
 use Rattle.answers.specs.declared.Refusal.{Refusal}
 use Rattle.answers.specs.declared.Refusal.the-variants.{Unexpected}
 use Rattle.answers.specs.Completions.{completionOf}
-use Rattle.store.specs.declared.Store.{Store}
-use Rattle.store.specs.declared.Outcome.{Outcome}
 use Rattle.machine.specs.declared.Settled.{Settled}
 use Rattle.machine.specs.declared.Settled.the-variants.{Steps}
-use Rattle.machine.specs.Serve.{serveOf}
-use Rattle.machine.specs.Return.{returnOf}
-use Rattle.machine.specs.Deliver.{deliverOf}
 use Rattle.machine.specs.Settle.{Settlement}
 use Rattle.settle.specs.declared.Completions.{Completions}
 use Rattle.settle.specs.declared.SettleOutcome.{SettleOutcome}
-use Rattle.settle.specs.declared.StepKind.{StepKind}
-use Rattle.settle.specs.declared.StepKind.the-variants.{Deliver, Return, Serve}
 
 -- the 8 places of the completions: the completions in order, then that of lane 0 with value 0 in each place that is not used
 abbrev pub padded : List Completion → List Completion
@@ -42,18 +30,6 @@ outcomeOf r = record { answer = r .answer; completions = arrayOf (r .completions
 abbrev pub CountWithin : ℕ → Settled → Type 0
 CountWithin most (Steps count) = count ≤ most
 CountWithin most (Settled.Refused r) = Unit {0}
-
--- whether a lane has something for the step: a filled down queue, a filled return queue, an unserved operation
-abbrev pub enabledOf : StepKind → Lane → Bool
-enabledOf Deliver l = ltb 0 (l .downs .len)
-enabledOf Return l = ltb 0 (l .returns .len)
-enabledOf Serve l = unservedOf (l .waiting)
-
--- the step on lane k
-abbrev pub stepOf : StepKind → Store → LaneNo → Outcome
-stepOf Deliver s k = deliverOf s k
-stepOf Return s k = returnOf s k
-stepOf Serve s k = serveOf s k
 
 -- the completion of an answer, if it has one, behind the others
 abbrev pub listedOf : Completions → Answer → Completions

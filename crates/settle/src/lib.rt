@@ -5,17 +5,13 @@ ghost use mathlib.Core.Bool.{false};
 ghost use mathlib.Core.List.{[]};
 ghost use Prim.Native.Nat.{_+_, _≤_};
 ghost use lib.ListN.{length};
-ghost use Rattle.words.specs.Folds.{lowestTo};
-ghost use Rattle.store.specs.Stores.{laneAt};
 ghost use Rattle.machine.specs.Corruption.{corruptOf};
-ghost use Rattle.machine.specs.Settle.{settleStep, settleOf, boundOf, doneIn, refuseSettle};
-ghost use Rattle.settle.specs.Settles.{arrayOf, outcomeOf, CountWithin, enabledOf, stepOf, listedOf, refusalOf};
+ghost use Rattle.machine.specs.Settle.{settleOf, boundOf, doneIn, refuseSettle};
+ghost use Rattle.settle.specs.Settles.{arrayOf, outcomeOf, CountWithin, listedOf, refusalOf};
 use answers::Answer;
 use answers::Completion;
 use answers::Refusal;
-use lanes::Lane;
 use machine::Settled;
-use store::Outcome;
 use store::Store;
 use words::LaneNo;
 
@@ -31,13 +27,6 @@ pub struct SettleOutcome {
     pub answer: Settled,
     pub completions: Completions,
     pub store: Store,
-}
-
-// The three steps that settle repeats, in the order in which it tries them.
-enum StepKind {
-    Deliver,
-    Return,
-    Serve,
 }
 
 // No completion so far.
@@ -93,71 +82,6 @@ fn refuse(r: Refusal, s: Store) -> SettleOutcome
     }
 }
 
-// Whether a lane has something for the step.
-fn enabled(x: StepKind, l: Lane) -> bool
-    ensures { λ r. ⌜ r ≡ enabledOf x l ⌝ }
-{
-    match x {
-        StepKind::Deliver => 0 < l.downs.len,
-        StepKind::Return => 0 < l.returns.len,
-        StepKind::Serve => {
-            let w = l.waiting;
-            w.unserved()
-        }
-    }
-}
-
-// The lowest lane that has something for the step, or n.
-fn lowest(x: StepKind, s: Store) -> u8
-    requires { ⌜ s .shape .n ≤ 8 ⌝ }
-    ensures { λ r. ⌜ r ≡ lowestTo (λ k. enabledOf x (laneAt s k)) (s .shape .n) ⌝ }
-{
-    let n = s.shape.n;
-    let mut k: u8 = 0;
-    while k < n {
-        let i = k as usize;
-        let l = s.lanes[i];
-        if enabled(x, l) {
-            return k;
-        }
-        k += 1;
-    }
-    n
-}
-
-// The step on lane k.
-fn take_step(x: StepKind, s: Store, k: LaneNo) -> Outcome
-    requires { ⌜ corruptOf s ≡ false ⌝ }
-    ensures { λ r. ⌜ r ≡ stepOf x s k ⌝ }
-{
-    match x {
-        StepKind::Deliver => steps::deliver_sound(s, k),
-        StepKind::Return => steps::return_sound(s, k),
-        StepKind::Serve => steps::serve_sound(s, k),
-    }
-}
-
-// The next step: deliver, else return, else serve, at the lowest lane; 16 where there is none of these.
-fn step(s: Store) -> Outcome
-    requires { ⌜ corruptOf s ≡ false ⌝ }
-    ensures { λ r. ⌜ r ≡ settleStep s ⌝ }
-{
-    let n = s.shape.n;
-    let d = lowest(StepKind::Deliver, s);
-    if d < n {
-        return take_step(StepKind::Deliver, s, LaneNo(d));
-    }
-    let r = lowest(StepKind::Return, s);
-    if r < n {
-        return take_step(StepKind::Return, s, LaneNo(r));
-    }
-    let u = lowest(StepKind::Serve, s);
-    if u < n {
-        return take_step(StepKind::Serve, s, LaneNo(u));
-    }
-    steps::refused(Refusal::Unexpected, s)
-}
-
 // Settle of a store that is not corrupt.
 fn settle_sound(first: Store) -> SettleOutcome
     requires { ⌜ corruptOf first ≡ false ⌝ }
@@ -166,8 +90,8 @@ fn settle_sound(first: Store) -> SettleOutcome
     let mut s = first;
     let mut done = none();
     let mut count: u8 = 0;
-    while !store::quiet(s) {
-        let r = step(s);
+    while !quiet::quiet(s) {
+        let r = settlestep::step(s);
         let a = r.answer;
         if a.refused() {
             let x = refusal(a);
@@ -191,7 +115,7 @@ fn settle_sound(first: Store) -> SettleOutcome
 pub fn settle(s: Store) -> SettleOutcome
     ensures { λ r. ⌜ (r ≡ outcomeOf (settleOf s)) × CountWithin (boundOf s) (r .answer) ⌝ }
 {
-    if checks::corrupt(s) {
+    if corruption::corrupt(s) {
         return refuse(Refusal::Corrupt, s);
     }
     settle_sound(s)

@@ -23,7 +23,7 @@ use Rattle.store.specs.Stores.{laneAt}
 use Rattle.machine.specs.declared.Ready.the-variants.{Go, No}
 use Rattle.machine.specs.Corruption.{corruptOf}
 use Rattle.machine.specs.Serve.{readyWith, readyOf}
-use Rattle.memory.specs.Bounds.{laneBelow}
+use Rattle.returning.specs.Bounds.{laneBelow}
 use Rattle.machine.proofs.Sound.{ControlSound, sound}
 
 no-go : {r : Refusal} {o : Operation} → No r ≡ Go o → ⊥

@@ -71,13 +71,13 @@ pub fn serve_sound(s: Store, k: LaneNo) -> Outcome
     let i = k.0 as usize;
     let l = s.lanes[i];
     let x = s.control;
-    match memory::check_ready(l, x) {
+    match serving::check_ready(l, x) {
         Ready::No(r) => refused(r, s),
         Ready::Go(o) => {
             let a = o.word.block();
             let j = a.0 as usize;
             let b = s.blocks[j];
-            let v = memory::serve_move(l, b, x, k, o);
+            let v = serving::serve_move(l, b, x, k, o);
             commit::commit_move(s, k, a, v)
         }
     }
@@ -103,7 +103,7 @@ pub fn return_sound(s: Store, k: LaneNo) -> Outcome
     let j = a.0 as usize;
     let b = s.blocks[j];
     let x = s.control;
-    let v = memory::return_move(l, b, x, k, y);
+    let v = returning::return_move(l, b, x, k, y);
     commit::commit_move(s, k, a, v)
 }
 

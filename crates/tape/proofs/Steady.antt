@@ -34,11 +34,11 @@ pub blank-tapes : Tapes (blankStore)
 unfolding freshOf
 blank-tapes = record { steady = inl refl; whole = λ k h. absurd (omega arith) }
 
-open-after : (s : Store) (shape : Shape) → Tapes s → After (openRecord s n c m)
+open-after : (s : Store) (shape : Shape) → Tapes s → After (openRecord s shape)
 unfolding openRecord
-open-after s n c m g =
+open-after s shape g =
     pick After (isOpen s) _ _ (λ _. g)
-    (λ _. pick After (badShape shape) _ _ (λ _. g) (λ e. record { steady = inr (open-keeps n c m e); whole = open-whole n c m e }))
+    (λ _. pick After (badShape shape) _ _ (λ _. g) (λ e. record { steady = inr (open-keeps shape e); whole = open-whole shape e }))
 
 -- a call on an open store
 module _ (s : Store) (g : Tapes s) where
@@ -52,7 +52,7 @@ module _ (s : Store) (g : Tapes s) where
   unfolding recordOf
   record-after Record.Unknown = g
   record-after Record.Truncated = g
-  record-after (Record.Open n c m) = open-after s n c m g
+  record-after (Record.Open shape) = open-after s shape g
   record-after (Record.Begin k op w) = call-after _ (λ e. begin-keeps s _ _ _ e (g .whole)) (begin-whole s _ _ _ (g .whole))
   record-after (Record.Serve k) = call-after _ (serve-keeps s _) (serve-whole s _ (g .whole))
   record-after (Record.Return k) = call-after _ (return-keeps s _) (return-whole s _ (g .whole))

@@ -10,16 +10,17 @@ use answers::Refusal;
 use records::Record;
 use store::Outcome;
 use store::Store;
+use words::Shape;
 
 // A record of kind 00: 4, 5, then the store of the opening.
-fn open_record(s: Store, n: u8, c: u8, m: u8) -> Outcome
-    ensures { λ r. ⌜ r ≡ openRecord s n c m ⌝ }
+fn open_record(s: Store, shape: Shape) -> Outcome
+    ensures { λ r. ⌜ r ≡ openRecord s shape ⌝ }
 {
     if s.shape.n == 0 {
-        if store::bad_shape(n, c, m) {
+        if opening::bad_shape(shape) {
             return steps::refused(Refusal::InvalidShape, s);
         }
-        let t = store::fresh(n, c, m);
+        let t = opening::fresh(shape);
         return Outcome {
             answer: Answer::Opened,
             store: t,
@@ -43,7 +44,7 @@ pub fn record_sound(s: Store, rec: Record) -> Outcome
     match rec {
         Record::Unknown => steps::refused(Refusal::UnknownKind, s),
         Record::Truncated => steps::refused(Refusal::Truncated, s),
-        Record::Open(n, c, m) => open_record(s, n, c, m),
+        Record::Open(shape) => open_record(s, shape),
         Record::Begin(k, op, w) => {
             if s.shape.n == 0 {
                 return not_open(s);

@@ -2,66 +2,23 @@
 // All of them require that the text fits; they are for the crates above and not for others.
 ghost use mathlib.Core.Path.{_≡_};
 ghost use mathlib.Core.List.{[], _∷_, _++_};
-ghost use Prim.Native.Nat.{_+_, _≤_, _<_};
+ghost use Prim.Native.Nat.{_+_, _≤_};
 ghost use lib.ListN.{length};
 ghost use Rattle.answers.specs.declared.Refusal.the-variants.{TapeTooLong};
 ghost use Rattle.answers.specs.declared.Answer.the-variants.{Done};
-ghost use Rattle.machine.specs.Text.{decimalIn, spaced, refusedText, answerText, lineText, endText};
-ghost use Rattle.text.specs.Written.{written};
+ghost use Rattle.machine.specs.Text.{spaced, refusedText, answerText, lineText, endText};
+ghost use Rattle.buffers.specs.Written.{written};
 use answers::Answer;
 use answers::Completion;
 use answers::Refusal;
-
-// One byte.
-pub fn put(out: &mut [u8], at: usize, b: u8) -> usize
-    requires { ⌜ at < length (now out) ⌝ }
-    ensures { λ r. ⌜ (r ≡ at + 1) × (now (out .exit) ≡ written (now (out .entry)) at (b ∷ [])) ⌝ }
-{
-    out[at] = b;
-    at + 1
-}
-
-// Three bytes.
-pub fn put3(out: &mut [u8], at: usize, a: u8, b: u8, c: u8) -> usize
-    requires { ⌜ at + 3 ≤ length (now out) ⌝ }
-    ensures { λ r. ⌜ (r ≡ at + 3) × (now (out .exit) ≡ written (now (out .entry)) at (a ∷ b ∷ c ∷ [])) ⌝ }
-{
-    let second = put(out, at, a);
-    let third = put(out, second, b);
-    put(out, third, c)
-}
-
-// Four bytes.
-pub fn put4(out: &mut [u8], at: usize, a: u8, b: u8, c: u8, d: u8) -> usize
-    requires { ⌜ at + 4 ≤ length (now out) ⌝ }
-    ensures { λ r. ⌜ (r ≡ at + 4) × (now (out .exit) ≡ written (now (out .entry)) at (a ∷ b ∷ c ∷ d ∷ [])) ⌝ }
-{
-    let second = put(out, at, a);
-    put3(out, second, b, c, d)
-}
-
-// A number in decimal, in at most `more` digits.
-pub fn decimal_in(out: &mut [u8], at: usize, more: usize, n: u32) -> usize
-    requires { ⌜ at + more ≤ length (now out) ⌝ }
-    ensures { λ r. ⌜ (r ≡ at + length (decimalIn more n)) × (now (out .exit) ≡ written (now (out .entry)) at (decimalIn more n)) ⌝ }
-{
-    if more == 0 {
-        return at;
-    }
-    if n < 10 {
-        return put(out, at, 48 + n as u8);
-    }
-    let last = decimal_in(out, at, more - 1, n / 10);
-    put(out, last, 48 + (n % 10) as u8)
-}
 
 // A space and a number.
 fn spaced_into(out: &mut [u8], at: usize, n: u32) -> usize
     requires { ⌜ at + 11 ≤ length (now out) ⌝ }
     ensures { λ r. ⌜ (r ≡ at + length (spaced n)) × (now (out .exit) ≡ written (now (out .entry)) at (spaced n)) ⌝ }
 {
-    let digits = put(out, at, b' ');
-    decimal_in(out, digits, 10, n)
+    let digits = buffers::put(out, at, b' ');
+    decimals::decimal_in(out, digits, 10, n)
 }
 
 // `refused` with the number.
@@ -69,8 +26,8 @@ fn refused_into(out: &mut [u8], at: usize, x: Refusal) -> usize
     requires { ⌜ at + 18 ≤ length (now out) ⌝ }
     ensures { λ r. ⌜ (r ≡ at + length (refusedText x)) × (now (out .exit) ≡ written (now (out .entry)) at (refusedText x)) ⌝ }
 {
-    let half = put4(out, at, b'r', b'e', b'f', b'u');
-    let number = put3(out, half, b's', b'e', b'd');
+    let half = buffers::put4(out, at, b'r', b'e', b'f', b'u');
+    let number = buffers::put3(out, half, b's', b'e', b'd');
     let n = x.number() as u32;
     spaced_into(out, number, n)
 }
@@ -80,7 +37,7 @@ fn done_into(out: &mut [u8], at: usize, x: Completion) -> usize
     requires { ⌜ at + 26 ≤ length (now out) ⌝ }
     ensures { λ r. ⌜ (r ≡ at + length (answerText (Done x))) × (now (out .exit) ≡ written (now (out .entry)) at (answerText (Done x))) ⌝ }
 {
-    let lane = put4(out, at, b'd', b'o', b'n', b'e');
+    let lane = buffers::put4(out, at, b'd', b'o', b'n', b'e');
     let k = x.lane.0 as u32;
     let value = spaced_into(out, lane, k);
     let v = x.value;
@@ -93,10 +50,10 @@ fn answer_into(out: &mut [u8], at: usize, a: Answer) -> usize
     ensures { λ r. ⌜ (r ≡ at + length (answerText a)) × (now (out .exit) ≡ written (now (out .entry)) at (answerText a)) ⌝ }
 {
     match a {
-        Answer::Opened => put4(out, at, b'o', b'p', b'e', b'n'),
+        Answer::Opened => buffers::put4(out, at, b'o', b'p', b'e', b'n'),
         Answer::Done(x) => done_into(out, at, x),
-        Answer::Wait => put4(out, at, b'w', b'a', b'i', b't'),
-        Answer::Step => put4(out, at, b's', b't', b'e', b'p'),
+        Answer::Wait => buffers::put4(out, at, b'w', b'a', b'i', b't'),
+        Answer::Step => buffers::put4(out, at, b's', b't', b'e', b'p'),
         Answer::Refused(x) => refused_into(out, at, x),
     }
 }
@@ -106,10 +63,10 @@ pub fn line_into(out: &mut [u8], at: usize, index: u32, a: Answer) -> usize
     requires { ⌜ at + 64 ≤ length (now out) ⌝ }
     ensures { λ r. ⌜ (r ≡ at + length (lineText index a)) × (now (out .exit) ≡ written (now (out .entry)) at (lineText index a)) ⌝ }
 {
-    let space = decimal_in(out, at, 10, index);
-    let answer = put(out, space, b' ');
+    let space = decimals::decimal_in(out, at, 10, index);
+    let answer = buffers::put(out, space, b' ');
     let newline = answer_into(out, answer, a);
-    put(out, newline, b'\n')
+    buffers::put(out, newline, b'\n')
 }
 
 // The last line: `end` and the number of lines before it.
@@ -117,9 +74,9 @@ pub fn end_into(out: &mut [u8], at: usize, count: u32) -> usize
     requires { ⌜ at + 64 ≤ length (now out) ⌝ }
     ensures { λ r. ⌜ (r ≡ at + length (endText count)) × (now (out .exit) ≡ written (now (out .entry)) at (endText count)) ⌝ }
 {
-    let number = put3(out, at, b'e', b'n', b'd');
+    let number = buffers::put3(out, at, b'e', b'n', b'd');
     let stop = spaced_into(out, number, count);
-    put(out, stop, b'\n')
+    buffers::put(out, stop, b'\n')
 }
 
 // The one line of a tape that is too long.
@@ -128,5 +85,5 @@ pub fn too_long_into(out: &mut [u8], at: usize) -> usize
     ensures { λ r. ⌜ (r ≡ at + length (refusedText TapeTooLong ++ (10 ∷ []))) × (now (out .exit) ≡ written (now (out .entry)) at (refusedText TapeTooLong ++ (10 ∷ []))) ⌝ }
 {
     let after = refused_into(out, at, Refusal::TapeTooLong);
-    put(out, after, b'\n')
+    buffers::put(out, after, b'\n')
 }

@@ -6,7 +6,7 @@ use borrow.Author.Needs.{needs}
 use mathlib.Core.Path.{_≡_}
 use lib.ListN.{getD}
 use Rattle.words.specs.Lines.{noLine}
-use Rattle.text.proofs.Writing.{Wrote, written-none}
+use Rattle.buffers.proofs.Writing.{Wrote, written-none}
 use Rattle.picture.specs.Records.{lineRecord, laneRecords}
 use Rattle.picture.proofs.Records.{gather-none, gather-next, wrote-more}
 use Rattle.picture.proofs.write_lane.Statement.{statement}

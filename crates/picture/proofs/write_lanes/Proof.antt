@@ -5,7 +5,7 @@ use Prim.Native.Nat.{_-_, _≤_}
 use mathlib.Core.Path.{_≡_, ap}
 use lib.ListN.{length}
 use Rattle.words.specs.Folds.{gatherTo}
-use Rattle.text.proofs.Writing.{Wrote, written-none}
+use Rattle.buffers.proofs.Writing.{Wrote, written-none}
 use Rattle.picture.specs.Records.{recordsAt}
 use Rattle.picture.proofs.Records.{gather-none, gather-next, wrote-more, wrote-kept, picture-lanes}
 use Rattle.picture.proofs.write_lanes.Statement.{statement}

@@ -3,7 +3,7 @@ use Prim.Native.Nat.{_+_, _≤_}
 use lib.ListN.{length, length-take, length-drop}
 use Rattle.picture.proofs.Records.{part-written, line-valid, line-invalid, valid-length}
 use native.Mathlib.Omega.{arith}
-use Rattle.text.proofs.Writing.{written-none}
+use Rattle.buffers.proofs.Writing.{written-none}
 use Rattle.picture.proofs.Records.{record-length, part-written}
 use lib.ListN.{length}
 use borrow.Author.Needs.{needs}

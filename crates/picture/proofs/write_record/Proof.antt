@@ -1,6 +1,6 @@
 -- `picture::write_record` meets its contract. Assumes nothing.
 use native.Mathlib.Omega.{arith}
-use Rattle.text.proofs.Writing.{wrote-then}
+use Rattle.buffers.proofs.Writing.{wrote-then}
 use Rattle.machine.specs.Picture.{recordBytes}
 use borrow.Author.Needs.{needs}
 use Rattle.picture.proofs.write_record.Statement.{statement}

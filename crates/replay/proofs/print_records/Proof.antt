@@ -61,7 +61,7 @@ use Rattle.store.specs.declared.Store.{Store}
 use Rattle.store.specs.Opening.{freshOf}
 use Rattle.machine.specs.Tape.{recordOf}
 use Rattle.machine.specs.Text.{lineText, endText, tapeMost, textMost, printed}
-use Rattle.text.specs.Written.{written}
+use Rattle.buffers.specs.Written.{written}
 use Rattle.tape.specs.Steady.{Steady}
 use Rattle.records.proofs.Record as R
 use Rattle.records.proofs.Record.Laws as R′
@@ -71,10 +71,10 @@ use Rattle.answers.proofs.Answer as N
 use Rattle.answers.proofs.Answer.Laws as N′
 use Rattle.store.proofs.Store as T
 use Rattle.store.proofs.Store.Laws as T′
-use Rattle.store.proofs.fresh as fresh
-use Rattle.store.proofs.fresh.Symbol as fresh-def
-use Rattle.store.proofs.fresh.Symbol.{name as #fresh}
-use Rattle.store.proofs.fresh.Met as fresh-thm
+use Rattle.opening.proofs.fresh as fresh
+use Rattle.opening.proofs.fresh.Symbol as fresh-def
+use Rattle.opening.proofs.fresh.Symbol.{name as #fresh}
+use Rattle.opening.proofs.fresh.Met as fresh-thm
 use Rattle.records.proofs.parse as parse
 use Rattle.records.proofs.parse.Symbol as parse-def
 use Rattle.records.proofs.parse.Symbol.{name as #parse}
@@ -478,7 +478,7 @@ print-records-spec 𝓤 H 𝓜 𝓖 𝓡 =
     entered 𝓤 H (tripleOf 𝓤 H (𝓖 .A) print.signature (print.spec 𝓤 H (𝓖 .A) (𝓜 .mem) (𝓡 .run)))
     (tables 𝓤 H 𝓜 𝓡 code.env .C) (tables 𝓤 H 𝓜 𝓡 code.env .Λ) #print code.function (code.unfolded 𝓤 H 𝓜 𝓡)
     (print-meets 𝓤 H (𝓖 .A) (givenOf 𝓤 H 𝓜 𝓖) (𝓜 .mem) (𝓡 .run) (tablesOf 𝓤 H 𝓜 (tables 𝓤 H 𝓜 𝓡 code.env)) (record {
-      of-fresh = cited 𝓤 H (Fresh 𝓤 H (𝓖 .A) (𝓜 .mem) (𝓡 .run)) 𝓜 𝓡 code.env #fresh fresh-def.routine code.calls-store·fresh (fresh-thm.met 𝓤 H 𝓜 𝓖 𝓡);
+      of-fresh = cited 𝓤 H (Fresh 𝓤 H (𝓖 .A) (𝓜 .mem) (𝓡 .run)) 𝓜 𝓡 code.env #fresh fresh-def.routine code.calls-opening·fresh (fresh-thm.met 𝓤 H 𝓜 𝓖 𝓡);
       of-parse = cited 𝓤 H (Parse 𝓤 H (𝓖 .A) (𝓜 .mem) (𝓡 .run)) 𝓜 𝓡 code.env #parse parse-def.routine code.calls-records·parse (parse-thm.met 𝓤 H 𝓜 𝓖 𝓡);
       of-apply = cited 𝓤 H (Apply 𝓤 H (𝓖 .A) (𝓜 .mem) (𝓡 .run)) 𝓜 𝓡 code.env #apply apply-def.routine code.calls-replay·apply (apply-thm.met 𝓤 H 𝓜 𝓖 𝓡);
       of-line = cited 𝓤 H (Line 𝓤 H (𝓖 .A) (𝓜 .mem) (𝓡 .run)) 𝓜 𝓡 code.env #line line-def.routine code.calls-text·line-into (line-thm.met 𝓤 H 𝓜 𝓖 𝓡);

@@ -1,0 +1,20 @@
+-- `buffers::put` meets its contract. Assumes nothing.
+use Rattle.buffers.proofs.Writing.{written-one}
+use borrow.Author.Needs.{needs}
+use Rattle.buffers.proofs.put.Statement.{statement}
+use Rattle.buffers.proofs.put.Tie as tie
+
+slice-write-out : tie.Need-slice-write-out
+slice-write-out c = search needs
+
+add-result : tie.Need-add-result
+add-result c = search needs
+
+same-length : tie.Need-same-length
+same-length c = search needs
+
+returns : tie.Need-returns
+returns c = (search needs, written-one _ _ _ (c .pre))
+
+pub put-spec : {M : Type 1} → statement M
+put-spec = tie.close (tie.spec slice-write-out add-result same-length returns)

@@ -1,0 +1,24 @@
+-- `buffers::put3` meets its contract. Assumes nothing.
+use native.Mathlib.Omega.{arith}
+use Rattle.buffers.proofs.Writing.{wrote-then}
+use borrow.Author.Needs.{needs}
+use Rattle.buffers.proofs.put3.Statement.{statement}
+use Rattle.buffers.proofs.put3.Tie as tie
+
+put-requires : tie.Need-put-requires
+put-requires c κs = search needs
+
+put-requires-2 : tie.Need-put-requires-2
+put-requires-2 c κs = search needs
+
+put-requires-3 : tie.Need-put-requires-3
+put-requires-3 c κs = search needs
+
+same-length : tie.Need-same-length
+same-length c = search needs
+
+returns : tie.Need-returns
+returns c = wrote-then _ _ _ _ (c .before .before .before .before .before .before .before .before .before .before .put .ensures) (wrote-then _ _ _ _ (c .before .before .before .before .before .before .put2 .ensures) (c .before .before .put3 .ensures) (omega arith)) (omega arith)
+
+pub put3-spec : {M : Type 1} → statement M
+put3-spec = tie.close (tie.spec put-requires put-requires-2 put-requires-3 same-length returns)

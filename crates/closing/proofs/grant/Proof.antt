@@ -1,0 +1,16 @@
+-- `closing::grant` meets its contract. Assumes nothing.
+use borrow.Author.Needs.{needs}
+use Rattle.closing.proofs.grant.Statement.{statement}
+use Rattle.closing.proofs.grant.Tie as tie
+
+bare-down-requires : tie.Need-bare-down-requires
+bare-down-requires c κs = search needs
+
+returns : tie.Need-returns
+returns c = rw (c .bare-down .ensures, c .before .if1 .taken)
+
+returns-2 : tie.Need-returns-2
+returns-2 c = rw (c .before .if1 .left)
+
+pub grant-spec : {M : Type 1} → statement M
+grant-spec = tie.close (tie.spec bare-down-requires returns returns-2)

@@ -1,0 +1,165 @@
+// What serve and return share: Close, a lane, a block and a Move put together anew.
+// Functions with a requires are for the crates above and not for others.
+ghost use mathlib.Core.Path.{_≡_};
+ghost use Prim.Native.Nat.{_<_};
+ghost use Rattle.lanes.specs.Lanes.{withWaiting, withReturns};
+ghost use Rattle.machine.specs.Change.{only, refuseMove};
+ghost use Rattle.machine.specs.Serve.{bareDown, exclusively, closedBlock, grantOf, close};
+ghost use Rattle.machine.specs.Return.{sendNothing};
+use answers::Answer;
+use answers::Refusal;
+use lanes::Command;
+use lanes::Lane;
+use lanes::Waiting;
+use machine::Move;
+use queues::DownKind;
+use queues::DownMessage;
+use queues::ReturnQueue;
+use store::Block;
+use store::Control;
+use store::Service;
+use words::BlockNo;
+use words::LaneNo;
+
+// A lane with another waiting operation.
+pub fn with_waiting(l: Lane, w: Waiting) -> Lane
+    ensures { λ r. ⌜ r ≡ withWaiting w l ⌝ }
+{
+    let lines = l.lines;
+    let order = l.order;
+    let returns = l.returns;
+    let downs = l.downs;
+    Lane {
+        lines: lines,
+        order: order,
+        returns: returns,
+        downs: downs,
+        waiting: w,
+    }
+}
+
+// A lane with another return queue.
+pub fn with_returns(l: Lane, q: ReturnQueue) -> Lane
+    ensures { λ r. ⌜ r ≡ withReturns q l ⌝ }
+{
+    let mut t = l;
+    t.returns = q;
+    t
+}
+
+// A down message without words.
+pub fn bare_down(x: DownKind, a: BlockNo) -> DownMessage
+    ensures { λ r. ⌜ r ≡ bareDown x a ⌝ }
+{
+    DownMessage {
+        kind: x,
+        block: a,
+        words: [0; 4],
+    }
+}
+
+// Lane k alone.
+fn only_lane(k: LaneNo) -> [bool; 8]
+    requires { ⌜ k .0 < 8 ⌝ }
+    ensures { λ r. ⌜ r ≡ only k ⌝ }
+{
+    let i = k.0 as usize;
+    let mut t = [false; 8];
+    t[i] = true;
+    t
+}
+
+// A refusal of memory's part.
+pub fn refuse_move(e: Refusal, l: Lane, b: Block, x: Control) -> Move
+    ensures { λ r. ⌜ r ≡ refuseMove e l b x ⌝ }
+{
+    let m = bare_down(DownKind::Update, BlockNo(0));
+    Move {
+        answer: Answer::Refused(e),
+        lane: l,
+        block: b,
+        control: x,
+        to: [false; 8],
+        message: m,
+    }
+}
+
+// Memory's part where nothing is sent.
+pub fn send_nothing(l: Lane, b: Block, x: Control) -> Move
+    ensures { λ r. ⌜ r ≡ sendNothing l b x ⌝ }
+{
+    let m = bare_down(DownKind::Update, BlockNo(0));
+    Move {
+        answer: Answer::Step,
+        lane: l,
+        block: b,
+        control: x,
+        to: [false; 8],
+        message: m,
+    }
+}
+
+// The block of lane k alone.
+fn exclusive_block(b: Block, k: LaneNo) -> Block
+    requires { ⌜ k .0 < 8 ⌝ }
+    ensures { λ r. ⌜ r ≡ exclusively b k ⌝ }
+{
+    let t = only_lane(k);
+    let mut u = b;
+    u.present = t;
+    u.modified = true;
+    u
+}
+
+// The block once lane k's command for it is granted.
+fn closed_block(x: Command, b: Block, k: LaneNo) -> Block
+    requires { ⌜ k .0 < 8 ⌝ }
+    ensures { λ r. ⌜ r ≡ closedBlock x b k ⌝ }
+{
+    match x {
+        Command::ReadShared => {
+            let i = k.0 as usize;
+            let mut u = b;
+            u.present[i] = true;
+            u
+        }
+        Command::ReadExclusive => exclusive_block(b, k),
+        Command::Exclude => exclusive_block(b, k),
+    }
+}
+
+// The grant of a service.
+fn grant(b: Block, v: Service) -> DownMessage
+    ensures { λ r. ⌜ r ≡ grantOf b v ⌝ }
+{
+    let a = v.block;
+    if v.bare {
+        return bare_down(DownKind::BareGrant, a);
+    }
+    let ws = b.words;
+    DownMessage {
+        kind: DownKind::Grant,
+        block: a,
+        words: ws,
+    }
+}
+
+// A service closes; x is the control without it.
+pub fn close_service(v: Service, l: Lane, b: Block, x: Control) -> Move
+    requires { ⌜ v .lane .0 < 8 ⌝ }
+    ensures { λ r. ⌜ r ≡ close v l b x ⌝ }
+{
+    let k = v.lane;
+    let c = v.command;
+    let u = closed_block(c, b, k);
+    let g = grant(b, v);
+    let t = only_lane(k);
+    Move {
+        answer: Answer::Step,
+        lane: l,
+        block: u,
+        control: x,
+        to: t,
+        message: g,
+    }
+}

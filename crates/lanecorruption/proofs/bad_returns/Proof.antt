@@ -1,0 +1,38 @@
+-- `lanecorruption::bad_returns` meets its contract. Assumes nothing.
+use borrow.Author.Tests.{lt-ltb, le-ltb}
+use borrow.Author.Needs.{needs}
+use Rattle.lanecorruption.proofs.bad_returns.Statement.{statement}
+use Rattle.lanecorruption.proofs.bad_returns.Tie as tie
+
+returns : tie.Need-returns
+returns c = simp (lt-ltb _ _ (c .if1 .taken))
+
+element-copy-out-x : tie.Need-element-copy-out-x
+element-copy-out-x c = search needs
+
+bad-place-requires : tie.Need-bad-place-requires
+bad-place-requires c κs = search needs
+
+returns-2 : tie.Need-returns-2
+returns-2 c = simp (le-ltb _ _ (c .before .before .before .before .if1 .left), ← c .before .bad-place .ensures, c .if2 .taken)
+
+element-copy-out-y : tie.Need-element-copy-out-y
+element-copy-out-y c = search needs
+
+bad-place-requires-2 : tie.Need-bad-place-requires-2
+bad-place-requires-2 c κs = search needs
+
+returns-3 : tie.Need-returns-3
+returns-3 c = simp (le-ltb _ _ (c .before .before .before .before .before .before .before .if1 .left), ← c .before .before .before .before .bad-place .ensures, c .before .before .before .if2 .left, c .bad-place2 .ensures)
+
+pub bad-returns-spec : {M : Type 1} → statement M
+bad-returns-spec =
+    tie.close
+    (tie.spec
+    returns
+    element-copy-out-x
+    bad-place-requires
+    returns-2
+    element-copy-out-y
+    bad-place-requires-2
+    returns-3)

@@ -1,0 +1,26 @@
+-- `opening::open` meets its contract. Assumes nothing.
+use Rattle.store.specs.Opening.{openOf}
+use borrow.Author.Needs.{needs}
+use Rattle.opening.proofs.open.Statement.{statement}
+use Rattle.opening.proofs.open.Tie as tie
+
+bad-shape-requires : tie.Need-bad-shape-requires
+bad-shape-requires c κs = search needs
+
+blank-requires : tie.Need-blank-requires
+blank-requires c κs = search needs
+
+returns : tie.Need-returns
+unfolding openOf
+returns c = rw (openOf, ← c .before .before .bad-shape .ensures, c .before .if1 .taken, c .blank .ensures)
+
+fresh-requires : tie.Need-fresh-requires
+fresh-requires c κs = search needs
+
+returns-2 : tie.Need-returns-2
+unfolding openOf
+returns-2 c = rw (openOf, ← c .before .before .bad-shape .ensures, c .before .if1 .left, c .fresh .ensures)
+
+pub open-spec : {M : Type 1} → statement M
+open-spec =
+    tie.close (tie.spec bad-shape-requires blank-requires returns fresh-requires returns-2)

@@ -1,0 +1,56 @@
+-- `serving::serve_move` meets its contract. Assumes nothing.
+use borrow.Author.Tests.{eq-eqb, ne-eqb}
+use native.Mathlib.Omega.{arith}
+use mathlib.Core.Path.{ap}
+use Rattle.store.specs.declared.Service.{Service}
+use Rattle.machine.specs.Serve.{serveMove}
+use borrow.Author.Needs.{needs}
+use Rattle.serving.proofs.serve_move.Statement.{statement}
+use Rattle.serving.proofs.serve_move.Tie as tie
+
+ordered-lanes-requires : tie.Need-ordered-lanes-requires
+ordered-lanes-requires c κs = search needs
+
+count-requires : tie.Need-count-requires
+count-requires c κs = search needs
+
+service-for-requires : tie.Need-service-for-requires
+service-for-requires c κs = search needs
+
+with-waiting-requires : tie.Need-with-waiting-requires
+with-waiting-requires c κs = search needs
+
+close-service-requires : tie.Need-close-service-requires
+close-service-requires c κs = omega (arith, ap (λ (v : Service). v .lane .0) (c .before .before .service-for .ensures))
+
+returns : tie.Need-returns
+unfolding serveMove
+returns c = rw (serveMove, ← c .before .before .before .before .before .ordered-lanes .ensures, ← c .before .before .before .before .count .ensures, eq-eqb _ _ (c .before .if1 .taken), c .close-service .ensures, c .before .before .with-waiting .ensures, c .before .before .before .service-for .ensures)
+
+order-kind-requires : tie.Need-order-kind-requires
+order-kind-requires c κs = search needs
+
+block-requires : tie.Need-block-requires
+block-requires c κs = search needs
+
+bare-down-requires : tie.Need-bare-down-requires
+bare-down-requires c κs = search needs
+
+returns-2 : tie.Need-returns-2
+unfolding serveMove
+returns-2 c = rw (serveMove, ← c .before .before .before .before .before .before .before .before .ordered-lanes .ensures, ← c .before .before .before .before .before .before .before .count .ensures, ne-eqb _ _ (c .before .before .before .before .if1 .left), c .bare-down .ensures, c .before .block .ensures, c .before .before .before .order-kind .ensures, c .before .before .before .before .before .with-waiting .ensures, c .before .before .before .before .before .before .service-for .ensures)
+
+pub serve-move-spec : {M : Type 1} → statement M
+serve-move-spec =
+    tie.close
+    (tie.spec
+    ordered-lanes-requires
+    count-requires
+    service-for-requires
+    with-waiting-requires
+    close-service-requires
+    returns
+    order-kind-requires
+    block-requires
+    bare-down-requires
+    returns-2)

@@ -1,0 +1,158 @@
+// Memory's part of serve: a lane, a block and the control are handed in by value and come back in a Move.
+// Functions with a requires are for the crates above and not for others.
+ghost use mathlib.Core.Path.{_≡_};
+ghost use mathlib.Core.Bool.{cond};
+ghost use Prim.Native.Nat.{_<_};
+ghost use Rattle.machine.specs.Serve.{sendsOf, orderOf, ordered, countOf, bareOf, readyOf, serviceFor, serveMove};
+use answers::Answer;
+use answers::Refusal;
+use lanes::Command;
+use lanes::Lane;
+use lanes::Operation;
+use lanes::Waiting;
+use machine::Move;
+use machine::Ready;
+use queues::DownKind;
+use store::Block;
+use store::Control;
+use store::Service;
+use words::LaneNo;
+
+// Whether a command sends orders to the other lanes.
+fn sends(x: Command, modified: bool) -> bool
+    ensures { λ r. ⌜ r ≡ sendsOf x modified ⌝ }
+{
+    match x {
+        Command::ReadShared => modified,
+        Command::ReadExclusive => true,
+        Command::Exclude => true,
+    }
+}
+
+// The order that a command sends.
+fn order_kind(x: Command) -> DownKind
+    ensures { λ r. ⌜ r ≡ orderOf x ⌝ }
+{
+    match x {
+        Command::ReadShared => DownKind::Update,
+        Command::ReadExclusive => DownKind::Purge,
+        Command::Exclude => DownKind::Purge,
+    }
+}
+
+// The lanes that lane k's command sends orders to.
+fn ordered_lanes(b: Block, k: LaneNo, x: Command) -> [bool; 8]
+    requires { ⌜ k .0 < 8 ⌝ }
+    ensures { λ r. ⌜ r ≡ ordered b k x ⌝ }
+{
+    if sends(x, b.modified) {
+        let i = k.0 as usize;
+        let mut others = b.present;
+        others[i] = false;
+        return others;
+    }
+    [false; 8]
+}
+
+// 1 for a lane that a message goes to.
+fn one(goes: bool) -> u8
+    ensures { λ r. ⌜ r ≡ cond goes 1 0 ⌝ }
+{
+    if goes {
+        return 1;
+    }
+    0
+}
+
+// How many lanes a message goes to.
+fn count(to: [bool; 8]) -> u8
+    ensures { λ r. ⌜ r ≡ countOf to ⌝ }
+{
+    let mut n: u8 = 0;
+    let mut k: usize = 0;
+    while k < 8 {
+        let p = to[k];
+        let d = one(p);
+        n += d;
+        k += 1;
+    }
+    n
+}
+
+// Whether the grant for a command is bare, by the lane's PRESENT.
+fn is_bare(x: Command, present: bool) -> bool
+    ensures { λ r. ⌜ r ≡ bareOf x present ⌝ }
+{
+    match x {
+        Command::ReadShared => false,
+        Command::ReadExclusive => false,
+        Command::Exclude => present,
+    }
+}
+
+// Serve's own checks: 9, 10, 11.
+pub fn check_ready(l: Lane, x: Control) -> Ready
+    ensures { λ r. ⌜ r ≡ readyOf l x ⌝ }
+{
+    let w = l.waiting;
+    match w {
+        Waiting::Idle => Ready::No(Refusal::NothingPending),
+        Waiting::Unserved(o) => {
+            if x.busy() {
+                return Ready::No(Refusal::ControlBusy);
+            }
+            if 0 < l.returns.len {
+                return Ready::No(Refusal::ReturnsPending);
+            }
+            Ready::Go(o)
+        }
+        Waiting::Served(_) => Ready::No(Refusal::NothingPending),
+    }
+}
+
+// The service of lane k's operation.
+fn service_for(k: LaneNo, o: Operation, b: Block, awaited: u8) -> Service
+    requires { ⌜ k .0 < 8 ⌝ }
+    ensures { λ r. ⌜ r ≡ serviceFor k o b awaited ⌝ }
+{
+    let i = k.0 as usize;
+    let p = b.present[i];
+    let c = o.command;
+    let w = o.word;
+    let a = w.block();
+    let bare = is_bare(c, p);
+    Service {
+        lane: k,
+        block: a,
+        command: c,
+        awaited: awaited,
+        bare: bare,
+    }
+}
+
+// Memory takes lane k's command: orders go out, or the service closes at once.
+pub fn serve_move(l: Lane, b: Block, x: Control, k: LaneNo, o: Operation) -> Move
+    requires { ⌜ k .0 < 8 ⌝ }
+    ensures { λ r. ⌜ r ≡ serveMove k o l b x ⌝ }
+{
+    let c = o.command;
+    let to = ordered_lanes(b, k, c);
+    let n = count(to);
+    let v = service_for(k, o, b, n);
+    let t = closing::with_waiting(l, Waiting::Served(o));
+    if n == 0 {
+        return closing::close_service(v, t, b, x);
+    }
+    let d = order_kind(c);
+    let w = o.word;
+    let a = w.block();
+    let m = closing::bare_down(d, a);
+    Move {
+        answer: Answer::Step,
+        lane: t,
+        block: b,
+        control: Control::Busy(v),
+        to: to,
+        message: m,
+    }
+}

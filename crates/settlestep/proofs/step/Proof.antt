@@ -1,0 +1,60 @@
+-- `settlestep::step` meets its contract. Assumes nothing.
+use borrow.Author.Tests.{lt-ltb, le-ltb}
+use Rattle.machine.specs.Settle.{settleStep}
+use Rattle.machine.proofs.Sound.{sound}
+use borrow.Author.Needs.{needs}
+use Rattle.settlestep.proofs.step.Statement.{statement}
+use Rattle.settlestep.proofs.step.Tie as tie
+
+lowest-requires : tie.Need-lowest-requires
+lowest-requires c κs = sound _ (c .pre) .n-high
+
+take-step-requires : tie.Need-take-step-requires
+take-step-requires c κs = search needs
+
+returns : tie.Need-returns
+unfolding settleStep
+returns c = rw (settleStep, ← c .before .before .lowest .ensures, lt-ltb _ _ (c .before .if1 .taken), c .take-step .ensures)
+
+lowest-requires-2 : tie.Need-lowest-requires-2
+lowest-requires-2 c κs = sound _ (c .before .before .pre) .n-high
+
+take-step-requires-2 : tie.Need-take-step-requires-2
+take-step-requires-2 c κs = search needs
+
+returns-2 : tie.Need-returns-2
+unfolding settleStep
+returns-2 c = rw (settleStep, ← c .before .before .before .before .lowest .ensures, le-ltb _ _ (c .before .before .before .if1 .left), ← c .before .before .lowest2 .ensures, lt-ltb _ _ (c .before .if2 .taken), c .take-step2 .ensures)
+
+lowest-requires-3 : tie.Need-lowest-requires-3
+lowest-requires-3 c κs = sound _ (c .before .before .before .before .pre) .n-high
+
+take-step-requires-3 : tie.Need-take-step-requires-3
+take-step-requires-3 c κs = search needs
+
+returns-3 : tie.Need-returns-3
+unfolding settleStep
+returns-3 c = rw (settleStep, ← c .before .before .before .before .before .before .lowest .ensures, le-ltb _ _ (c .before .before .before .before .before .if1 .left), ← c .before .before .before .before .lowest2 .ensures, le-ltb _ _ (c .before .before .before .if2 .left), ← c .before .before .lowest3 .ensures, lt-ltb _ _ (c .before .if3 .taken), c .take-step3 .ensures)
+
+refused-requires : tie.Need-refused-requires
+refused-requires c κs = search needs
+
+returns-4 : tie.Need-returns-4
+unfolding settleStep
+returns-4 c = rw (settleStep, ← c .before .before .before .before .before .before .lowest .ensures, le-ltb _ _ (c .before .before .before .before .before .if1 .left), ← c .before .before .before .before .lowest2 .ensures, le-ltb _ _ (c .before .before .before .if2 .left), ← c .before .before .lowest3 .ensures, le-ltb _ _ (c .before .if3 .left), c .refused .ensures)
+
+pub step-spec : {M : Type 1} → statement M
+step-spec =
+    tie.close
+    (tie.spec
+    lowest-requires
+    take-step-requires
+    returns
+    lowest-requires-2
+    take-step-requires-2
+    returns-2
+    lowest-requires-3
+    take-step-requires-3
+    returns-3
+    refused-requires
+    returns-4)
