@@ -4,7 +4,8 @@ ghost use mathlib.Core.Path.{_≡_};
 ghost use Prim.Native.Nat.{_<_};
 ghost use Rattle.lanes.specs.Lanes.{withWaiting, withReturns};
 ghost use Rattle.machine.specs.Change.{only, refuseMove};
-ghost use Rattle.machine.specs.Serve.{bareDown, exclusively, closedBlock, grantOf, close};
+ghost use Rattle.queues.specs.Messages.{bareDown};
+ghost use Rattle.machine.specs.Serve.{exclusively, closedBlock, grantOf, close};
 ghost use Rattle.machine.specs.Return.{sendNothing};
 use answers::Answer;
 use answers::Refusal;
@@ -21,23 +22,6 @@ use store::Service;
 use words::BlockNo;
 use words::LaneNo;
 
-// A lane with another waiting operation.
-pub fn with_waiting(l: Lane, w: Waiting) -> Lane
-    ensures { λ r. ⌜ r ≡ withWaiting w l ⌝ }
-{
-    let lines = l.lines;
-    let order = l.order;
-    let returns = l.returns;
-    let downs = l.downs;
-    Lane {
-        lines: lines,
-        order: order,
-        returns: returns,
-        downs: downs,
-        waiting: w,
-    }
-}
-
 // A lane with another return queue.
 pub fn with_returns(l: Lane, q: ReturnQueue) -> Lane
     ensures { λ r. ⌜ r ≡ withReturns q l ⌝ }
@@ -45,17 +29,6 @@ pub fn with_returns(l: Lane, q: ReturnQueue) -> Lane
     let mut t = l;
     t.returns = q;
     t
-}
-
-// A down message without words.
-pub fn bare_down(x: DownKind, a: BlockNo) -> DownMessage
-    ensures { λ r. ⌜ r ≡ bareDown x a ⌝ }
-{
-    DownMessage {
-        kind: x,
-        block: a,
-        words: [0; 4],
-    }
 }
 
 // Lane k alone.
@@ -73,7 +46,7 @@ fn only_lane(k: LaneNo) -> [bool; 8]
 pub fn refuse_move(e: Refusal, l: Lane, b: Block, x: Control) -> Move
     ensures { λ r. ⌜ r ≡ refuseMove e l b x ⌝ }
 {
-    let m = bare_down(DownKind::Update, BlockNo(0));
+    let m = queues::bare_down(DownKind::Update, BlockNo(0));
     Move {
         answer: Answer::Refused(e),
         lane: l,
@@ -88,7 +61,7 @@ pub fn refuse_move(e: Refusal, l: Lane, b: Block, x: Control) -> Move
 pub fn send_nothing(l: Lane, b: Block, x: Control) -> Move
     ensures { λ r. ⌜ r ≡ sendNothing l b x ⌝ }
 {
-    let m = bare_down(DownKind::Update, BlockNo(0));
+    let m = queues::bare_down(DownKind::Update, BlockNo(0));
     Move {
         answer: Answer::Step,
         lane: l,
@@ -134,7 +107,7 @@ fn grant(b: Block, v: Service) -> DownMessage
 {
     let a = v.block;
     if v.bare {
-        return bare_down(DownKind::BareGrant, a);
+        return queues::bare_down(DownKind::BareGrant, a);
     }
     let ws = b.words;
     DownMessage {

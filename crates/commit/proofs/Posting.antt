@@ -20,19 +20,12 @@ use Rattle.answers.specs.declared.Refusal.the-variants.{QueueFull}
 use Rattle.answers.specs.Refusals.{refusedOf}
 use Rattle.store.specs.declared.Store.{Store}
 use Rattle.store.specs.declared.Control.{Control}
-use Rattle.store.specs.Stores.{noLane}
+use Rattle.store.specs.Stores.{noLane, withControl, withLanes}
 use Rattle.machine.specs.declared.Move.{Move}
-use Rattle.machine.specs.Change.{refuse, goesTo, someFull, posted, postTo, postAll, commitMove}
+use Rattle.machine.specs.Change.{refuse, movedStore, goesTo, someFull, posted, postTo, postAll, commitMove}
 use Rattle.commit.specs.Moves.{lengthAt, lengthsOf, fullBy, moveAnswer}
 
 -- ---- the loop that posts
--- a store with other lanes, with another control
-abbrev pub withLanes : Store → List Lane → Store
-withLanes s ls = record { n = s .shape .n; c = s .shape .c; m = s .shape .m; control = s .control; lanes = ls; blocks = s .blocks }
-
-abbrev pub withControl : Store → Control → Store
-withControl s x = record { n = s .shape .n; c = s .shape .c; m = s .shape .m; control = x; lanes = s .lanes; blocks = s .blocks }
-
 -- before the first turn
 pub turns-none : (to : List Bool) (x : DownMessage) (s : Store) → s ≡ withLanes s (upTo (postTo to x) 0 (s .lanes))
 turns-none to x s = ap (withLanes s) (upTo-none (postTo to x) (s .lanes))
@@ -87,31 +80,27 @@ full-is to ls i l hi e = any-same _ _ 8 (λ j hj. ap (λ (n : ℕ). goesTo to j 
 
 -- ---- a commit by its cases
 module _ (s : Store) (k : LaneNo) (a : BlockNo) (v : Move) where
-  abbrev moved : Store
-  moved =
-      record { n = s .shape .n; c = s .shape .c; m = s .shape .m; control = v .control; lanes = postAll (v .to) (v .message) (set (s .lanes) (k .0) (v .lane)); blocks = set (s .blocks) (a .0) (v .block) }
-
   -- refused
   pub commit-refused : refusedOf (moveAnswer (s .lanes) k v) ≡ true → (record { answer = moveAnswer (s .lanes) k v; store = s }) ≡ commitMove s k a v
   unfolding moveAnswer commitMove
   commit-refused = go (refusedOf (v .answer)) (someFull (v .to) (set (s .lanes) (k .0) (v .lane))) refl
     where
       go : (b f : Bool) → refusedOf (v .answer) ≡ b → refusedOf (cond b (v .answer) (cond f (Refused QueueFull) (v .answer))) ≡ true →
-          (record { answer = cond b (v .answer) (cond f (Refused QueueFull) (v .answer)); store = s }) ≡ cond b (record { answer = v .answer; store = s }) (cond f (refuse QueueFull s) (record { answer = v .answer; store = moved }))
+          (record { answer = cond b (v .answer) (cond f (Refused QueueFull) (v .answer)); store = s }) ≡ cond b (record { answer = v .answer; store = s }) (cond f (refuse QueueFull s) (record { answer = v .answer; store = movedStore s k a v }))
       go true f p e = refl
       go false true p e = refl
       go false false p e = absurd (true≢false (sym e ∙ p))
 
   -- done
-  done : refusedOf (moveAnswer (s .lanes) k v) ≡ false → (record { answer = moveAnswer (s .lanes) k v; store = moved }) ≡ commitMove s k a v
+  done : refusedOf (moveAnswer (s .lanes) k v) ≡ false → (record { answer = moveAnswer (s .lanes) k v; store = movedStore s k a v }) ≡ commitMove s k a v
   unfolding moveAnswer commitMove
   done = go (refusedOf (v .answer)) (someFull (v .to) (set (s .lanes) (k .0) (v .lane))) refl
     where
       go : (b f : Bool) → refusedOf (v .answer) ≡ b → refusedOf (cond b (v .answer) (cond f (Refused QueueFull) (v .answer))) ≡ false →
-          (record { answer = cond b (v .answer) (cond f (Refused QueueFull) (v .answer)); store = moved }) ≡ cond b (record { answer = v .answer; store = s }) (cond f (refuse QueueFull s) (record { answer = v .answer; store = moved }))
+          (record { answer = cond b (v .answer) (cond f (Refused QueueFull) (v .answer)); store = movedStore s k a v }) ≡ cond b (record { answer = v .answer; store = s }) (cond f (refuse QueueFull s) (record { answer = v .answer; store = movedStore s k a v }))
       go true f p e = absurd (true≢false (sym p ∙ e))
       go false true p e = absurd (true≢false e)
       go false false p e = refl
 
-  pub commit-done : (e : Answer) (t : Store) → e ≡ moveAnswer (s .lanes) k v → t ≡ moved → refusedOf e ≡ false → (record { answer = e; store = t }) ≡ commitMove s k a v
+  pub commit-done : (e : Answer) (t : Store) → e ≡ moveAnswer (s .lanes) k v → t ≡ movedStore s k a v → refusedOf e ≡ false → (record { answer = e; store = t }) ≡ commitMove s k a v
   commit-done e t p q f = (λ i. record { answer = p i; store = q i }) ∙ done (rw (← p) f)

@@ -2,6 +2,7 @@
 // Functions with a requires are for the crates above and not for others.
 ghost use mathlib.Core.Path.{_≡_};
 ghost use Prim.Native.Nat.{_≤_, _<_};
+ghost use Rattle.lanes.specs.Lanes.{withWaiting};
 ghost use Rattle.lanes.specs.Search.{searchOf, vacantOf};
 ghost use Rattle.lanes.specs.UseOrder.{carryOf, usedOf};
 ghost use Rattle.lanes.specs.Waits.{idleOf, unservedOf};
@@ -74,6 +75,23 @@ pub enum Found {
 }
 
 impl Lane {
+    // The lane with another waiting operation: a field that is an enum can't be stored to.
+    pub fn with_waiting(self, x: Waiting) -> Lane
+        ensures { λ r. ⌜ r ≡ withWaiting x self ⌝ }
+    {
+        let lines = self.lines;
+        let order = self.order;
+        let returns = self.returns;
+        let downs = self.downs;
+        Lane {
+            lines: lines,
+            order: order,
+            returns: returns,
+            downs: downs,
+            waiting: x,
+        }
+    }
+
     // 01's Search: the lowest-numbered valid line, of the first c, that has block a.
     pub fn search(self, c: u8, a: BlockNo) -> Found
         requires { ⌜ c ≤ 8 ⌝ }

@@ -13,7 +13,7 @@ use Rattle.store.specs.declared.Outcome.{Outcome}
 use Rattle.store.specs.Stores.{laneAt}
 use Rattle.machine.specs.Corruption.{corruptOf}
 use Rattle.machine.specs.Change.{refuse}
-use Rattle.machine.specs.Settle.{doneIn}
+use Rattle.answers.specs.Completions.{doneIn}
 use Rattle.machine.specs.Flat.{flatBlock}
 use Rattle.machine.specs.Sized.{Sized}
 use Rattle.machine.proofs.Owes.{Pending, Rests, Completes}

@@ -15,7 +15,8 @@ use Rattle.lanes.specs.declared.Lane.{Lane}
 use Rattle.lanes.specs.declared.Waiting.the-variants.{Idle}
 use Rattle.answers.specs.declared.Answer.the-variants.{Opened}
 use Rattle.store.specs.declared.Block.{Block}
-use Rattle.store.specs.Opening.{badShape, zeros, blankLine, blankLane, blankBlock, freshOf, openOf}
+use Rattle.words.specs.Units.{zeros}
+use Rattle.store.specs.Opening.{badShape, blankLine, blankLane, blankBlock, freshOf, openOf}
 use Rattle.store.specs.Stores.{noLane, noBlock, laneAt, blockAt}
 use Rattle.machine.specs.Flat.{flatOf, flatBlock}
 use Rattle.machine.proofs.Tests.{on}

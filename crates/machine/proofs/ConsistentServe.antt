@@ -29,7 +29,8 @@ use Rattle.store.specs.declared.Lookup.the-variants.{Nothing}
 use Rattle.store.specs.Control.{busyOf, serviceOf}
 use Rattle.store.specs.Stores.{laneAt, blockAt}
 use Rattle.machine.specs.Change.{nobody, only, goesTo, commitMove}
-use Rattle.machine.specs.Serve.{bareDown, orderOf, sendsOf, ordered, countOf, closedBlock, grantOf, close, serviceFor, serveMove, serveOf}
+use Rattle.queues.specs.Messages.{bareDown}
+use Rattle.machine.specs.Serve.{orderOf, sendsOf, ordered, countOf, closedBlock, grantOf, close, serviceFor, serveMove, serveOf}
 use Rattle.machine.specs.Flat.{flatBlock}
 use Rattle.machine.specs.Sized.{LaneSized}
 use Rattle.machine.proofs.Sound.{sound}

@@ -9,7 +9,8 @@ use Rattle.store.specs.declared.Outcome.{Outcome}
 use Rattle.machine.specs.Serve.{serveOf}
 use Rattle.machine.specs.Return.{returnOf}
 use Rattle.machine.specs.Deliver.{deliverOf}
-use Rattle.machine.specs.Settle.{settleStep, boundOf, Progress, doneIn, advance, repeatStep, Settlement, settleOf, lane}
+use Rattle.answers.specs.Completions.{doneIn}
+use Rattle.machine.specs.Settle.{settleStep, boundOf, Progress, advance, repeatStep, Settlement, settleOf, lane}
 use Rattle.machine.specs.Calls.{Settles, completionsOf}
 use Rattle.machine.proofs.Sound.{sound}
 use Rattle.machine.proofs.Keeps.{serve-keeps, return-keeps, deliver-keeps}

@@ -23,7 +23,8 @@ use Rattle.machine.specs.Change.{refuse}
 use Rattle.machine.specs.Serve.{serveOf}
 use Rattle.machine.specs.Return.{returnOf}
 use Rattle.machine.specs.Deliver.{deliverOf}
-use Rattle.machine.specs.Settle.{settleStep, boundOf, doneIn, lane}
+use Rattle.answers.specs.Completions.{doneIn}
+use Rattle.machine.specs.Settle.{settleStep, boundOf, lane}
 use Rattle.machine.specs.Sized.{Sized}
 use Rattle.machine.proofs.Counts.{step-most}
 use Rattle.machine.proofs.Sums.{count-sum, sum-most}

@@ -44,7 +44,8 @@ use Rattle.machine.specs.declared.LaneAnswer.{LaneAnswer}
 use Rattle.machine.specs.Change.{refuseLane, posted, refusedIn, answerTo}
 use Rattle.machine.specs.Begin.{complete}
 use Rattle.machine.specs.Deliver.{reply, shared, updateAt, purgeAt, fillAt, grantAt, bareAt, servedOn, grantTo, bareTo, deliverKind, deliverLane}
-use Rattle.machine.specs.Settle.{isOrder, downsOf, doneIn}
+use Rattle.answers.specs.Completions.{doneIn}
+use Rattle.machine.specs.Settle.{isOrder, downsOf}
 use Rattle.machine.specs.Sized.{LaneSized}
 use Rattle.machine.proofs.Tests.{on}
 

@@ -16,7 +16,8 @@ use Rattle.store.specs.declared.Store.{Store}
 use Rattle.store.specs.Quiet.{quietOf}
 use Rattle.machine.specs.declared.Settled.the-variants.{Steps}
 use Rattle.machine.specs.Corruption.{corruptOf}
-use Rattle.machine.specs.Settle.{Progress, settleStep, boundOf, doneIn, advance, ended, repeatStep, Settlement, refuseSettle, reached, unlessRefused, settleOf}
+use Rattle.answers.specs.Completions.{doneIn}
+use Rattle.machine.specs.Settle.{Progress, settleStep, boundOf, advance, ended, repeatStep, Settlement, refuseSettle, reached, unlessRefused, settleOf}
 use Rattle.machine.specs.Sized.{Sized}
 use Rattle.machine.proofs.Tests.{on}
 use Rattle.machine.proofs.Sound.{sound}

@@ -24,7 +24,8 @@ use Rattle.store.specs.Stores.{noLane, laneAt, withLane}
 use Rattle.machine.specs.declared.LaneStep.{LaneStep}
 use Rattle.machine.specs.declared.Move.{Move}
 use Rattle.machine.specs.Change.{commitLane, goesTo, someFull, posted, postAll, commitMove, refusedIn, answerTo, movedStore}
-use Rattle.machine.specs.Settle.{downsOf, boundOf, doneIn}
+use Rattle.answers.specs.Completions.{doneIn}
+use Rattle.machine.specs.Settle.{downsOf, boundOf}
 use Rattle.machine.specs.Sized.{LaneSized, Sized}
 use Rattle.machine.proofs.Tests.{and-right}
 use Rattle.machine.proofs.Sums.{sum-same, sum-change, sum-grown, sum-weights}

@@ -19,7 +19,7 @@ use Rattle.lanes.specs.declared.Command.the-variants.{ReadShared, ReadExclusive
 use Rattle.lanes.specs.declared.Operation.{Operation}
 use Rattle.lanes.specs.declared.Waiting.{Waiting}
 use Rattle.lanes.specs.declared.Waiting.the-variants.{Idle, Unserved, Served}
-use Rattle.machine.specs.Begin.{bareReturn, wordsReturn}
+use Rattle.queues.specs.Messages.{bareReturn, wordsReturn}
 use Rattle.machine.specs.Return.{isAnswer}
 use Rattle.machine.specs.Settle.{isOrder}
 use Rattle.machine.proofs.KeepsLane.{clash}

@@ -27,7 +27,8 @@ use Rattle.store.specs.Control.{serviceOf}
 use Rattle.store.specs.Stores.{laneAt, blockAt}
 use Rattle.machine.specs.declared.Move.{Move}
 use Rattle.machine.specs.Change.{only, commitMove}
-use Rattle.machine.specs.Serve.{bareDown, orderOf, ordered, countOf, grantOf, close, serviceFor, serveMove, serveOf}
+use Rattle.queues.specs.Messages.{bareDown}
+use Rattle.machine.specs.Serve.{orderOf, ordered, countOf, grantOf, close, serviceFor, serveMove, serveOf}
 use Rattle.machine.proofs.Sound.{sound}
 use Rattle.machine.proofs.Owes.{upd}
 use Rattle.machine.proofs.Updates.{upd-cases}

@@ -26,7 +26,8 @@ use Rattle.store.specs.declared.Service.{Service}
 use Rattle.store.specs.declared.Lookup.{Lookup}
 use Rattle.store.specs.declared.Lookup.the-variants.{Of, Nothing}
 use Rattle.machine.specs.Change.{goesTo}
-use Rattle.machine.specs.Serve.{bareDown, orderOf, ordered, countOf, serviceFor}
+use Rattle.queues.specs.Messages.{bareDown}
+use Rattle.machine.specs.Serve.{orderOf, ordered, countOf, serviceFor}
 use Rattle.machine.specs.Return.{isAnswer}
 use Rattle.machine.specs.Settle.{isOrder}
 use Rattle.machine.proofs.Tests.{on}

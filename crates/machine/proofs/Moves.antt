@@ -18,8 +18,8 @@ use Rattle.store.specs.declared.Service.{Service}
 use Rattle.store.specs.declared.Lookup.{Lookup}
 use Rattle.store.specs.declared.Lookup.the-variants.{Of, Nothing}
 use Rattle.machine.specs.Change.{only, goesTo}
-use Rattle.machine.specs.Begin.{bareReturn, wordsReturn}
-use Rattle.machine.specs.Serve.{bareDown, orderOf, ordered, countOf, closedBlock, grantOf, serviceFor}
+use Rattle.queues.specs.Messages.{bareReturn, wordsReturn, bareDown}
+use Rattle.machine.specs.Serve.{orderOf, ordered, countOf, closedBlock, grantOf, serviceFor}
 use Rattle.machine.specs.Return.{takenBy}
 use Rattle.machine.proofs.Owes.{upd}
 use Rattle.machine.proofs.BlockState.{Status, Invalid, Shared, Modified, dirty, Seen, BlockState, wordsDone}

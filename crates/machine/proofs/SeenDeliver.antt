@@ -37,7 +37,8 @@ use Rattle.machine.specs.declared.Ready.{Ready}
 use Rattle.machine.specs.declared.Ready.the-variants.{Go, No}
 use Rattle.machine.specs.declared.LaneAnswer.the-variants.{Value, Stepped}
 use Rattle.machine.specs.Change.{refuseLane}
-use Rattle.machine.specs.Begin.{complete, bareReturn, wordsReturn}
+use Rattle.queues.specs.Messages.{bareReturn, wordsReturn}
+use Rattle.machine.specs.Begin.{complete}
 use Rattle.machine.specs.Deliver.{reply, shared, updateAt, purgedOf, purgeAt, claimed, fillAt, grantAt, bareAt, servedOn, grantTo, bareTo, deliverKind, orAsBefore, deliverLane}
 use Rattle.machine.specs.Sized.{LaneSized}
 use Rattle.machine.proofs.Tests.{on}

@@ -10,7 +10,7 @@ use Rattle.words.specs.declared.BlockNo.{BlockNo}
 use Rattle.words.specs.declared.Line.{Line}
 use Rattle.words.specs.declared.Op.{Op}
 use Rattle.words.specs.declared.Op.the-variants as Op
-use Rattle.words.specs.Units.{blockOf}
+use Rattle.words.specs.Units.{blockOf, zeros}
 use Rattle.words.specs.Operations.{performOf, isLoad}
 use Rattle.words.specs.Lines.{invalid}
 use Rattle.queues.specs.declared.ReturnMessage.{ReturnMessage}
@@ -30,11 +30,11 @@ use Rattle.lanes.specs.Lanes.{withWaiting, withOrder, withLine, withReturns}
 use Rattle.answers.specs.declared.Refusal.the-variants.{NoSuchWord, LaneBusy, QueueFull}
 use Rattle.store.specs.declared.Store.{Store}
 use Rattle.store.specs.declared.Outcome.{Outcome}
-use Rattle.store.specs.Opening.{zeros}
 use Rattle.store.specs.Stores.{laneAt}
 use Rattle.machine.specs.declared.LaneAnswer.the-variants.{Value, Waits}
 use Rattle.machine.specs.declared.LaneStep.{LaneStep}
 use Rattle.machine.specs.Change.{refuse, refuseLane, guarded, commitLane}
+use Rattle.queues.specs.Messages.{bareReturn, wordsReturn}
 
 -- the operation is done on a word of line i, here with the contents x
 abbrev pub performed : LineNo → Line → Op → WordNo → Lane → Lane
@@ -63,13 +63,6 @@ hit c i op w l = cond (isLoad op || lineAt l i .private) (complete c i (lineAt l
 -- A miss waits with READ, shared for load and exclusive otherwise
 abbrev pub readOf : Op → Command
 readOf op = cond (isLoad op) ReadShared ReadExclusive
-
--- a return message without words, and one with words
-abbrev pub bareReturn : ReturnKind → BlockNo → ReturnMessage
-bareReturn x a = record { kind = x; block = a; words = zeros }
-
-abbrev pub wordsReturn : ReturnKind → BlockNo → List ℕ → ReturnMessage
-wordsReturn x a ws = record { kind = x; block = a; words = ws }
 
 -- WRITE-EJECT with its words if PRIVATE, else EJECT
 abbrev pub ejectOf : Line → ReturnMessage

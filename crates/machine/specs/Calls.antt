@@ -16,7 +16,8 @@ use Rattle.machine.specs.Begin.{beginOf}
 use Rattle.machine.specs.Serve.{serveOf}
 use Rattle.machine.specs.Return.{returnOf}
 use Rattle.machine.specs.Deliver.{deliverOf}
-use Rattle.machine.specs.Settle.{Settlement, settleOf, doneIn}
+use Rattle.answers.specs.Completions.{doneIn}
+use Rattle.machine.specs.Settle.{Settlement, settleOf}
 
 -- load, store, exchange and add are begin calls, with their operation; lane and word are any numbers
 pub data Call : Type 0 where

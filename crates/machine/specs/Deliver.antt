@@ -32,7 +32,8 @@ use Rattle.machine.specs.declared.LaneStep.{LaneStep}
 use Rattle.machine.specs.declared.Ready.{Ready}
 use Rattle.machine.specs.declared.Ready.the-variants.{Go, No}
 use Rattle.machine.specs.Change.{refuseLane, guarded, commitLane, refusedIn}
-use Rattle.machine.specs.Begin.{complete, bareReturn, wordsReturn}
+use Rattle.queues.specs.Messages.{bareReturn, wordsReturn}
+use Rattle.machine.specs.Begin.{complete}
 
 -- an answer joins the lane's return queue; 12 where that is full
 unfoldable pub reply : ReturnMessage → Lane → LaneStep

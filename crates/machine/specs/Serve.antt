@@ -6,7 +6,7 @@ use lib.Dec.{ltb, eqb}
 use lib.ListN.{getD, set}
 use Rattle.words.specs.declared.LaneNo.{LaneNo}
 use Rattle.words.specs.declared.BlockNo.{BlockNo}
-use Rattle.words.specs.Units.{blockOf}
+use Rattle.words.specs.Units.{blockOf, zeros}
 use Rattle.words.specs.Folds.{countTo}
 use Rattle.queues.specs.declared.DownMessage.{DownMessage}
 use Rattle.queues.specs.declared.DownKind.{DownKind}
@@ -27,17 +27,13 @@ use Rattle.store.specs.declared.Control.{Control}
 use Rattle.store.specs.declared.Control.the-variants.{Busy}
 use Rattle.store.specs.declared.Outcome.{Outcome}
 use Rattle.store.specs.Control.{busyOf}
-use Rattle.store.specs.Opening.{zeros}
 use Rattle.store.specs.Stores.{laneAt, blockAt}
 use Rattle.store.specs.Blocks.{withPresent, withModified}
 use Rattle.machine.specs.declared.Ready.{Ready}
 use Rattle.machine.specs.declared.Ready.the-variants.{Go, No}
 use Rattle.machine.specs.declared.Move.{Move}
 use Rattle.machine.specs.Change.{refuse, guarded, commitMove, nobody, only, goesTo}
-
--- a down message without words
-abbrev pub bareDown : DownKind → BlockNo → DownMessage
-bareDown x a = record { kind = x; block = a; words = zeros }
+use Rattle.queues.specs.Messages.{bareDown, wordsDown}
 
 -- READ shared sends orders if MODIFIED is set, else nothing; READ exclusive and EXCLUDE send orders
 abbrev pub sendsOf : Command → Bool → Bool
@@ -77,7 +73,7 @@ closedBlock Exclude b k = exclusively b k
 
 -- The grant (bare, or with main memory's words)
 abbrev pub grantOf : Block → Service → DownMessage
-grantOf b v = cond (v .bare) (bareDown BareGrant (v .block)) (record { kind = Grant; block = v .block; words = b .words })
+grantOf b v = cond (v .bare) (bareDown BareGrant (v .block)) (wordsDown Grant (v .block) (b .words))
 
 -- Close: the flags, the grant to the service's lane; x is the control without the service
 unfoldable pub close : Service → Lane → Block → Control → Move

@@ -29,6 +29,7 @@ use Rattle.machine.specs.Change.{refuse}
 use Rattle.machine.specs.Serve.{serveOf}
 use Rattle.machine.specs.Return.{returnOf}
 use Rattle.machine.specs.Deliver.{deliverOf}
+use Rattle.answers.specs.Completions.{doneIn}
 
 -- the lane of number k
 abbrev pub lane : ℕ → LaneNo
@@ -85,14 +86,6 @@ pub record Progress : Type 0 where
   pub completions : List Completion
   pub answer : Answer
   pub store : Store
-
--- the completion that an answer has
-abbrev pub doneIn : Answer → List Completion
-doneIn Opened = []
-doneIn (Done x) = x ∷ []
-doneIn Wait = []
-doneIn Step = []
-doneIn (Answer.Refused r) = []
 
 -- one step more
 unfoldable pub advance : Progress → Progress

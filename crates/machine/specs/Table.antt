@@ -9,7 +9,7 @@ use Rattle.words.specs.declared.BlockNo.{BlockNo}
 use Rattle.words.specs.declared.Op.the-variants as Op
 use Rattle.words.specs.Operations.{applyOf}
 use Rattle.words.specs.Lines.{filledLine}
-use Rattle.words.specs.Units.{shaped}
+use Rattle.words.specs.Units.{shaped, zeros}
 use Rattle.queues.specs.declared.DownKind.{DownKind}
 use Rattle.queues.specs.declared.DownKind.the-variants.{Purge, Grant, BareGrant}
 use Rattle.queues.specs.declared.ReturnKind.the-variants.{Gone}
@@ -27,7 +27,7 @@ use Rattle.answers.specs.Completions.{completionOf}
 use Rattle.answers.specs.Refusals.{numberOf}
 use Rattle.store.specs.declared.Store.{Store}
 use Rattle.store.specs.declared.Control.the-variants.{Busy}
-use Rattle.store.specs.Opening.{freshOf, openOf, zeros, line}
+use Rattle.store.specs.Opening.{freshOf, openOf, line}
 use Rattle.store.specs.Stores.{laneAt, blockAt, withLane, withControl, withBlock}
 use Rattle.store.specs.Quiet.{quietOf}
 use Rattle.store.specs.Blocks.{withPresent}
@@ -35,8 +35,7 @@ use Rattle.machine.specs.declared.Settled.{Settled}
 use Rattle.machine.specs.declared.Settled.the-variants.{Steps}
 use Rattle.machine.specs.declared.Filled.the-variants as Filled
 use Rattle.machine.specs.Change.{posted}
-use Rattle.machine.specs.Begin.{bareReturn}
-use Rattle.machine.specs.Serve.{bareDown}
+use Rattle.queues.specs.Messages.{bareReturn, bareDown}
 use Rattle.machine.specs.Settle.{lane, boundOf}
 use Rattle.machine.specs.Flags.{lineIn}
 use Rattle.machine.specs.Calls.{Call, Begin, Serve, Return, Deliver, Settle, Reply, Entry, run}

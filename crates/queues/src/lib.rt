@@ -2,6 +2,7 @@
 // The two halves of this file differ in the element's type alone: the language has no generics. What they say of a queue is
 // stated once, over the element, in specs/Queues.antt.
 ghost use mathlib.Core.Path.{_≡_};
+ghost use Rattle.queues.specs.Messages.{bareReturn, wordsReturn, bareDown, wordsDown};
 ghost use Rattle.queues.specs.Queues.{pushReturn, takeReturn, pushDown, takeDown};
 use words::BlockNo;
 
@@ -33,6 +34,28 @@ pub struct ReturnMessage {
     pub kind: ReturnKind,
     pub block: BlockNo,
     pub words: [u32; 4],
+}
+
+// A return message without words.
+pub fn bare_return(x: ReturnKind, a: BlockNo) -> ReturnMessage
+    ensures { λ r. ⌜ r ≡ bareReturn x a ⌝ }
+{
+    ReturnMessage {
+        kind: x,
+        block: a,
+        words: [0; 4],
+    }
+}
+
+// A return message with words.
+pub fn words_return(x: ReturnKind, a: BlockNo, words: [u32; 4]) -> ReturnMessage
+    ensures { λ r. ⌜ r ≡ wordsReturn x a words ⌝ }
+{
+    ReturnMessage {
+        kind: x,
+        block: a,
+        words: words,
+    }
 }
 
 // The return queue: at most two messages from a lane to memory, first in, first out: the first len of at, head first.
@@ -105,6 +128,28 @@ pub struct DownMessage {
     pub kind: DownKind,
     pub block: BlockNo,
     pub words: [u32; 4],
+}
+
+// A down message without words.
+pub fn bare_down(x: DownKind, a: BlockNo) -> DownMessage
+    ensures { λ r. ⌜ r ≡ bareDown x a ⌝ }
+{
+    DownMessage {
+        kind: x,
+        block: a,
+        words: [0; 4],
+    }
+}
+
+// A down message with words.
+pub fn words_down(x: DownKind, a: BlockNo, words: [u32; 4]) -> DownMessage
+    ensures { λ r. ⌜ r ≡ wordsDown x a words ⌝ }
+{
+    DownMessage {
+        kind: x,
+        block: a,
+        words: words,
+    }
 }
 
 // The down queue: at most two messages from memory to a lane, first in, first out: the first len of at, head first.

@@ -139,14 +139,14 @@ pub fn serve_move(l: Lane, b: Block, x: Control, k: LaneNo, o: Operation) -> Mov
     let to = ordered_lanes(b, k, c);
     let n = count(to);
     let v = service_for(k, o, b, n);
-    let t = closing::with_waiting(l, Waiting::Served(o));
+    let t = l.with_waiting(Waiting::Served(o));
     if n == 0 {
         return closing::close_service(v, t, b, x);
     }
     let d = order_kind(c);
     let w = o.word;
     let a = w.block();
-    let m = closing::bare_down(d, a);
+    let m = queues::bare_down(d, a);
     Move {
         answer: Answer::Step,
         lane: t,

@@ -10,13 +10,13 @@ use lib.Seq.{set-append-seam}
 use Rattle.answers.specs.declared.Answer.{Answer}
 use Rattle.answers.specs.declared.Answer.the-variants.{Opened, Done, Wait, Step, Refused}
 use Rattle.answers.specs.declared.Completion.{Completion}
-use Rattle.answers.specs.Completions.{completionOf}
+use Rattle.answers.specs.Completions.{completionOf, doneIn}
 use Rattle.answers.specs.Refusals.{refusedOf}
 use Rattle.store.specs.declared.Store.{Store}
 use Rattle.store.specs.Quiet.{quietOf}
 use Rattle.machine.specs.declared.Settled.the-variants.{Steps}
 use Rattle.machine.specs.Corruption.{corruptOf}
-use Rattle.machine.specs.Settle.{settleStep, boundOf, doneIn, Progress, ended, advance, repeatStep, Settlement, refuseSettle, reached, unlessRefused, settleOf}
+use Rattle.machine.specs.Settle.{settleStep, boundOf, Progress, ended, advance, repeatStep, Settlement, refuseSettle, reached, unlessRefused, settleOf}
 use Rattle.machine.proofs.Sound.{sound}
 use Rattle.machine.specs.Sized.{Sized}
 use Rattle.machine.proofs.SizedKeeps.{settle-step-sized, sized-whole}

@@ -3,13 +3,14 @@
 ghost use mathlib.Core.Path.{_≡_};
 ghost use mathlib.Core.Bool.{false};
 ghost use Rattle.machine.specs.Corruption.{corruptOf};
-ghost use Rattle.machine.specs.Change.{refuse};
+ghost use Rattle.machine.specs.Change.{refuse, answerTo};
 ghost use Rattle.machine.specs.Begin.{beginOf};
 ghost use Rattle.machine.specs.Serve.{serveOf};
 ghost use Rattle.machine.specs.Return.{returnOf};
 ghost use Rattle.machine.specs.Deliver.{deliverOf};
 use answers::Answer;
 use answers::Refusal;
+use machine::LaneAnswer;
 use machine::Ready;
 use store::Outcome;
 use store::Store;
@@ -24,6 +25,18 @@ pub fn refused(r: Refusal, s: Store) -> Outcome
     Outcome {
         answer: Answer::Refused(r),
         store: s,
+    }
+}
+
+// The answer of a call on lane k by what its part came to: a completion is made here.
+fn answer_to(k: LaneNo, a: LaneAnswer) -> Answer
+    ensures { λ r. ⌜ r ≡ answerTo k a ⌝ }
+{
+    match a {
+        LaneAnswer::Value(v) => Answer::Done(answers::completed(k, v)),
+        LaneAnswer::Waits => Answer::Wait,
+        LaneAnswer::Stepped => Answer::Step,
+        LaneAnswer::Refused(r) => Answer::Refused(r),
     }
 }
 
@@ -43,20 +56,25 @@ pub fn begin_sound(s: Store, k: LaneNo, op: Op, w: WordNo) -> Outcome
     }
     let i = k.0 as usize;
     let l = t.lanes[i];
-    let r = lanestep::begin_lane(l, t.shape.c, k, op, w);
-    let e = r.answer;
-    if e.refused() {
+    let waiting = l.waiting;
+    if waiting.idle() {
+        let r = begin::begin_lane(l, t.shape.c, op, w);
+        let x = r.answer;
+        let e = answer_to(k, x);
+        if e.refused() {
+            return Outcome {
+                answer: e,
+                store: t,
+            };
+        }
+        let u = r.lane;
+        t.lanes[i] = u;
         return Outcome {
             answer: e,
             store: t,
         };
     }
-    let u = r.lane;
-    t.lanes[i] = u;
-    Outcome {
-        answer: e,
-        store: t,
-    }
+    refused(Refusal::LaneBusy, t)
 }
 
 // Serve on a store that is not corrupt.
@@ -119,8 +137,9 @@ pub fn deliver_sound(s: Store, k: LaneNo) -> Outcome
     }
     let i = k.0 as usize;
     let l = t.lanes[i];
-    let r = lanedeliver::deliver_lane(l, t.shape.c, k);
-    let a = r.answer;
+    let r = deliver::deliver_lane(l, t.shape.c);
+    let x = r.answer;
+    let a = answer_to(k, x);
     if a.refused() {
         return Outcome {
             answer: a,

@@ -7,7 +7,7 @@ use lib.ListN.{replicate}
 use Rattle.words.specs.declared.Line.{Line}
 use Rattle.words.specs.declared.LineNo.{LineNo}
 use Rattle.words.specs.declared.Shape.{Shape}
-use Rattle.words.specs.Units.{shaped}
+use Rattle.words.specs.Units.{shaped, zeros}
 use Rattle.words.specs.Folds.{anyOf}
 use Rattle.queues.specs.declared.ReturnKind.the-variants.{Eject}
 use Rattle.queues.specs.declared.DownKind.the-variants.{Update}
@@ -23,10 +23,6 @@ use Rattle.store.specs.declared.Outcome.{Outcome}
 -- Lanes n: 2 to 8. Lines per lane c: 1 to 8. Blocks m: 1 to 64
 unfoldable pub badShape : Shape → Bool
 badShape shape = anyOf (ltb (shape .n) 2 ∷ ltb 8 (shape .n) ∷ ltb (shape .c) 1 ∷ ltb 8 (shape .c) ∷ ltb (shape .m) 1 ∷ ltb 64 (shape .m) ∷ [])
-
--- four words, all 0
-abbrev pub zeros : List ℕ
-zeros = replicate 4 0
 
 -- words and block number 0, flags reset
 abbrev pub blankLine : Line

@@ -1,5 +1,7 @@
 -- 01, "Parts of a store": the units and how a word is found. Assumes nothing.
 use Prim.Native.Nat.{ℕ, _/_, _%_}
+use mathlib.Core.List.{List}
+use lib.ListN.{replicate}
 use Rattle.words.specs.declared.BlockNo.{BlockNo}
 use Rattle.words.specs.declared.WordNo.{WordNo}
 use Rattle.words.specs.declared.Shape.{Shape}
@@ -7,6 +9,10 @@ use Rattle.words.specs.declared.Shape.{Shape}
 -- the shape of n lanes, c lines per lane, m blocks
 abbrev pub shaped : ℕ → ℕ → ℕ → Shape
 shaped n c m = record { n = n; c = c; m = m }
+
+-- four words, all 0
+abbrev pub zeros : List ℕ
+zeros = replicate 4 0
 
 -- Word w belongs to block w ÷ 4, rounded down
 abbrev pub blockOf : WordNo → BlockNo

@@ -1,8 +1,8 @@
 // The four units of number, a shape, the four operations on a word, and a line.
 ghost use mathlib.Core.Path.{_≡_};
 ghost use Rattle.words.specs.Units.{blockOf};
-ghost use Rattle.words.specs.Operations.{applyOf, performOf};
-ghost use Rattle.words.specs.Lines.{holdsOf};
+ghost use Rattle.words.specs.Operations.{isLoad, applyOf, performOf};
+ghost use Rattle.words.specs.Lines.{invalid, holdsOf};
 
 // The number of a lane (000: knum).
 pub struct LaneNo(pub u8);
@@ -47,6 +47,18 @@ pub struct Effect {
 }
 
 impl Op {
+    // Whether the operation is load.
+    pub fn is_load(self) -> bool
+        ensures { λ r. ⌜ r ≡ isLoad self ⌝ }
+    {
+        match self {
+            Op::Load => true,
+            Op::Store(_) => false,
+            Op::Exchange(_) => false,
+            Op::Add(_) => false,
+        }
+    }
+
     // The operation done on one word.
     pub fn apply(self, former: u32) -> Effect
         ensures { λ r. ⌜ r ≡ applyOf self former ⌝ }
@@ -87,6 +99,15 @@ pub struct Performed {
 }
 
 impl Line {
+    // The line with VALID reset, and nothing else.
+    pub fn invalidated(self) -> Line
+        ensures { λ r. ⌜ r ≡ invalid self ⌝ }
+    {
+        let mut x = self;
+        x.valid = false;
+        x
+    }
+
     // Whether the line is valid and has block a.
     pub fn holds(self, a: BlockNo) -> bool
         ensures { λ r. ⌜ r ≡ holdsOf self a ⌝ }

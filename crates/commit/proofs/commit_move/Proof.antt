@@ -6,9 +6,10 @@ use mathlib.Core.Logic.{⊎-elim}
 use mathlib.Core.Path.{_≡_, sym, _∙_}
 use Rattle.words.specs.Folds.{upTo}
 use Rattle.machine.specs.Change.{postTo}
-use Rattle.commit.proofs.Posting.{withLanes, turns-none, turn-posts, turn-passes, turns-all, commit-refused, commit-done}
+use Rattle.commit.proofs.Posting.{turns-none, turn-posts, turn-passes, turns-all, commit-refused, commit-done}
 use Rattle.commit.proofs.commit_move.Statement.{statement}
 use Rattle.commit.proofs.commit_move.Tie as tie
+use Rattle.store.specs.Stores.{withLanes}
 
 abbrev Inv-loop : tie.InvT-loop
 Inv-loop v t₀ e i j to m h₀ t h = (h ≤ 8) × (t ≡ withLanes t₀ (upTo (postTo to m) h (t₀ .lanes)))
@@ -75,10 +76,15 @@ loop-again c = (omega arith, ⊎-elim (λ w. w .3 ∙ turn-posts (c .before .bef
 
 returns-2 : tie.Need-returns-2 Inv-loop μ-loop
 returns-2 c =
-    let e : c .before .before .before .loop .h ≡ 8 = omega arith in
-    commit-done (c .before .before .before .before .before .before .before .before .before .before .before .before .before .before .args .s) (c .before .before .before .before .before .before .before .before .before .before .before .before .before .before .args .k) (c .before .before .before .before .before .before .before .before .before .before .before .before .before .before .args .a) (c .before .before .before .before .before .before .before .before .before .before .before .before .before .before .args .v) _ _ (c .before .before .before .before .before .before .before .before .before .before .before .before .move-answer .ensures)
-    (turns-all (c .before .before .before .before .before .before .before .before .before .before .before .before .before .before .args .v .to) (c .before .before .before .before .before .before .before .before .before .before .before .before .before .before .args .v .message) (c .before .before .before .before .before .before .before .before .before .before .before .before .before .before .args .v .control) _ (c .before .before .before .loop .t) (c .before .before .before .loop .h) (c .before .before .before .loop .inv .1) e)
-    (sym (c .before .before .before .before .before .before .before .before .before .before .before .refused .ensures) ∙ c .before .before .before .before .before .before .before .before .before .before .if1 .left)
+    let at-loop = c .before .before .before .before in
+    let at-lane = at-loop .before .before .before .before .before in
+    let at-if = at-lane .before .before in
+    let at-answer = at-if .before .before in
+    let args = at-answer .before .before .args in
+    let e : at-loop .loop .h ≡ 8 = omega arith in
+    commit-done (args .s) (args .k) (args .a) (args .v) _ _ (at-answer .move-answer .ensures)
+    (turns-all (args .v .to) (args .v .message) (args .v .control) _ (at-loop .loop .t) (at-loop .loop .h) (at-loop .loop .inv .1) e)
+    (sym (at-if .before .refused .ensures) ∙ at-if .if1 .left)
 
 pub commit-move-spec : {M : Type 1} → statement M
 commit-move-spec =

@@ -1,10 +1,11 @@
--- `steps::begin_sound` meets its contract. Assumes nothing.
+-- `steps::begin_sound` meets its contract: 6, 7, 8, then the lane's part, refused or put back. Assumes nothing.
 use borrow.Author.Tests.{le-leb, lt-leb}
 use native.Mathlib.Omega.{arith}
 use Prim.Native.Nat.{_*_}
 use Rattle.steps.proofs.Bounds.{lane-bound, lines-bound, oldest-bound}
 use Rattle.machine.specs.Change.{commitLane}
 use Rattle.machine.specs.Begin.{beginOf}
+use Rattle.machine.proofs.Rules.{answer-goes}
 use borrow.Author.Needs.{needs}
 use Rattle.steps.proofs.begin_sound.Statement.{statement}
 use Rattle.steps.proofs.begin_sound.Tie as tie
@@ -21,7 +22,10 @@ refused-requires-2 c κs = search needs
 
 returns-2 : tie.Need-returns-2
 unfolding beginOf
-returns-2 c = rw (beginOf, c .before .before .before .before .before .pre, lt-leb _ _ (c .before .before .before .if1 .left), le-leb (4 * c .before .before .before .before .before .args .s .m) (c .before .before .before .before .before .args .w .0) (omega arith), c .refused2 .ensures)
+returns-2 c =
+    let at-if1 = c .before .before .before in
+    let start = at-if1 .before .before in
+    rw (beginOf, start .pre, lt-leb _ _ (at-if1 .if1 .left), le-leb (4 * start .args .s .shape .m) (start .args .w .0) (omega arith), c .refused2 .ensures)
 
 cast-i : tie.Need-cast-i
 cast-i c = search needs
@@ -30,27 +34,67 @@ mul-l : tie.Need-mul-l
 mul-l c = search needs
 
 element-copy-out-l : tie.Need-element-copy-out-l
-element-copy-out-l c = lane-bound _ _ (c .before .before .before .before .before .pre) (c .before .before .before .if1 .left)
+element-copy-out-l c =
+    let at-if1 = c .before .before .before in
+    let start = at-if1 .before .before in
+    lane-bound _ _ (start .pre) (at-if1 .if1 .left)
+
+idle-requires : tie.Need-idle-requires
+idle-requires c κs = search needs
 
 begin-lane-requires : tie.Need-begin-lane-requires
-begin-lane-requires c κs = (lines-bound _ _ (c .before .before .before .before .before .before .pre) (c .before .before .before .before .if1 .left), oldest-bound _ _ (c .before .before .before .before .before .before .pre) (c .before .before .before .before .if1 .left))
+begin-lane-requires c κs =
+    let at-l = c .before .before in
+    let at-if1 = at-l .before .before .before .before in
+    let start = at-if1 .before .before in
+    (lines-bound _ _ (start .pre) (at-if1 .if1 .left), oldest-bound _ _ (start .pre) (at-if1 .if1 .left))
+
+answer-to-requires : tie.Need-answer-to-requires
+answer-to-requires c κs = search needs
 
 refused-requires-3 : tie.Need-refused-requires-3
 refused-requires-3 c κs = search needs
 
 returns-3 : tie.Need-returns-3
 unfolding beginOf commitLane
-returns-3 c = rw (beginOf, c .before .before .before .before .before .before .before .before .before .pre, lt-leb _ _ (c .before .before .before .before .before .before .before .if1 .left), lt-leb (4 * c .before .before .before .before .before .before .before .before .before .args .s .m) (c .before .before .before .before .before .before .before .before .before .args .w .0) (omega arith), ← c .before .before .begin-lane .ensures, commitLane, ← c .before .refused3 .ensures, c .if3 .taken)
+returns-3 c =
+    let at-begin = c .before .before .before in
+    let at-idle = at-begin .before .before in
+    let at-if1 = at-idle .before .before .before .before .before in
+    let start = at-if1 .before .before in
+    rw (beginOf, start .pre, lt-leb _ _ (at-if1 .if1 .left), lt-leb (4 * start .args .s .shape .m) (start .args .w .0) (omega arith), ← at-idle .idle .ensures, at-begin .before .if3 .taken, ← at-begin .begin-lane .ensures, commitLane, ← answer-goes (start .args .k), ← c .before .before .answer-to .ensures, ← c .before .refused3 .ensures, c .if4 .taken)
 
 mul-u : tie.Need-mul-u
 mul-u c = search needs
 
 element-set-from-u : tie.Need-element-set-from-u
-element-set-from-u c = lane-bound _ _ (c .before .before .before .before .before .before .before .before .before .before .pre) (c .before .before .before .before .before .before .before .before .if1 .left)
+element-set-from-u c =
+    let at-begin = c .before .before .before .before in
+    let at-l = at-begin .before .before .before in
+    let at-if1 = at-l .before .before .before .before in
+    let start = at-if1 .before .before in
+    lane-bound _ _ (start .pre) (at-if1 .if1 .left)
 
 returns-4 : tie.Need-returns-4
 unfolding beginOf commitLane
-returns-4 c = rw (beginOf, c .before .before .before .before .before .before .before .before .before .before .pre, lt-leb _ _ (c .before .before .before .before .before .before .before .before .if1 .left), lt-leb (4 * c .before .before .before .before .before .before .before .before .before .before .args .s .m) (c .before .before .before .before .before .before .before .before .before .before .args .w .0) (omega arith), ← c .before .before .before .begin-lane .ensures, commitLane, ← c .before .before .refused3 .ensures, c .before .if3 .left)
+returns-4 c =
+    let at-answer = c .before .before .before in
+    let at-begin = at-answer .before in
+    let at-idle = at-begin .before .before in
+    let at-if1 = at-idle .before .before .before .before .before in
+    let start = at-if1 .before .before in
+    rw (beginOf, start .pre, lt-leb _ _ (at-if1 .if1 .left), lt-leb (4 * start .args .s .shape .m) (start .args .w .0) (omega arith), ← at-idle .idle .ensures, at-begin .before .if3 .taken, ← at-begin .begin-lane .ensures, commitLane, ← answer-goes (start .args .k), ← at-answer .answer-to .ensures, ← c .before .before .refused3 .ensures, c .before .if4 .left)
+
+refused-requires-4 : tie.Need-refused-requires-4
+refused-requires-4 c κs = search needs
+
+returns-5 : tie.Need-returns-5
+unfolding beginOf
+returns-5 c =
+    let at-idle = c .before .before in
+    let at-if1 = at-idle .before .before .before .before .before in
+    let start = at-if1 .before .before in
+    rw (beginOf, start .pre, lt-leb _ _ (at-if1 .if1 .left), lt-leb (4 * start .args .s .shape .m) (start .args .w .0) (omega arith), ← at-idle .idle .ensures, c .before .if3 .left, c .refused4 .ensures)
 
 pub begin-sound-spec : {M : Type 1} → statement M
 begin-sound-spec =
@@ -63,9 +107,13 @@ begin-sound-spec =
     cast-i
     mul-l
     element-copy-out-l
+    idle-requires
     begin-lane-requires
+    answer-to-requires
     refused-requires-3
     returns-3
     mul-u
     element-set-from-u
-    returns-4)
+    returns-4
+    refused-requires-4
+    returns-5)

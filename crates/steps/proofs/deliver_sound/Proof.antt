@@ -1,11 +1,17 @@
--- `steps::deliver_sound` meets its contract. Assumes nothing.
 use borrow.Author.Tests.{le-leb, lt-leb}
 use Rattle.steps.proofs.Bounds.{lane-bound, lines-bound}
 use Rattle.machine.specs.Change.{commitLane}
 use Rattle.machine.specs.Deliver.{deliverOf}
+use Rattle.machine.proofs.Rules.{answer-goes}
 use borrow.Author.Needs.{needs}
 use Rattle.steps.proofs.deliver_sound.Statement.{statement}
 use Rattle.steps.proofs.deliver_sound.Tie as tie
+use Rattle.steps.proofs.deliver_sound.Reads as reads
+use Rattle.steps.proofs.deliver_sound.Lts as lts
+use Rattle.answers.proofs.Answer.refused.Reads as Answer-refused-reads
+use Rattle.deliver.proofs.deliver_lane.Reads as deliver-lane-reads
+use Rattle.steps.proofs.answer_to.Reads as answer-to-reads
+use Rattle.steps.proofs.refused.Reads as refused-reads
 
 refused-requires : tie.Need-refused-requires
 refused-requires c κs = search needs
@@ -26,22 +32,38 @@ element-copy-out-l c = lane-bound _ _ (c .before .before .before .pre) (c .befor
 deliver-lane-requires : tie.Need-deliver-lane-requires
 deliver-lane-requires c κs = lines-bound _ _ (c .before .before .before .before .pre) (c .before .before .if1 .left)
 
+answer-to-requires : tie.Need-answer-to-requires
+answer-to-requires c κs = search needs
+
 refused-requires-2 : tie.Need-refused-requires-2
 refused-requires-2 c κs = search needs
 
 returns-2 : tie.Need-returns-2
 unfolding deliverOf commitLane
-returns-2 c = rw (deliverOf, c .before .before .before .before .before .before .before .pre, lt-leb _ _ (c .before .before .before .before .before .if1 .left), ← c .before .before .deliver-lane .ensures, commitLane, ← c .before .refused2 .ensures, c .if2 .taken)
+returns-2 c =
+    let at-deliver = c .before .before .before in
+    let at-if1 = at-deliver .before .before .before in
+    let start = at-if1 .before .before in
+    rw (deliverOf, start .pre, lt-leb _ _ (at-if1 .if1 .left), ← at-deliver .deliver-lane .ensures, commitLane, ← answer-goes (start .args .k), ← c .before .before .answer-to .ensures, ← c .before .refused2 .ensures, c .if2 .taken)
 
 mul-u : tie.Need-mul-u
 mul-u c = search needs
 
 element-set-from-u : tie.Need-element-set-from-u
-element-set-from-u c = lane-bound _ _ (c .before .before .before .before .before .before .before .before .pre) (c .before .before .before .before .before .before .if1 .left)
+element-set-from-u c =
+    let at-deliver = c .before .before .before .before in
+    let at-if1 = at-deliver .before .before .before in
+    let start = at-if1 .before .before in
+    lane-bound _ _ (start .pre) (at-if1 .if1 .left)
 
 returns-3 : tie.Need-returns-3
 unfolding deliverOf commitLane
-returns-3 c = rw (deliverOf, c .before .before .before .before .before .before .before .before .pre, lt-leb _ _ (c .before .before .before .before .before .before .if1 .left), ← c .before .before .before .deliver-lane .ensures, commitLane, ← c .before .before .refused2 .ensures, c .before .if2 .left)
+returns-3 c =
+    let at-answer = c .before .before .before in
+    let at-deliver = at-answer .before in
+    let at-if1 = at-deliver .before .before .before in
+    let start = at-if1 .before .before in
+    rw (deliverOf, start .pre, lt-leb _ _ (at-if1 .if1 .left), ← at-deliver .deliver-lane .ensures, commitLane, ← answer-goes (start .args .k), ← at-answer .answer-to .ensures, ← c .before .before .refused2 .ensures, c .before .if2 .left)
 
 pub deliver-sound-spec : {M : Type 1} → statement M
 deliver-sound-spec =
@@ -53,6 +75,7 @@ deliver-sound-spec =
     mul-l
     element-copy-out-l
     deliver-lane-requires
+    answer-to-requires
     refused-requires-2
     returns-2
     mul-u

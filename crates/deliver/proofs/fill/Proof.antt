@@ -1,0 +1,44 @@
+-- `deliver::fill` meets its contract. Assumes nothing.
+use mathlib.Core.Path.{sym, _∙_}
+use native.Mathlib.Omega.{arith}
+use Rattle.lanes.proofs.Firsts.{first-bound}
+use borrow.Author.Needs.{needs}
+use Rattle.deliver.proofs.fill.Statement.{statement}
+use Rattle.deliver.proofs.fill.Tie as tie
+
+vacant-requires : tie.Need-vacant-requires
+vacant-requires c κs = search needs
+
+enum-known-i : tie.Need-enum-known-i
+enum-known-i c = search needs
+
+enum-told : tie.Need-enum-told
+enum-told c = search needs
+
+refuse-requires : tie.Need-refuse-requires
+refuse-requires c κs = search needs
+
+returns : tie.Need-returns
+returns c = rw (← c .before .before .before .vacant .ensures, c .before .enum-told .given .1, c .refuse .ensures)
+
+claim-requires : tie.Need-claim-requires
+claim-requires c κs = search needs
+
+complete-requires : tie.Need-complete-requires
+complete-requires c κs = (omega arith, omega (arith, first-bound _ _ _ _ _ (sym (c .before .before .before .before .before .before .before .vacant .ensures) ∙ c .before .before .before .before .before .i .given .1)))
+
+returns-2 : tie.Need-returns-2
+returns-2 c = rw (← c .before .before .before .before .before .before .before .before .vacant .ensures, c .before .before .before .before .before .before .i .given .1, c .complete .ensures, c .before .claim .ensures)
+
+pub fill-spec : {M : Type 1} → statement M
+fill-spec =
+    tie.close
+    (tie.spec
+    vacant-requires
+    enum-known-i
+    enum-told
+    refuse-requires
+    returns
+    claim-requires
+    complete-requires
+    returns-2)
