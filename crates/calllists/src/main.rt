@@ -43,15 +43,16 @@ fn told(o: Outcome) -> Store {
     o.store
 }
 
-// Settle: the answer and the completions.
+// Settle: the answer, the completions and the bound.
 fn settled(s: Store) -> Store {
+    let bound = bounds::checked_bound(s);
     let o = settle::settle(s);
     let a = o.answer;
     let d = o.completions;
     let r = replybytes::settle_reply(a, d.len);
     write_reply(r);
-    let mut out = [0u8; 40];
-    replybytes::put_completions(&mut out, 0, d);
+    let mut out = [0u8; 42];
+    replybytes::put_settled(&mut out, d, bound);
     io::write_all(STDOUT_FILENO, &out);
     o.store
 }

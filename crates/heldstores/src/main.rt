@@ -64,14 +64,15 @@ fn answer_picture(s: Store, lent: usize) {
 }
 
 fn answer_settle(s: Store) {
+    let bound = bounds::checked_bound(s);
     let o = settle::settle(s);
     let a = o.answer;
     let d = o.completions;
     let after = o.store;
     let r = replybytes::settle_reply(a, d.len);
     write_after(r, after);
-    let mut out = [0u8; 40];
-    replybytes::put_completions(&mut out, 0, d);
+    let mut out = [0u8; 42];
+    replybytes::put_settled(&mut out, d, bound);
     io::write_all(STDOUT_FILENO, &out);
 }
 

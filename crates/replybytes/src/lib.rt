@@ -107,7 +107,7 @@ fn put_completion(out: &mut [u8], at: usize, x: Completion)
 }
 
 // The completions that are listed, 5 bytes each; 40 bytes have room for all.
-pub fn put_completions(out: &mut [u8], at: usize, d: Completions)
+fn put_completions(out: &mut [u8], at: usize, d: Completions)
     requires { ⌜ at + 40 ≤ length (now out) ⌝ }
 {
     let listed = d.len as usize;
@@ -117,4 +117,13 @@ pub fn put_completions(out: &mut [u8], at: usize, d: Completions)
         put_completion(out, at + 5 * i, x);
         i += 1;
     }
+}
+
+// What stands behind a settle's reply: the completions, and the bound of the store before.
+pub fn put_settled(out: &mut [u8], d: Completions, bound: u16)
+    requires { ⌜ 42 ≤ length (now out) ⌝ }
+{
+    put_completions(out, 0, d);
+    put(out, 40, (bound % 256) as u8);
+    put(out, 41, (bound / 256 % 256) as u8);
 }

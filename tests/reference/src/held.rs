@@ -20,6 +20,10 @@ pub const SETTLED_TAG: u8 = 6;
 pub const COMPLETION_BYTES: usize = 5;
 pub const COMPLETIONS_BYTES: usize = LANES * COMPLETION_BYTES;
 
+/// What follows settle's answer: its completions, then its bound.
+pub const BOUND_BYTES: usize = 2;
+pub const SETTLED_BYTES: usize = COMPLETIONS_BYTES + BOUND_BYTES;
+
 #[derive(Clone, Copy, PartialEq, Eq, Debug)]
 pub enum HeldCall {
     Machine(Call),
@@ -47,7 +51,7 @@ pub enum HeldAnswer {
 }
 
 /// What a held call gives: answer, store after, and what follows the store:
-/// picture's buffer, or settle's completions.
+/// picture's buffer, or settle's completions and bound.
 pub struct Given {
     pub answer: HeldAnswer,
     pub store: Store,
@@ -72,11 +76,12 @@ pub fn run(store: &Store, call: HeldCall) -> Given {
             Given { answer, store: store.clone(), after: buffer }
         }
         HeldCall::Settle => {
+            let bound = bound_bytes(store);
             let (answer, store) = match settle::settle(store) {
                 Ok((after, given)) => (HeldAnswer::Settled(given), after),
                 Err(number) => (HeldAnswer::Refused(number), store.clone()),
             };
-            let after = completions_bytes(&answer).to_vec();
+            let after = settled_bytes(&answer, bound);
             Given { answer, store, after }
         }
     }
@@ -96,7 +101,7 @@ pub fn given_length(call: HeldCall) -> usize {
     let after = match call {
         HeldCall::Machine(_) => 0,
         HeldCall::Picture(_) => BUFFER_BYTES,
-        HeldCall::Settle => COMPLETIONS_BYTES,
+        HeldCall::Settle => SETTLED_BYTES,
     };
     ANSWER_BYTES + STORE_BYTES + after
 }
@@ -115,8 +120,24 @@ pub fn answer_bytes(answer: &HeldAnswer) -> [u8; ANSWER_BYTES] {
     [tag, small, v[0], v[1], v[2], v[3], completions(answer).len() as u8, 0]
 }
 
-/// What follows settle's answer: its completions in order, then 0.
-pub fn completions_bytes(answer: &HeldAnswer) -> [u8; COMPLETIONS_BYTES] {
+/// 01's bound on the steps of a settle of a store; 0 where that is corrupt.
+pub fn bound_bytes(before: &Store) -> [u8; BOUND_BYTES] {
+    let bound = match machine::corrupt(before) {
+        true => 0,
+        false => settle::bound(before),
+    };
+    u16::try_from(bound).expect("a bound of at most 8 lanes").to_le_bytes()
+}
+
+/// What follows settle's answer.
+pub fn settled_bytes(answer: &HeldAnswer, bound: [u8; BOUND_BYTES]) -> Vec<u8> {
+    let mut out = completions_bytes(answer).to_vec();
+    out.extend(bound);
+    out
+}
+
+/// The completions in order, then 0.
+fn completions_bytes(answer: &HeldAnswer) -> [u8; COMPLETIONS_BYTES] {
     let mut out = [0; COMPLETIONS_BYTES];
     for (place, done) in out.chunks_mut(COMPLETION_BYTES).zip(completions(answer)) {
         place[0] = done.lane;

@@ -36,7 +36,7 @@ impl Record {
     pub fn answer_length(self) -> usize {
         match self {
             Record::Open { .. } => held::ANSWER_BYTES,
-            Record::Call(HeldCall::Settle) => held::ANSWER_BYTES + held::COMPLETIONS_BYTES,
+            Record::Call(HeldCall::Settle) => held::ANSWER_BYTES + held::SETTLED_BYTES,
             Record::Call(_) => held::ANSWER_BYTES,
             Record::Show => held::STORE_BYTES,
         }
@@ -98,15 +98,16 @@ pub fn blank() -> Store {
     Store::fresh(0, 0, 0)
 }
 
-/// The bytes that a record's answer has.
-pub fn answer_bytes(record: Record, given: &Given) -> Vec<u8> {
+/// The bytes that a record's answer has; the bound is that of the store before,
+/// and stands in settle's only.
+pub fn answer_bytes(record: Record, given: &Given, bound: [u8; held::BOUND_BYTES]) -> Vec<u8> {
     let mut out = match given {
         Given::Opened => vec![0; held::ANSWER_BYTES],
         Given::Answer(answer) => held::answer_bytes(answer).to_vec(),
         Given::Store(store) => held::encode_store(store),
     };
     if let (Record::Call(HeldCall::Settle), Given::Answer(answer)) = (record, given) {
-        out.extend(held::completions_bytes(answer));
+        out.extend(held::settled_bytes(answer, bound));
     }
     out
 }
@@ -115,13 +116,15 @@ pub fn answer_bytes(record: Record, given: &Given) -> Vec<u8> {
 pub fn answers(input: &[u8]) -> Result<Vec<u8>, String> {
     let (mut store, mut out) = (blank(), Vec::new());
     for record in records(input)? {
+        let bound = held::bound_bytes(&store);
         let given = run(&mut store, record);
-        out.extend(answer_bytes(record, &given));
+        out.extend(answer_bytes(record, &given, bound));
     }
     Ok(out)
 }
 
-/// Reads an answer back; only what a right program can give is read.
+/// Reads an answer back; only what a right program can give is read, and a
+/// settle's bound may be any.
 pub fn read_answer(record: Record, bytes: &[u8]) -> Result<Given, String> {
     if record == Record::Show {
         return Ok(Given::Store(Box::new(held::decode_store(bytes)?)));
@@ -134,13 +137,15 @@ pub fn read_answer(record: Record, bytes: &[u8]) -> Result<Given, String> {
         (_, 3) => Given::Answer(HeldAnswer::Machine(Answer::Step)),
         (_, 4) => Given::Answer(HeldAnswer::Refused(bytes[1])),
         (Record::Call(HeldCall::Settle), 6) => {
-            let places = bytes[held::ANSWER_BYTES..].chunks(COMPLETION_BYTES);
+            let places =
+                bytes[held::ANSWER_BYTES..][..held::COMPLETIONS_BYTES].chunks(COMPLETION_BYTES);
             let completions = places.take(usize::from(bytes[6])).map(completion).collect();
             Given::Answer(HeldAnswer::Settled(Settled { steps: value, completions }))
         }
         (_, tag) => return Err(format!("answer tag {tag}")),
     };
-    match answer_bytes(record, &given) == bytes {
+    let bound = [bytes[bytes.len() - 2], bytes[bytes.len() - 1]];
+    match answer_bytes(record, &given, bound) == bytes {
         true => Ok(given),
         false => Err("bytes that the answer leaves free are not 0".to_string()),
     }
@@ -172,8 +177,9 @@ pub fn differences(input: &[u8], other: &[u8], most: usize) -> Result<Vec<String
     let (mut store, mut at, mut list, mut found) = (blank(), 0, 0, Vec::new());
     for (index, record) in records(input)?.into_iter().enumerate() {
         list += usize::from(matches!(record, Record::Open { .. }));
+        let bound = held::bound_bytes(&store);
         let given = run(&mut store, record);
-        let own = answer_bytes(record, &given);
+        let own = answer_bytes(record, &given, bound);
         let theirs = other.get(at..at + own.len());
         at += own.len();
         if theirs == Some(&own[..]) || found.len() == most {

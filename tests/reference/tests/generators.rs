@@ -109,7 +109,7 @@ fn makers_are_deterministic() {
 }
 
 /// From the bytes of a case to those of its answer: the number, the store's
-/// own bytes, and what follows them untouched.
+/// own bytes, and what follows them untouched, but for settle's bound.
 fn refusal_changes_nothing(case: &[u8], call: HeldCall, number: u8) {
     let (follows, untouched) = match call {
         HeldCall::Machine(_) => (0, 0),
@@ -119,6 +119,10 @@ fn refusal_changes_nothing(case: &[u8], call: HeldCall, number: u8) {
     let mut want = vec![4, number, 0, 0, 0, 0, 0, 0];
     want.extend(&case[..held::STORE_BYTES]);
     want.extend(vec![untouched; follows]);
+    if call == HeldCall::Settle {
+        let (before, _) = held::decode_case(case).expect("well formed");
+        want.extend(held::bound_bytes(&before));
+    }
     assert!(held::answers(case) == Ok(want), "{call:?} refused {number}");
 }
 

@@ -345,13 +345,21 @@ fn settle_bytes() {
         });
     }
     let given = held::run(&s, HeldCall::Settle).bytes();
-    assert_eq!(given.len(), 8 + 3_545 + 40);
+    assert_eq!(given.len(), 8 + 3_545 + 40 + 2);
     assert_eq!(given[..8], [6, 0, 6, 0, 0, 0, 2, 0]);
     assert_eq!(given[8 + 3_545..][..10], [1, 1, 2, 3, 4, 2, 2, 4, 6, 8]);
-    assert_eq!(given[8 + 3_545 + 10..], [0; 30]);
+    assert_eq!(given[8 + 3_545 + 10..][..30], [0; 30]);
+    // 2 × n × U.
+    assert_eq!(given[8 + 3_545 + 40..], [12, 0]);
     s.lanes[0].down = queue(1, DownKind::BareGrant, 1);
     let given = held::run(&s, HeldCall::Settle).bytes();
     assert_eq!(given[..8], [4, 16, 0, 0, 0, 0, 0, 0]);
     assert_eq!(given[8..8 + 3_545], held::encode_store(&s));
-    assert_eq!(given[8 + 3_545..], [0; 40]);
+    assert_eq!(given[8 + 3_545..][..40], [0; 40]);
+    // G more, though it is refused; 14 gives none.
+    assert_eq!(given[8 + 3_545 + 40..], [13, 0]);
+    s.c = 0;
+    let given = held::run(&s, HeldCall::Settle).bytes();
+    assert_eq!(given[..8], [4, 14, 0, 0, 0, 0, 0, 0]);
+    assert_eq!(given[8 + 3_545..], [0; 42]);
 }

@@ -200,6 +200,7 @@ fn a_refusal_after_a_completion_gives_its_number_alone() {
     let mut want = vec![4, 16, 0, 0, 0, 0, 0, 0];
     want.extend(&case[..held::STORE_BYTES]);
     want.extend([0; held::COMPLETIONS_BYTES]);
+    want.extend([2, 0]); // a grant and a return
     assert_eq!(held::answers(&case), Ok(want));
 }
 
