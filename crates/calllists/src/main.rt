@@ -8,6 +8,7 @@ use replybytes::Reply;
 use store::Outcome;
 use store::Store;
 use words::LaneNo;
+use words::Shape;
 use words::WordNo;
 
 // A kind and its fields.
@@ -69,7 +70,12 @@ fn answer(s: Store, bytes: &[u8]) -> Store
 {
     let kind = bytes[0];
     if kind == OPEN {
-        let o = opening::open(bytes[1], bytes[2], bytes[3]);
+        let shape = Shape {
+            n: bytes[1],
+            c: bytes[2],
+            m: bytes[3],
+        };
+        let o = opening::open(shape);
         return told(o);
     }
     if kind == SETTLE {
@@ -105,8 +111,7 @@ fn next(s: Store) -> Turn {
 
 // The first opening stands in the input; before it the store is the blank one.
 fn main() {
-    let o = opening::open(0, 0, 0);
-    let mut s = o.store;
+    let mut s = opening::blank();
     let mut more = true;
     let mut turns: u32 = 0;
     while more && turns < MOST_RECORDS {

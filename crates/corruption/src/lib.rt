@@ -94,14 +94,12 @@ fn bad_control(x: Control, n: u8, m: u8) -> bool
 pub fn corrupt(s: Store) -> bool
     ensures { λ r. ⌜ r ≡ corruptOf s ⌝ }
 {
-    let n = s.shape.n;
-    let c = s.shape.c;
-    let m = s.shape.m;
-    if opening::bad_shape(n, c, m) {
+    let shape = s.shape;
+    if opening::bad_shape(shape) {
         return true;
     }
     let x = s.control;
-    if bad_control(x, n, m) {
+    if bad_control(x, shape.n, shape.m) {
         return true;
     }
     if bad_lanes(s) {

@@ -115,7 +115,6 @@ lane-sent s k l to x j t n h =
     post-at to x (set (s .lanes) k l) j t (z ∙ n) ∙
     ap (λ (y : Lane). cond (goesTo to j) (posted x y) y) (getD-set (s .lanes) k j l noLane (omega arith))
 
-
 -- what memory's part of a call has to show: sizes, room in the queues, and that its message is about its block
 pub record Moves (s : Store) (k : LaneNo) (a : BlockNo) (v : Move) : Type 0 where
   pub sized : Sized s

@@ -41,7 +41,7 @@ pub struct Move {
 
 // What settle answers: how many steps it took, or why it is refused.
 pub enum Settled {
-    Steps(u8),
+    Steps(u16),
     Refused(Refusal),
 }
 

@@ -35,7 +35,7 @@ fn print_records(tape: &[u8], out: &mut [u8]) -> usize
     requires { ⌜ (length (now tape) ≤ tapeMost) × (textMost ≤ length (now out)) ⌝ }
     ensures { λ r. ⌜ (r ≡ length (printed (now (tape .entry)))) × (now (out .exit) ≡ written (now (out .entry)) 0 (printed (now (tape .entry)))) ⌝ }
 {
-    let mut store = opening::fresh(0, 0, 0);
+    let mut store = opening::blank();
     let mut at: usize = 0;
     let mut index: u32 = 0;
     let mut filled: usize = 0;

@@ -90,7 +90,7 @@ fn settle_sound(first: Store) -> SettleOutcome
 {
     let mut s = first;
     let mut done = none();
-    let mut count: u8 = 0;
+    let mut count: u16 = 0;
     while !quiet::quiet(s) {
         let r = settlestep::step(s);
         let a = r.answer;

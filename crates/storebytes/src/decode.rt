@@ -21,6 +21,7 @@ use words::LaneNo;
 use words::Line;
 use words::LineNo;
 use words::Op;
+use words::Shape;
 use words::WordNo;
 
 fn wide(x: u8) -> u32
@@ -298,16 +299,16 @@ fn control_from(bytes: &[u8], at: usize) -> Control
 pub fn store_from(bytes: &[u8]) -> Store
     requires { ⌜ 3545 ≤ length (now bytes) ⌝ }
 {
-    let n = bytes[0];
-    let c = bytes[1];
-    let m = bytes[2];
+    let shape = Shape {
+        n: bytes[0],
+        c: bytes[1],
+        m: bytes[2],
+    };
     let control = control_from(bytes, 3);
     let lanes = lanes_from(bytes, 9);
     let blocks = blocks_from(bytes, 1945);
     Store {
-        n: n,
-        c: c,
-        m: m,
+        shape: shape,
         control: control,
         lanes: lanes,
         blocks: blocks,

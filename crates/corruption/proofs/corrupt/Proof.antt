@@ -22,14 +22,14 @@ unfolding corruptOf anyOf
 returns-2 c = rw (corruptOf, anyOf, ← c .before .before .before .bad-shape .ensures, c .before .before .if1 .left, ← c .before .bad-control .ensures, c .if2 .taken)
 
 bad-lanes-requires : tie.Need-bad-lanes-requires
-bad-lanes-requires c κs = let b = shape-bounds _ _ _ (sym (c .before .before .before .bad-shape .ensures) ∙ c .before .before .if1 .left) in (b .1, b .3)
+bad-lanes-requires c κs = let b = shape-bounds _ (sym (c .before .before .before .bad-shape .ensures) ∙ c .before .before .if1 .left) in (b .1, b .3)
 
 returns-3 : tie.Need-returns-3
 unfolding corruptOf anyOf
 returns-3 c = rw (corruptOf, anyOf, ← c .before .before .before .before .before .bad-shape .ensures, c .before .before .before .before .if1 .left, ← c .before .before .before .bad-control .ensures, c .before .before .if2 .left, ← c .before .bad-lanes .ensures, c .if3 .taken)
 
 bad-blocks-requires : tie.Need-bad-blocks-requires
-bad-blocks-requires c κs = let b = shape-bounds _ _ _ (sym (c .before .before .before .before .before .bad-shape .ensures) ∙ c .before .before .before .before .if1 .left) in b .5
+bad-blocks-requires c κs = let b = shape-bounds _ (sym (c .before .before .before .before .before .bad-shape .ensures) ∙ c .before .before .before .before .if1 .left) in b .5
 
 returns-4 : tie.Need-returns-4
 unfolding corruptOf anyOf
