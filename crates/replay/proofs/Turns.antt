@@ -13,7 +13,7 @@ use Rattle.records.specs.Records.{parseOf}
 use Rattle.records.proofs.Parsing.{parse-takes}
 use Rattle.answers.specs.declared.Answer.{Answer}
 use Rattle.store.specs.declared.Store.{Store}
-use Rattle.store.specs.Opening.{freshOf}
+use Rattle.store.specs.Opening.{freshOf, blankStore}
 use Rattle.store.proofs.Store as T
 use Rattle.machine.specs.Tape.{recordOf, replayFrom, replayOf}
 use Rattle.machine.specs.Text.{lineText, linesText, endText, tapeMost, textMost, printed}
@@ -84,7 +84,7 @@ module _ (tape out : List ℕ) where
   pub going-start : Short → (z : Store) → z ≡ blankStore → Going (length tape) 0 z out 0 0
   unfolding printed replayOf
   going-start h z e =
-      let same : 0 + length (replayFrom (length tape) (blankStore) tape) ≡ length (replayFrom (length tape) (blankStore) tape) = omega arith in
+      let same : 0 + length (replayFrom (length tape) blankStore tape) ≡ length (replayFrom (length tape) blankStore tape) = omega arith in
       let is : Rest (length tape) 0 z 0 ≡ printed tape = rw (e, le-ltb tapeMost (length tape) (h .0), same) in
       record {
         enough = omega arith;

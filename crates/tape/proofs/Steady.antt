@@ -10,11 +10,12 @@ use Rattle.records.specs.declared.Record.{Record}
 use Rattle.records.specs.declared.Record.the-variants as Record
 use Rattle.store.specs.declared.Store.{Store}
 use Rattle.store.specs.declared.Outcome.{Outcome}
-use Rattle.store.specs.Opening.{badShape, freshOf}
+use Rattle.store.specs.Opening.{badShape, freshOf, blankStore}
 use Rattle.machine.specs.Corruption.{corruptOf}
 use Rattle.machine.specs.Tape.{isOpen, openRecord, whenOpen, recordOf}
 use Rattle.machine.proofs.Keeps.{Whole, open-keeps, open-whole, begin-keeps, serve-keeps, return-keeps, deliver-keeps, begin-whole, serve-whole, return-whole, deliver-whole}
 use Rattle.tape.specs.Steady.{Steady}
+use Rattle.words.specs.declared.Shape.{Shape}
 
 -- a store that a tape can have and that is open is not corrupt
 pub steady-open : (s : Store) → Steady s → (s .shape .n ≡ 0 → ⊥) → corruptOf s ≡ false
@@ -30,7 +31,7 @@ abbrev After : Outcome → Type 0
 After r = Tapes (r .store)
 
 -- the blank store
-pub blank-tapes : Tapes (blankStore)
+pub blank-tapes : Tapes blankStore
 unfolding freshOf
 blank-tapes = record { steady = inl refl; whole = λ k h. absurd (omega arith) }
 

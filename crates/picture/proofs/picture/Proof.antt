@@ -19,7 +19,7 @@ valid-lines-requires c κs = let s = sound (c .before .before .before .args .s) 
 
 mul-needed : tie.Need-mul-needed
 mul-needed c = let s = sound (c .before .before .before .before .args .s) (sym (c .before .before .corrupt .ensures) ∙ c .before .if1 .left) in
-    let v = valid-most (c .before .before .before .before .args .s) (c .before .before .before .before .args .s .n) (s .c-high) in
+    let v = valid-most (c .before .before .before .before .args .s) (c .before .before .before .before .args .s .shape .n) (s .c-high) in
     let n = s .n-high in omega arith
 
 returns-2 : tie.Need-returns-2

@@ -58,7 +58,7 @@ use Rattle.records.specs.declared.Parsed.{Parsed}
 use Rattle.records.specs.Records.{parseOf}
 use Rattle.answers.specs.declared.Answer.{Answer}
 use Rattle.store.specs.declared.Store.{Store}
-use Rattle.store.specs.Opening.{freshOf}
+use Rattle.store.specs.Opening.{blankStore}
 use Rattle.machine.specs.Tape.{recordOf}
 use Rattle.machine.specs.Text.{lineText, endText, tapeMost, textMost, printed}
 use Rattle.buffers.specs.Written.{written}
@@ -71,10 +71,10 @@ use Rattle.answers.proofs.Answer as N
 use Rattle.answers.proofs.Answer.Laws as N′
 use Rattle.store.proofs.Store as T
 use Rattle.store.proofs.Store.Laws as T′
-use Rattle.opening.proofs.fresh as fresh
-use Rattle.opening.proofs.fresh.Symbol as fresh-def
-use Rattle.opening.proofs.fresh.Symbol.{name as #fresh}
-use Rattle.opening.proofs.fresh.Met as fresh-thm
+use Rattle.opening.proofs.blank as blank
+use Rattle.opening.proofs.blank.Symbol as blank-def
+use Rattle.opening.proofs.blank.Symbol.{name as #blank}
+use Rattle.opening.proofs.blank.Met as blank-thm
 use Rattle.records.proofs.parse as parse
 use Rattle.records.proofs.parse.Symbol as parse-def
 use Rattle.records.proofs.parse.Symbol.{name as #parse}
@@ -148,13 +148,6 @@ answer-is = refl
 parsed-is : parsedTy ≡ parsedBy (entry body.table)
 parsed-is = refl
 
--- the arguments of `fresh`
-abbrev zeros : ℕ × (ℕ × (ℕ × Unit {0}))
-zeros = (0, (0, (0, tt)))
-
-abbrev zero-vals : List Val × (List Val × (List Val × Unit {0}))
-zero-vals = (vint w8 0 ∷ [], (vint w8 0 ∷ [], (vint w8 0 ∷ [], tt)))
-
 was-false : (t : Bool) → Holds (not t) → t ≡ false
 was-false true a = absurd a
 was-false false _ = refl
@@ -165,8 +158,8 @@ Wrote buf filled l n after = (n ≡ filled + length l) × (after ≡ written buf
 
 module _ {M : Type 1} (𝓤 : URA M) (H : Heap 𝓤) (A : Atoms 𝓤) (at-mem : Memory → SProp 𝓤) (run : Routine → Fun 𝓤) where
   -- the contracts that the proof cites
-  abbrev Fresh : Contract 𝓤
-  Fresh = tripleOf 𝓤 H A fresh.signature (fresh.spec 𝓤 H A at-mem run)
+  abbrev Blank : Contract 𝓤
+  Blank = tripleOf 𝓤 H A blank.signature (blank.spec 𝓤 H A at-mem run)
 
   abbrev Parse : Contract 𝓤
   Parse = tripleOf 𝓤 H A parse.signature (parse.spec 𝓤 H A at-mem run)
@@ -181,14 +174,14 @@ module _ {M : Type 1} (𝓤 : URA M) (H : Heap 𝓤) (A : Atoms 𝓤) (at-mem : 
   End = tripleOf 𝓤 H A end.signature (end.spec 𝓤 H A at-mem run)
 
   -- and of two of them the clause alone
-  fresh-of : (r : Store) → ent 𝓤 (ensured 𝓤 H A fresh.ended (fresh.clauses 𝓤 H A at-mem run) tt zeros tt r) (fact 𝓤 (r ≡ blankStore))
-  fresh-of r = exE 𝓤 _ (λ ws. snd∗ 𝓤 (sem 𝓤 H A (lasts fresh.ended tt zeros ws)) (fact 𝓤 (r ≡ blankStore)))
+  blank-of : (r : Store) → ent 𝓤 (ensured 𝓤 H A blank.ended (blank.clauses 𝓤 H A at-mem run) tt tt tt r) (fact 𝓤 (r ≡ blankStore))
+  blank-of r = exE 𝓤 _ (λ ws. snd∗ 𝓤 (sem 𝓤 H A (lasts blank.ended tt tt ws)) (fact 𝓤 (r ≡ blankStore)))
 
   parse-of : (κ : Lft) (s : RefT (List ℕ)) (r : Parsed) → ent 𝓤 (ensured 𝓤 H A parse.ended (parse.clauses 𝓤 H A at-mem run) (κ, tt) (s, tt) tt r) (fact 𝓤 (r ≡ parseOf (s .now)))
   parse-of κ s r = exE 𝓤 _ (λ ws. snd∗ 𝓤 (sem 𝓤 H A (lasts parse.ended (κ, tt) (s, tt) ws)) (fact 𝓤 (r ≡ parseOf (s .now))))
 
   pub record Known (𝓣 : Tables 𝓤 H) : Type 2 where
-    pub of-fresh : Triple 𝓤 (𝓣 .C #fresh) Fresh
+    pub of-blank : Triple 𝓤 (𝓣 .C #blank) Blank
     pub of-parse : Triple 𝓤 (𝓣 .C #parse) Parse
     pub of-apply : Triple 𝓤 (𝓣 .C #apply) Apply
     pub of-line : Triple 𝓤 (𝓣 .C #line) Line
@@ -233,10 +226,8 @@ module _ {M : Type 1} (𝓤 : URA M) (H : Heap 𝓤) (A : Atoms 𝓤) (W : Given
       owned ! usize (Is usize) (uint-makes 𝓤 H A W w64) n _ (refl, fits) $ move ! (1 ∷ 0 ∷ []) $ done !
 
   -- ---- what each call binds, and what it asks
-  goes-fresh : ent 𝓤 (emp 𝓤) (Fresh 𝓤 H A at-mem run .pre ((tt, tt, tt, zeros, zero-vals), tt))
-  goes-fresh =
-      qed W [] ∵ nothing ! $ owned ! u8 (Is u8) (uint-makes 𝓤 H A W w8) 0 (vint w8 0 ∷ []) (refl, lit< tt) $ fjoin ! $ owned ! u8 (Is u8) (uint-makes 𝓤 H A W w8) 0 (vint w8 0 ∷ []) (refl, lit< tt) $ fjoin ! $
-      owned ! u8 (Is u8) (uint-makes 𝓤 H A W w8) 0 (vint w8 0 ∷ []) (refl, lit< tt) $ fjoin ! $ nothing ! $ join ! $ frame ! $ done !
+  goes-blank : ent 𝓤 (emp 𝓤) (Blank 𝓤 H A at-mem run .pre ((tt, tt, tt, tt, tt), tt))
+  goes-blank = qed W [] ∵ nothing ! $ nothing ! $ join ! $ frame ! $ done !
 
   -- the local at z, lent for the lifetime ν under the name δ
   abbrev lent : Store → ℕ → GName → RefT Store
@@ -447,10 +438,10 @@ module _ {M : Type 1} (𝓤 : URA M) (H : Heap 𝓤) (A : Atoms 𝓤) (W : Given
         pass1 ! (init ! 36 refl (shr-slice-lawful 𝓤 H A W (named 0) κ u8 .typed s (sv ∷ []) p .0)) $ pass1 ! (init ! 34 refl (tt, (tt, (record { fits = room .0 }, tt)))) $ pass0 ! $
         keep ! (40 ∷ 41 ∷ 42 ∷ 43 ∷ 38 ∷ 36 ∷ 34 ∷ 32 ∷ 30 ∷ 28 ∷ 26 ∷ 24 ∷ 22 ∷ 20 ∷ 18 ∷ 16 ∷ 14 ∷ 12 ∷ 10 ∷ 8 ∷ 6 ∷ 4 ∷ 2 ∷ 0 ∷ 39 ∷ 37 ∷ 35 ∷ 33 ∷ 31 ∷ 29 ∷ 27 ∷ 25 ∷ 23 ∷ 21 ∷ 19 ∷ 17 ∷ 15 ∷ 13 ∷ 11 ∷ 9 ∷ 7 ∷ 5 ∷ 3 ∷ 1 ∷ []) $
         -- as at the test: local i at 4 + i
-        use0 W (raw (Fresh 𝓤 H A at-mem run .pre ((tt, tt, tt, zeros, zero-vals), tt))) goes-fresh $
-        calls-at ! (fmOf 𝓤 H (W .laws) 𝓣) (Fresh 𝓤 H A at-mem run) (known .of-fresh) ((tt, tt, tt, zeros, zero-vals), tt) (and-then ! (lit ! tt) (and-then ! (lit ! tt) (and-then ! (lit ! tt) (no-more !)))) (λ v.
-        use1 W (later (some (λ (h : Store). (‵ ftrue ⊛ ‵ (T.the-row .own h (v ∷ []))) ⊛ raw (ensured 𝓤 H A fresh.ended (fresh.clauses 𝓤 H A at-mem run) tt zeros tt h)))) (id⊢ 𝓤 _) $ await ! tt $ pick ! (λ h.
-        split ! $ move ! (1 ∷ []) $ use1 W (raw (fact 𝓤 (h ≡ blankStore))) (fresh-of 𝓤 H A at-mem run h) $ heard ! (h ≡ blankStore) (λ e. split ! $ drop ! $
+        use0 W (raw (Blank 𝓤 H A at-mem run .pre ((tt, tt, tt, tt, tt), tt))) goes-blank $
+        calls-at ! (fmOf 𝓤 H (W .laws) 𝓣) (Blank 𝓤 H A at-mem run) (known .of-blank) ((tt, tt, tt, tt, tt), tt) (no-more !) (λ v.
+        use1 W (later (some (λ (h : Store). (‵ ftrue ⊛ ‵ (T.the-row .own h (v ∷ []))) ⊛ raw (ensured 𝓤 H A blank.ended (blank.clauses 𝓤 H A at-mem run) tt tt tt h)))) (id⊢ 𝓤 _) $ await ! tt $ pick ! (λ h.
+        split ! $ move ! (1 ∷ []) $ use1 W (raw (fact 𝓤 (h ≡ blankStore))) (blank-of 𝓤 H A at-mem run h) $ heard ! (h ≡ blankStore) (λ e. split ! $ drop ! $
         peeks ! T.the-row (Is T.the-row) (shows 𝓤 H A T.the-row) h (v ∷ []) (λ is. rewrite ! 0 (λ (us : List Val). ‵ (T.the-row .own h us)) (LL.tells T.the-type T′.the-laws h (v ∷ []) is) refl $
         peeks ! T.the-row (Is T.the-row) (shows 𝓤 H A T.the-row) h (mach h ∷ []) (λ is₁. drop ! $
         land ! (from ! (stop !)) (init ! 13 refl (store-typed 𝓤 H A W (storeBy f) eS h v is)) $ rewrite ! 13 (λ (u : Val). ‵ (fat fullShare (storeBy f) l₉ 0 u)) (ap only (LL.tells T.the-type T′.the-laws h (v ∷ []) is)) refl $
@@ -478,7 +469,7 @@ print-records-spec 𝓤 H 𝓜 𝓖 𝓡 =
     entered 𝓤 H (tripleOf 𝓤 H (𝓖 .A) print.signature (print.spec 𝓤 H (𝓖 .A) (𝓜 .mem) (𝓡 .run)))
     (tables 𝓤 H 𝓜 𝓡 code.env .C) (tables 𝓤 H 𝓜 𝓡 code.env .Λ) #print code.function (code.unfolded 𝓤 H 𝓜 𝓡)
     (print-meets 𝓤 H (𝓖 .A) (givenOf 𝓤 H 𝓜 𝓖) (𝓜 .mem) (𝓡 .run) (tablesOf 𝓤 H 𝓜 (tables 𝓤 H 𝓜 𝓡 code.env)) (record {
-      of-fresh = cited 𝓤 H (Fresh 𝓤 H (𝓖 .A) (𝓜 .mem) (𝓡 .run)) 𝓜 𝓡 code.env #fresh fresh-def.routine code.calls-opening·fresh (fresh-thm.met 𝓤 H 𝓜 𝓖 𝓡);
+      of-blank = cited 𝓤 H (Blank 𝓤 H (𝓖 .A) (𝓜 .mem) (𝓡 .run)) 𝓜 𝓡 code.env #blank blank-def.routine code.calls-opening·blank (blank-thm.met 𝓤 H 𝓜 𝓖 𝓡);
       of-parse = cited 𝓤 H (Parse 𝓤 H (𝓖 .A) (𝓜 .mem) (𝓡 .run)) 𝓜 𝓡 code.env #parse parse-def.routine code.calls-records·parse (parse-thm.met 𝓤 H 𝓜 𝓖 𝓡);
       of-apply = cited 𝓤 H (Apply 𝓤 H (𝓖 .A) (𝓜 .mem) (𝓡 .run)) 𝓜 𝓡 code.env #apply apply-def.routine code.calls-replay·apply (apply-thm.met 𝓤 H 𝓜 𝓖 𝓡);
       of-line = cited 𝓤 H (Line 𝓤 H (𝓖 .A) (𝓜 .mem) (𝓡 .run)) 𝓜 𝓡 code.env #line line-def.routine code.calls-text·line-into (line-thm.met 𝓤 H 𝓜 𝓖 𝓡);
