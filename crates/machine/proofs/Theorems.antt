@@ -20,9 +20,9 @@ use Rattle.machine.specs.Completion.{AlwaysSettles, SettleBound}
 use Rattle.machine.specs.Sized.{Sized}
 pub use Rattle.machine.proofs.Table.{cases}
 use Rattle.words.specs.declared.Shape.{Shape}
-use Rattle.machine.proofs.FallsSettle.{startAt, settle-count, repeat-ends, repeat-same}
-use Rattle.machine.proofs.OrderOfMemory.{order-of-memory}
-use Rattle.machine.proofs.LiveSettle.{always-settles, all-complete}
+use Rattle.machine.proofs.settle.FallsSettle.{startAt, settle-count, repeat-ends, repeat-same}
+use Rattle.machine.proofs.store.OrderOfMemory.{order-of-memory}
+use Rattle.machine.proofs.settle.LiveSettle.{always-settles, all-complete}
 
 -- Demand 3: the order of completion is the order of memory.
 --

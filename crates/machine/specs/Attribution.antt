@@ -31,14 +31,14 @@ abbrev pub begunAt : ℕ → LaneNo → Op → WordNo → Begun
 begunAt i k op w = record { place = i; lane = k; op = op; word = w }
 
 -- for each lane the last begin call so far that was answered with a wait
-abbrev pub Waits : Type 0
-Waits = ℕ → Origin
+abbrev pub LastWaits : Type 0
+LastWaits = ℕ → Origin
 
-abbrev pub noWaits : Waits
+abbrev pub noWaits : LastWaits
 noWaits k = Unknown
 
 -- .. after the call at place i
-unfoldable pub waitsAfter : ℕ → Waits → Call → Bool → Waits
+unfoldable pub waitsAfter : ℕ → LastWaits → Call → Bool → LastWaits
 waitsAfter i last (Begin k op w) waited = λ j. cond waited (cond (eqb j (k .0)) (Of (begunAt i k op w)) (last j)) (last j)
 waitsAfter i last (Serve k) waited = last
 waitsAfter i last (Return k) waited = last
@@ -47,7 +47,7 @@ waitsAfter i last Settle waited = last
 
 -- A completion in a begin call's answer is of the operation that call began. Any other is of the operation begun by the last begin
 -- call before it, on the lane it carries, that was answered with a wait
-unfoldable pub originOf : ℕ → Waits → Call → Completion → Origin
+unfoldable pub originOf : ℕ → LastWaits → Call → Completion → Origin
 originOf i last (Begin k op w) x = Of (begunAt i k op w)
 originOf i last (Serve k) x = last (x .lane .0)
 originOf i last (Return k) x = last (x .lane .0)
@@ -55,7 +55,7 @@ originOf i last (Deliver k) x = last (x .lane .0)
 originOf i last Settle x = last (x .lane .0)
 
 -- the completions of a list of calls from place i on, in order, each with its operation
-unfoldable pub attribute : ℕ → Waits → List Entry → List Attributed
+unfoldable pub attribute : ℕ → LastWaits → List Entry → List Attributed
 attribute i last [] = []
 attribute i last (e ∷ es) =
     map (λ (x : Completion). record { completion = x; origin = originOf i last (e .call) x }) (completionsOf (e .reply)) ++

@@ -1,20 +1,17 @@
 -- 01, "Begin": load, store v, exchange v, add v. Assumes nothing.
 use Prim.Native.Nat.{ℕ, _*_}
 use mathlib.Core.Bool.{cond, _||_}
-use mathlib.Core.List.{List}
 use lib.Dec.{leb}
 use Rattle.words.specs.declared.LaneNo.{LaneNo}
 use Rattle.words.specs.declared.LineNo.{LineNo}
 use Rattle.words.specs.declared.WordNo.{WordNo}
-use Rattle.words.specs.declared.BlockNo.{BlockNo}
 use Rattle.words.specs.declared.Line.{Line}
 use Rattle.words.specs.declared.Op.{Op}
 use Rattle.words.specs.declared.Op.the-variants as Op
-use Rattle.words.specs.Units.{blockOf, zeros}
+use Rattle.words.specs.Units.{blockOf}
 use Rattle.words.specs.Operations.{performOf, isLoad}
 use Rattle.words.specs.Lines.{invalid}
 use Rattle.queues.specs.declared.ReturnMessage.{ReturnMessage}
-use Rattle.queues.specs.declared.ReturnKind.{ReturnKind}
 use Rattle.queues.specs.declared.ReturnKind.the-variants.{Eject, WriteEject}
 use Rattle.queues.specs.Queues.{pushReturn}
 use Rattle.lanes.specs.declared.Lane.{Lane}

@@ -27,29 +27,29 @@ pub data Call : Type 0 where
   Deliver : LaneNo → Call
   Settle : Call
 
--- what a call is answered with
+-- what a call is answeredCall with
 pub data Reply : Type 0 where
   Answers : Answer → Reply
-  Settles : Settled → List Completion → Reply
+  SettledWith : Settled → List Completion → Reply
 
 -- an answer, and the store after it
 pub record Called : Type 0 where
   pub reply : Reply
   pub store : Store
 
-abbrev pub answered : Outcome → Called
-answered r = record { reply = Answers (r .answer); store = r .store }
+abbrev pub answeredCall : Outcome → Called
+answeredCall r = record { reply = Answers (r .answer); store = r .store }
 
-abbrev pub settled : Settlement → Called
-settled r = record { reply = Settles (r .answer) (r .completions); store = r .store }
+abbrev pub settledCall : Settlement → Called
+settledCall r = record { reply = SettledWith (r .answer) (r .completions); store = r .store }
 
 -- each call gives what its contract says
 unfoldable pub callOf : Store → Call → Called
-callOf s (Begin k op w) = answered (beginOf s k op w)
-callOf s (Serve k) = answered (serveOf s k)
-callOf s (Return k) = answered (returnOf s k)
-callOf s (Deliver k) = answered (deliverOf s k)
-callOf s Settle = settled (settleOf s)
+callOf s (Begin k op w) = answeredCall (beginOf s k op w)
+callOf s (Serve k) = answeredCall (serveOf s k)
+callOf s (Return k) = answeredCall (returnOf s k)
+callOf s (Deliver k) = answeredCall (deliverOf s k)
+callOf s Settle = settledCall (settleOf s)
 
 -- a call with its answer
 pub record Entry : Type 0 where
@@ -72,20 +72,20 @@ run s (c ∷ cs) =
 -- a call gives the completions in its answer, settle in the order it lists them; a refused call gives none
 abbrev pub completionsOf : Reply → List Completion
 completionsOf (Answers a) = doneIn a
-completionsOf (Settles (Steps count) cs) = cs
-completionsOf (Settles (Settled.Refused r) cs) = []
+completionsOf (SettledWith (Steps count) cs) = cs
+completionsOf (SettledWith (Settled.Refused r) cs) = []
 
--- the call was answered with a wait
+-- the call was answeredCall with a wait
 abbrev pub isWait : Reply → Bool
 isWait (Answers Opened) = false
 isWait (Answers (Done x)) = false
 isWait (Answers Wait) = true
 isWait (Answers Step) = false
 isWait (Answers (Answer.Refused r)) = false
-isWait (Settles a cs) = false
+isWait (SettledWith a cs) = false
 
 -- the call was refused
 abbrev pub isRefused : Reply → Bool
 isRefused (Answers a) = refusedOf a
-isRefused (Settles (Steps count) cs) = false
-isRefused (Settles (Settled.Refused r) cs) = true
+isRefused (SettledWith (Steps count) cs) = false
+isRefused (SettledWith (Settled.Refused r) cs) = true

@@ -30,17 +30,17 @@ abbrev pub absent : LaneNo → Block → Block
 absent k b = withPresent (set (b .present) (k .0) false) b
 
 -- writes the words, resets MODIFIED
-abbrev pub written : List ℕ → Block → Block
-written ws b = withModified false (withContents ws b)
+abbrev pub writtenBack : List ℕ → Block → Block
+writtenBack ws b = withModified false (withContents ws b)
 
 -- what a message makes of its block: EJECT resets k's PRESENT, WRITE-EJECT also writes the words and resets MODIFIED; UPDATED writes its
 -- words and resets MODIFIED; PURGED resets PRESENT, and if it has words writes them and resets MODIFIED; GONE resets PRESENT
 abbrev pub takenBy : ReturnKind → List ℕ → LaneNo → Block → Block
 takenBy Eject ws k b = absent k b
-takenBy WriteEject ws k b = written ws (absent k b)
-takenBy Updated ws k b = written ws b
+takenBy WriteEject ws k b = writtenBack ws (absent k b)
+takenBy Updated ws k b = writtenBack ws b
 takenBy Purged ws k b = absent k b
-takenBy PurgedWords ws k b = written ws (absent k b)
+takenBy PurgedWords ws k b = writtenBack ws (absent k b)
 takenBy Gone ws k b = absent k b
 
 -- the three answers are UPDATED, PURGED and GONE
@@ -58,17 +58,17 @@ sendNothing l b x = record { answer = Step; lane = l; block = b; control = x; to
 
 -- Each answer lowers the awaited count, and at 0 the service closes; 16 for an answer that is not awaited. l and b are lane and block
 -- before the message is taken, t and u after it
-abbrev pub answered : Counted → Lane → Block → Control → Lane → Block → Move
-answered NotAwaited l b x t u = refuseMove Unexpected l b x
-answered (Awaits y) l b x t u = sendNothing t u y
-answered (Closes v y) l b x t u = close v t u y
+abbrev pub countedMove : Counted → Lane → Block → Control → Lane → Block → Move
+countedMove NotAwaited l b x t u = refuseMove Unexpected l b x
+countedMove (Awaits y) l b x t u = sendNothing t u y
+countedMove (Closes v y) l b x t u = close v t u y
 
 -- Memory takes the head of k's return queue
 unfoldable pub returnMove : LaneNo → ReturnMessage → Lane → Block → Control → Move
 returnMove k x l b y =
     let t = withReturns (takeReturn (l .returns) .queue) l in
     let u = takenBy (x .kind) (x .words) k b in
-    cond (isAnswer (x .kind)) (answered (answerOf y (x .block)) l b y t u) (sendNothing t u y)
+    cond (isAnswer (x .kind)) (countedMove (answerOf y (x .block)) l b y t u) (sendNothing t u y)
 
 -- 9, then memory's part
 abbrev pub returnHead : Store → LaneNo → Lane → Outcome

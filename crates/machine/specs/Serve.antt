@@ -5,8 +5,7 @@ use mathlib.Core.List.{List}
 use lib.Dec.{ltb, eqb}
 use lib.ListN.{getD, set}
 use Rattle.words.specs.declared.LaneNo.{LaneNo}
-use Rattle.words.specs.declared.BlockNo.{BlockNo}
-use Rattle.words.specs.Units.{blockOf, zeros}
+use Rattle.words.specs.Units.{blockOf}
 use Rattle.words.specs.Folds.{countTo}
 use Rattle.queues.specs.declared.DownMessage.{DownMessage}
 use Rattle.queues.specs.declared.DownKind.{DownKind}

@@ -77,8 +77,8 @@ wordOf (Refused r) = refused (numberOf r)
 
 abbrev pub said : Reply → Said
 said (Reply.Answers a) = wordOf a
-said (Reply.Settles (Steps count) cs) = settled count cs
-said (Reply.Settles (Settled.Refused r) cs) = refused (numberOf r)
+said (Reply.SettledWith (Steps count) cs) = settled count cs
+said (Reply.SettledWith (Settled.Refused r) cs) = refused (numberOf r)
 
 -- an opening; a refused one has the blank store
 abbrev pub opening : ℕ → ℕ → ℕ → Shown

@@ -3,7 +3,7 @@
 ghost use mathlib.Core.Path.{_≡_};
 ghost use Prim.Native.Nat.{_<_};
 ghost use Rattle.store.specs.Control.{answerOf};
-ghost use Rattle.machine.specs.Return.{absent, written, takenBy, isAnswer, answered, returnMove};
+ghost use Rattle.machine.specs.Return.{absent, writtenBack, takenBy, isAnswer, countedMove, returnMove};
 ghost use Rattle.returning.specs.Bounds.{laneBelow};
 use answers::Refusal;
 use lanes::Lane;
@@ -27,9 +27,9 @@ fn absent_block(k: LaneNo, b: Block) -> Block
     u
 }
 
-// The block with words written and MODIFIED reset.
+// The block with words writtenBack and MODIFIED reset.
 fn written_block(ws: [u32; 4], b: Block) -> Block
-    ensures { λ r. ⌜ r ≡ written ws b ⌝ }
+    ensures { λ r. ⌜ r ≡ writtenBack ws b ⌝ }
 {
     let mut u = b;
     u.words = ws;
@@ -72,7 +72,7 @@ fn is_answer(kind: ReturnKind) -> bool
 // An answer for block a is counted: l and b are the lane and the block before the message is taken, t and u after it.
 fn count_answer(y: Control, a: BlockNo, l: Lane, b: Block, t: Lane, u: Block) -> Move
     requires { ⌜ laneBelow y 8 ⌝ }
-    ensures { λ r. ⌜ r ≡ answered (answerOf y a) l b y t u ⌝ }
+    ensures { λ r. ⌜ r ≡ countedMove (answerOf y a) l b y t u ⌝ }
 {
     let n = y.answer(a);
     match n {

@@ -17,12 +17,12 @@ use Rattle.store.specs.Quiet.{quietOf}
 use Rattle.machine.specs.declared.Settled.the-variants.{Steps}
 use Rattle.machine.specs.Corruption.{corruptOf}
 use Rattle.machine.specs.Settle.{settleStep, boundOf, Progress, ended, advance, repeatStep, Settlement, refuseSettle, reached, unlessRefused, settleOf}
-use Rattle.machine.proofs.Sound.{sound}
+use Rattle.machine.proofs.bounds.Sound.{sound}
 use Rattle.machine.specs.Sized.{Sized}
-use Rattle.machine.proofs.SizedKeeps.{settle-step-sized, sized-whole}
-use Rattle.machine.proofs.KeepsRepeat.{settle-step-keeps}
-use Rattle.machine.proofs.Falls.{waitingIn, settle-falls, settle-completes, waiting-most}
-use Rattle.machine.proofs.FallsSettle.{repeat-ended, repeat-more}
+use Rattle.machine.proofs.bounds.SizedKeeps.{settle-step-sized, sized-whole}
+use Rattle.machine.proofs.bounds.KeepsRepeat.{settle-step-keeps}
+use Rattle.machine.proofs.settle.Falls.{waitingIn, settle-falls, settle-completes, waiting-most}
+use Rattle.machine.proofs.settle.FallsSettle.{repeat-ended, repeat-more}
 use Rattle.settle.specs.declared.Completions.{Completions}
 use Rattle.settle.specs.Settles.{padded, arrayOf, outcomeOf, listedOf, refusalOf}
 

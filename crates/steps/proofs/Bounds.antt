@@ -24,7 +24,7 @@ use Rattle.machine.specs.declared.Ready.the-variants.{Go, No}
 use Rattle.machine.specs.Corruption.{corruptOf}
 use Rattle.machine.specs.Serve.{readyWith, readyOf}
 use Rattle.returning.specs.Bounds.{laneBelow}
-use Rattle.machine.proofs.Sound.{ControlSound, sound}
+use Rattle.machine.proofs.bounds.Sound.{ControlSound, sound}
 
 no-go : {r : Refusal} {o : Operation} → No r ≡ Go o → ⊥
 no-go e = let z : _≡_ {A = ℕ} 0 1 = cc in omega arith

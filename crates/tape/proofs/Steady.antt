@@ -13,7 +13,7 @@ use Rattle.store.specs.declared.Outcome.{Outcome}
 use Rattle.store.specs.Opening.{badShape, freshOf, blankStore}
 use Rattle.machine.specs.Corruption.{corruptOf}
 use Rattle.machine.specs.Tape.{isOpen, openRecord, whenOpen, recordOf}
-use Rattle.machine.proofs.Keeps.{Whole, open-keeps, open-whole, begin-keeps, serve-keeps, return-keeps, deliver-keeps, begin-whole, serve-whole, return-whole, deliver-whole}
+use Rattle.machine.proofs.bounds.Keeps.{Whole, open-keeps, open-whole, begin-keeps, serve-keeps, return-keeps, deliver-keeps, begin-whole, serve-whole, return-whole, deliver-whole}
 use Rattle.tape.specs.Steady.{Steady}
 use Rattle.words.specs.declared.Shape.{Shape}
 

@@ -1,7 +1,7 @@
 -- `bounds::checked_bound` meets its contract. Assumes nothing.
 use mathlib.Core.Path.{sym, _∙_}
 use borrow.Author.Needs.{needs}
-use Rattle.machine.proofs.Sound.{sound}
+use Rattle.machine.proofs.bounds.Sound.{sound}
 use Rattle.bounds.proofs.checked_bound.Statement.{statement}
 use Rattle.bounds.proofs.checked_bound.Tie as tie
 

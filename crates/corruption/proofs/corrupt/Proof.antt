@@ -2,7 +2,7 @@
 use mathlib.Core.Path.{sym, _∙_}
 use Rattle.words.specs.Folds.{anyOf}
 use Rattle.machine.specs.Corruption.{corruptOf}
-use Rattle.machine.proofs.Shape.{shape-bounds}
+use Rattle.machine.proofs.bounds.Shape.{shape-bounds}
 use borrow.Author.Needs.{needs}
 use Rattle.corruption.proofs.corrupt.Statement.{statement}
 use Rattle.corruption.proofs.corrupt.Tie as tie

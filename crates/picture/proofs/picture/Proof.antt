@@ -1,7 +1,7 @@
 -- `picture::picture` meets its contract. Assumes nothing.
 use native.Mathlib.Omega.{arith}
 use mathlib.Core.Path.{refl, sym, _∙_}
-use Rattle.machine.proofs.Sound.{sound}
+use Rattle.machine.proofs.bounds.Sound.{sound}
 use Rattle.picture.proofs.Records.{valid-most, picture-length}
 use Rattle.picture.proofs.Pictures.{picture-corrupt, picture-short, picture-fits}
 use borrow.Author.Needs.{needs}

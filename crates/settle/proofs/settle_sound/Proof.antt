@@ -6,7 +6,7 @@ use mathlib.Core.Path.{sym, ap, _∙_}
 use Rattle.answers.specs.Refusals.{refusedOf}
 use Rattle.store.specs.declared.Outcome.{Outcome}
 use Rattle.machine.specs.Settle.{boundOf}
-use Rattle.machine.proofs.Falls.{settle-falls, bound-most}
+use Rattle.machine.proofs.settle.Falls.{settle-falls, bound-most}
 use Rattle.settle.proofs.Arrays.{arrays-sized}
 use Rattle.settle.proofs.Going.{Going, going-start, going-quiet, going-refused, going-fits, going-next}
 use Rattle.settle.proofs.settle_sound.Statement.{statement}

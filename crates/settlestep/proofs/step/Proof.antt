@@ -1,7 +1,7 @@
 -- `settlestep::step` meets its contract. Assumes nothing.
 use borrow.Author.Tests.{lt-ltb, le-ltb}
 use Rattle.machine.specs.Settle.{settleStep}
-use Rattle.machine.proofs.Sound.{sound}
+use Rattle.machine.proofs.bounds.Sound.{sound}
 use borrow.Author.Needs.{needs}
 use Rattle.settlestep.proofs.step.Statement.{statement}
 use Rattle.settlestep.proofs.step.Tie as tie

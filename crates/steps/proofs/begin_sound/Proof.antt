@@ -5,7 +5,7 @@ use Prim.Native.Nat.{_*_}
 use Rattle.steps.proofs.Bounds.{lane-bound, lines-bound, oldest-bound}
 use Rattle.machine.specs.Change.{commitLane}
 use Rattle.machine.specs.Begin.{beginOf}
-use Rattle.machine.proofs.Rules.{answer-goes}
+use Rattle.machine.proofs.rules.Rules.{answer-goes}
 use borrow.Author.Needs.{needs}
 use Rattle.steps.proofs.begin_sound.Statement.{statement}
 use Rattle.steps.proofs.begin_sound.Tie as tie

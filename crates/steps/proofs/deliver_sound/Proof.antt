@@ -2,7 +2,7 @@ use borrow.Author.Tests.{le-leb, lt-leb}
 use Rattle.steps.proofs.Bounds.{lane-bound, lines-bound}
 use Rattle.machine.specs.Change.{commitLane}
 use Rattle.machine.specs.Deliver.{deliverOf}
-use Rattle.machine.proofs.Rules.{answer-goes}
+use Rattle.machine.proofs.rules.Rules.{answer-goes}
 use borrow.Author.Needs.{needs}
 use Rattle.steps.proofs.deliver_sound.Statement.{statement}
 use Rattle.steps.proofs.deliver_sound.Tie as tie

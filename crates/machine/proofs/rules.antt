@@ -1,0 +1,3 @@
+-- A rule for each call and for settle: by these the proofs go.
+pub mod Rules
+pub mod RulesSettle

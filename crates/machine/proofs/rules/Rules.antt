@@ -1,0 +1,172 @@
+-- A rule for each call, by which the proofs go: what holds of every refusal, and of the step where nothing refuses it, holds of the call.
+-- The calls' own definitions are looked into here alone. Assumes nothing.
+use Prim.Native.Nat.{_<_, _*_}
+use mathlib.Core.Path.{_≡_, refl, _∙_}
+use mathlib.Core.Bool.{true, false, cond}
+use mathlib.Core.Logic.{_≢_}
+use lib.Dec.{leb, ltb}
+use lib.ListN.{set}
+use borrow.Author.Tests.{leb-true, leb-false, ltb-false, eqb-false, ne-eqb}
+use native.Mathlib.Omega.{arith}
+use Rattle.words.specs.declared.LaneNo.{LaneNo}
+use Rattle.words.specs.declared.BlockNo.{BlockNo}
+use Rattle.words.specs.declared.WordNo.{WordNo}
+use Rattle.words.specs.declared.Op.{Op}
+use Rattle.words.specs.Units.{blockOf}
+use Rattle.words.proofs.Folds.{pick}
+use Rattle.queues.specs.Queues.{emptyAt, headReturn}
+use Rattle.lanes.specs.declared.Operation.{Operation}
+use Rattle.lanes.specs.declared.Waiting.{Waiting}
+use Rattle.lanes.specs.declared.Waiting.the-variants.{Idle, Unserved, Served}
+use Rattle.lanes.specs.Waits.{idleOf}
+use Rattle.answers.specs.declared.Answer.{Answer}
+use Rattle.answers.specs.declared.Answer.the-variants.{Opened, Done, Wait, Step, Refused}
+use Rattle.answers.specs.declared.Refusal.{Refusal}
+use Rattle.answers.specs.declared.Refusal.the-variants.{Corrupt, NoSuchLane, NoSuchWord, LaneBusy, NothingPending, ControlBusy, ReturnsPending, QueueFull}
+use Rattle.answers.specs.Refusals.{refusedOf}
+use Rattle.store.specs.declared.Store.{Store}
+use Rattle.store.specs.declared.Outcome.{Outcome}
+use Rattle.store.specs.Stores.{laneAt, blockAt, withLane}
+use Rattle.store.specs.Control.{busyOf}
+use Rattle.machine.specs.declared.LaneAnswer.{LaneAnswer}
+use Rattle.machine.specs.declared.LaneAnswer.the-variants.{Value, Waits, Stepped}
+use Rattle.machine.specs.declared.LaneStep.{LaneStep}
+use Rattle.machine.specs.declared.Move.{Move}
+use Rattle.machine.specs.declared.Ready.{Ready}
+use Rattle.machine.specs.Corruption.{corruptOf}
+use Rattle.machine.specs.Change.{refuse, guarded, answerTo, refusedIn, commitLane, commitMove, someFull, movedStore}
+use Rattle.machine.specs.Begin.{beginLane, beginOf}
+use Rattle.machine.specs.Serve.{readyWith, readyOf, serveReady, serveMove, serveOf}
+use Rattle.machine.specs.Return.{returnMove, returnOf}
+use Rattle.machine.specs.Deliver.{deliverLane, deliverOf}
+use Rattle.machine.proofs.bounds.KeepsLane.{clash}
+
+-- 14, then 6
+guarded-rule : (P : Outcome → Type 0) (s : Store) (k : LaneNo) (r : Outcome) → ((x : Refusal) → P (refuse x s)) → (corruptOf s ≡ false → k .0 < s .shape .n → P r) →
+    P (guarded s k r)
+guarded-rule P s k r stays next =
+    pick P (corruptOf s) (refuse Corrupt s) (cond (leb (s .shape .n) (k .0)) (refuse NoSuchLane s) r) (λ _. stays Corrupt)
+    (λ e. pick P (leb (s .shape .n) (k .0)) (refuse NoSuchLane s) r (λ _. stays NoSuchLane) (λ q. next e (leb-false _ _ q)))
+
+guarded-is : (s : Store) (k : LaneNo) (r : Outcome) → corruptOf s ≡ false → k .0 < s .shape .n → guarded s k r ≡ r
+guarded-is s k r e h = pick (λ (x : Outcome). x ≡ r) (corruptOf s) _ _ (λ q. clash (cc)) (λ _. pick (λ (x : Outcome). x ≡ r) (leb (s .shape .n) (k .0)) _ _ (λ q. above q) (λ _. refl))
+  where
+    above : leb (s .shape .n) (k .0) ≡ true → refuse NoSuchLane s ≡ r
+    above q = let p = leb-true (s .shape .n) (k .0) q in absurd (omega arith)
+
+-- nothing refuses a begin before the lane's part
+pub record BeginReady (s : Store) (k : LaneNo) (w : WordNo) : Type 0 where
+  pub sound : corruptOf s ≡ false
+  pub lane : k .0 < s .shape .n
+  pub inside : blockOf w .0 < s .shape .m
+  pub idle : laneAt s (k .0) .waiting ≡ Idle
+
+pub idle-waiting : (x : Waiting) → idleOf x ≡ true → x ≡ Idle
+idle-waiting Idle e = refl
+idle-waiting (Unserved o) e = clash (cc)
+idle-waiting (Served o) e = clash (cc)
+
+pub begin-rule : (P : Outcome → Type 0) (s : Store) (k : LaneNo) (op : Op) (w : WordNo) → ((x : Refusal) → P (refuse x s)) →
+    (BeginReady s k w → P (commitLane s k (beginLane (s .shape .c) op w (laneAt s (k .0))))) → P (beginOf s k op w)
+unfolding beginOf
+begin-rule P s k op w stays next =
+    guarded-rule P s k _ stays
+    (λ c h. pick P (leb (4 * s .shape .m) (w .0)) _ _ (λ _. stays NoSuchWord)
+    (λ e. pick P (idleOf (laneAt s (k .0) .waiting)) _ _
+    (λ q. next (record { sound = c; lane = h; inside = let v = leb-false (4 * s .shape .m) (w .0) e in omega arith; idle = idle-waiting (laneAt s (k .0) .waiting) q }))
+    (λ _. stays LaneBusy)))
+
+-- nothing refuses a serve before memory's part: operation o waits, unserved; the control is free; no return is queued
+pub record ServeReady (s : Store) (k : LaneNo) (o : Operation) : Type 0 where
+  pub sound : corruptOf s ≡ false
+  pub lane : k .0 < s .shape .n
+  pub unserved : laneAt s (k .0) .waiting ≡ Unserved o
+  pub free : busyOf (s .control) ≡ false
+  pub clear : laneAt s (k .0) .returns .len ≡ 0
+
+-- serve where nothing refuses it
+abbrev pub served : Store → LaneNo → Operation → Outcome
+served s k o = commitMove s k (blockOf (o .word)) (serveMove k o (laneAt s (k .0)) (blockAt s (blockOf (o .word) .0)) (s .control))
+
+pub serve-rule : (P : Outcome → Type 0) (s : Store) (k : LaneNo) → ((x : Refusal) → P (refuse x s)) → ((o : Operation) → ServeReady s k o → P (served s k o)) → P (serveOf s k)
+unfolding serveOf readyOf
+serve-rule P s k stays next = guarded-rule P s k _ stays (λ c h. go c h (laneAt s (k .0) .waiting) refl)
+  where
+    go : corruptOf s ≡ false → k .0 < s .shape .n → (w : Waiting) → laneAt s (k .0) .waiting ≡ w → P (serveReady (readyWith w (laneAt s (k .0)) (s .control)) s k)
+    go c h Idle e = stays NothingPending
+    go c h (Served o) e = stays NothingPending
+    go c h (Unserved o) e =
+        pick (λ (y : Ready). P (serveReady y s k)) (busyOf (s .control)) _ _ (λ _. stays ControlBusy)
+        (λ q. pick (λ (y : Ready). P (serveReady y s k)) (ltb 0 (laneAt s (k .0) .returns .len)) _ _ (λ _. stays ReturnsPending)
+        (λ d. let p = ltb-false 0 (laneAt s (k .0) .returns .len) d in next o (record { sound = c; lane = h; unserved = e; free = q; clear = omega arith })))
+
+pub serve-is : (s : Store) (k : LaneNo) (o : Operation) → ServeReady s k o → serveOf s k ≡ served s k o
+unfolding serveOf readyOf
+serve-is s k o r = guarded-is s k _ (r .sound) (r .lane) ∙ rw (r .unserved, r .free, r .clear) refl
+
+-- nothing refuses a return before memory's part
+pub record ReturnReady (s : Store) (k : LaneNo) : Type 0 where
+  pub sound : corruptOf s ≡ false
+  pub lane : k .0 < s .shape .n
+  pub filled : laneAt s (k .0) .returns .len ≢ 0
+
+-- return where nothing refuses it
+abbrev pub returned : Store → LaneNo → Outcome
+returned s k =
+    let x = headReturn (laneAt s (k .0) .returns) in
+    commitMove s k (x .block) (returnMove k x (laneAt s (k .0)) (blockAt s (x .block .0)) (s .control))
+
+pub return-rule : (P : Outcome → Type 0) (s : Store) (k : LaneNo) → ((x : Refusal) → P (refuse x s)) → (ReturnReady s k → P (returned s k)) → P (returnOf s k)
+unfolding returnOf
+return-rule P s k stays next =
+    guarded-rule P s k _ stays
+    (λ c h. pick P (emptyAt (laneAt s (k .0) .returns .len)) _ _ (λ _. stays NothingPending) (λ e. next (record { sound = c; lane = h; filled = eqb-false _ _ e })))
+
+pub return-is : (s : Store) (k : LaneNo) → ReturnReady s k → returnOf s k ≡ returned s k
+unfolding returnOf
+return-is s k r = guarded-is s k _ (r .sound) (r .lane) ∙ rw (ne-eqb _ _ (r .filled)) refl
+
+-- deliver: 9 is the lane's own
+pub deliver-rule : (P : Outcome → Type 0) (s : Store) (k : LaneNo) → ((x : Refusal) → P (refuse x s)) →
+    (corruptOf s ≡ false → k .0 < s .shape .n → P (commitLane s k (deliverLane (s .shape .c) (laneAt s (k .0))))) → P (deliverOf s k)
+unfolding deliverOf
+deliver-rule P s k stays next = guarded-rule P s k _ stays next
+
+pub deliver-is : (s : Store) (k : LaneNo) → corruptOf s ≡ false → k .0 < s .shape .n → deliverOf s k ≡ commitLane s k (deliverLane (s .shape .c) (laneAt s (k .0)))
+unfolding deliverOf
+deliver-is s k c h = guarded-is s k _ c h
+
+-- a call on a lane is refused where the lane's part is
+pub answer-goes : (k : LaneNo) (a : LaneAnswer) → refusedOf (answerTo k a) ≡ refusedIn a
+answer-goes k (Value v) = refl
+answer-goes k Waits = refl
+answer-goes k Stepped = refl
+answer-goes k (LaneAnswer.Refused x) = refl
+
+-- a lane's part put back: refused, or lane k is another
+pub lane-rule : (P : Outcome → Type 0) (s : Store) (k : LaneNo) (r : LaneStep) → ((x : Refusal) → r .answer ≡ LaneAnswer.Refused x → P (refuse x s)) →
+    (refusedIn (r .answer) ≡ false → P (record { answer = answerTo k (r .answer); store = withLane s (k .0) (r .lane) })) → P (commitLane s k r)
+unfolding commitLane
+lane-rule P s k r stays next = go (r .answer) refl
+  where
+    go : (a : LaneAnswer) → r .answer ≡ a → P (record { answer = answerTo k (r .answer); store = cond (refusedIn (r .answer)) s (withLane s (k .0) (r .lane)) })
+    go (Value v) e = rw e (rw e at (next (rw e refl)))
+    go Waits e = rw e (rw e at (next (rw e refl)))
+    go Stepped e = rw e (rw e at (next (rw e refl)))
+    go (LaneAnswer.Refused x) e = rw e (stays x e)
+
+-- memory's part put back: refused by what it says or by 12, or the store has moved
+pub move-rule : (P : Outcome → Type 0) (s : Store) (k : LaneNo) (a : BlockNo) (v : Move) → ((x : Refusal) → P (refuse x s)) →
+    (refusedOf (v .answer) ≡ false → someFull (v .to) (set (s .lanes) (k .0) (v .lane)) ≡ false → P (record { answer = v .answer; store = movedStore s k a v })) →
+    P (commitMove s k a v)
+unfolding commitMove
+move-rule P s k a v stays next =
+    pick P (refusedOf (v .answer)) _ _ (λ q. go (v .answer) q)
+    (λ q. pick P (someFull (v .to) _) _ _ (λ _. stays QueueFull) (λ e. next q e))
+  where
+    go : (x : Answer) → refusedOf x ≡ true → P (record { answer = x; store = s })
+    go Opened q = clash (cc)
+    go (Done y) q = clash (cc)
+    go Wait q = clash (cc)
+    go Step q = clash (cc)
+    go (Refused x) q = stays x

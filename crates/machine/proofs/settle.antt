@@ -1,0 +1,19 @@
+-- Settle's count falls under its bound, and no step of it is refused.
+pub mod FallsLane
+pub mod FallsMove
+pub mod FallsStore
+pub mod Falls
+pub mod FallsSettle
+pub mod Live
+pub mod LiveLane
+pub mod LiveOwed
+pub mod LiveAwaited
+pub mod LiveSpare
+pub mod LiveMove
+pub mod LiveServe
+pub mod LiveReturn
+pub mod LiveDeliver
+pub mod LiveMemory
+pub mod LiveKeeps
+pub mod LiveStep
+pub mod LiveSettle

@@ -1,0 +1,245 @@
+-- What a lane adds to settle's bound, and what a lane's part of a step makes of it. Assumes nothing.
+use Prim.Native.Nat.{ℕ, zero, suc, _+_, _-_, _*_, _<_, _≤_}
+use mathlib.Core.Path.{_≡_, refl, sym, ap}
+use mathlib.Core.Bool.{Bool, true, false, not, cond, _&&_, true≢false}
+use mathlib.Core.List.{List}
+use lib.Dec.{leb, ltb, eqb}
+use lib.ListN.{length, getD, set}
+use lib.Seq.{getD-set-same, getD-set-other}
+use borrow.Author.Tests.{leb-false, eqb-false}
+use native.Mathlib.Omega.{arith}
+use native.Mathlib.Nat.{zero-add}
+use Rattle.words.specs.declared.LaneNo.{LaneNo}
+use Rattle.words.specs.declared.LineNo.{LineNo}
+use Rattle.words.specs.declared.BlockNo.{BlockNo}
+use Rattle.words.specs.declared.WordNo.{WordNo}
+use Rattle.words.specs.declared.Line.{Line}
+use Rattle.words.specs.declared.Op.{Op}
+use Rattle.words.specs.Units.{blockOf}
+use Rattle.words.specs.Folds.{countTo}
+use Rattle.words.specs.Lines.{invalid}
+use Rattle.words.proofs.Folds.{by-cond, pick}
+use Rattle.queues.specs.declared.ReturnMessage.{ReturnMessage}
+use Rattle.queues.specs.declared.DownMessage.{DownMessage}
+use Rattle.queues.specs.declared.DownKind.{DownKind}
+use Rattle.queues.specs.declared.DownKind.the-variants.{Update, Purge, Grant, BareGrant}
+use Rattle.queues.specs.declared.DownQueue.{DownQueue}
+use Rattle.queues.specs.Queues.{fullAt, emptyAt, noDown, headDown, takeDown, takeReturn}
+use Rattle.lanes.specs.declared.Lane.{Lane}
+use Rattle.lanes.specs.declared.Operation.{Operation}
+use Rattle.lanes.specs.declared.Waiting.{Waiting}
+use Rattle.lanes.specs.declared.Waiting.the-variants.{Idle, Unserved, Served}
+use Rattle.lanes.specs.declared.Found.{Found}
+use Rattle.lanes.specs.declared.Found.the-variants.{At, Nothing}
+use Rattle.lanes.specs.Search.{lineAt, searchOf, vacantOf}
+use Rattle.lanes.specs.Waits.{idleOf, unservedOf}
+use Rattle.lanes.specs.Lanes.{withWaiting, withReturns, withDowns, withLine}
+use Rattle.answers.specs.declared.Refusal.{Refusal}
+use Rattle.answers.specs.declared.Refusal.the-variants.{NothingPending, QueueFull, Unexpected}
+use Rattle.machine.specs.declared.LaneStep.{LaneStep}
+use Rattle.machine.specs.declared.Ready.{Ready}
+use Rattle.machine.specs.declared.Ready.the-variants.{Go, No}
+use Rattle.machine.specs.declared.LaneAnswer.the-variants.{Value, Waits, Stepped}
+use Rattle.machine.specs.declared.LaneAnswer.{LaneAnswer}
+use Rattle.machine.specs.Change.{refuseLane, posted, refusedIn, answerTo}
+use Rattle.machine.specs.Begin.{complete}
+use Rattle.machine.specs.Deliver.{reply, shared, updateAt, purgeAt, fillAt, grantAt, bareAt, servedOn, grantTo, bareTo, deliverKind, deliverLane}
+use Rattle.answers.specs.Completions.{doneIn}
+use Rattle.machine.specs.Settle.{isOrder, downsOf}
+use Rattle.machine.specs.Sized.{LaneSized}
+use Rattle.machine.proofs.laws.Tests.{on}
+
+-- what a down message adds: an order is answered, a grant is not
+abbrev pub price : DownKind → ℕ
+price x = cond (isOrder x) 2 1
+
+-- what a down queue adds
+abbrev pub downsWeight : DownQueue → ℕ
+downsWeight q = downsOf false q + 2 * downsOf true q
+
+-- what a lane adds, where an unserved operation adds u
+unfoldable pub weight : ℕ → Lane → ℕ
+weight u l = l .returns .len + downsWeight (l .downs) + cond (unservedOf (l .waiting)) u 0
+
+-- 1 where the lane's operation waits
+abbrev pub waits : Lane → ℕ
+waits l = cond (not (idleOf (l .waiting))) 1 0
+
+-- a place of a down queue
+place-weight : (b o : Bool) → cond (b && not o) 1 0 + 2 * cond (b && o) 1 0 ≡ cond b (cond o 2 1) 0
+place-weight true true = refl
+place-weight true false = refl
+place-weight false true = refl
+place-weight false false = refl
+
+-- what a queue of len messages adds
+downs-weight : (len : ℕ) (places : List DownMessage) →
+    downsWeight (record { len = len; at = places }) ≡ cond (ltb 0 len) (price (getD places 0 noDown .kind)) 0 + cond (ltb 1 len) (price (getD places 1 noDown .kind)) 0
+unfolding countTo
+downs-weight len places =
+    let a = place-weight (ltb 0 len) (isOrder (getD places 0 noDown .kind)) in
+    let b = place-weight (ltb 1 len) (isOrder (getD places 1 noDown .kind)) in
+    omega arith
+
+-- a message joins a down queue
+join-weight : (len : ℕ) (places : List DownMessage) (x : DownMessage) → length places ≡ 2 → len < 2 →
+    downsWeight (record { len = len + 1; at = set places len x }) ≡ downsWeight (record { len = len; at = places }) + price (x .kind)
+join-weight zero places x e h =
+    rw (downs-weight 1 (set places 0 x), downs-weight 0 places, getD-set-same places 0 x noDown (omega arith)) (omega arith)
+join-weight (suc zero) places x e h =
+    rw (downs-weight 2 (set places 1 x), downs-weight 1 places, getD-set-same places 1 x noDown (omega arith), getD-set-other places 1 0 x noDown (λ q. omega arith)) (omega arith)
+join-weight (suc (suc len)) places x e h = absurd (omega arith)
+
+-- the head leaves a down queue
+leave-weight : (len : ℕ) (places : List DownMessage) → length places ≡ 2 → 0 < len → len ≤ 2 →
+    downsWeight (record { len = len - 1; at = set places 0 (getD places 1 noDown) }) + price (getD places 0 noDown .kind) ≡ downsWeight (record { len = len; at = places })
+leave-weight zero places e h l = absurd (omega arith)
+leave-weight (suc zero) places e h l = rw (downs-weight 0 (set places 0 (getD places 1 noDown)), downs-weight 1 places) (omega arith)
+leave-weight (suc (suc zero)) places e h l =
+    rw (downs-weight 1 (set places 0 (getD places 1 noDown)), downs-weight 2 places, getD-set-same places 0 (getD places 1 noDown) noDown (omega arith)) (omega arith)
+leave-weight (suc (suc (suc len))) places e h l = absurd (omega arith)
+
+-- a lane whose operation is served has u less
+pub served-weight : (u : ℕ) (l : Lane) (o : Operation) → l .waiting ≡ Unserved o → weight u (withWaiting (Served o) l) + u ≡ weight u l
+unfolding weight
+served-weight u l o e = let a = ap (λ (w : Waiting). cond (unservedOf w) u 0) e in omega arith
+
+-- .. and waits as before
+pub served-waits : (l : Lane) (o : Operation) → l .waiting ≡ Unserved o → waits (withWaiting (Served o) l) ≡ waits l
+served-waits l o e = sym (ap (λ (w : Waiting). cond (not (idleOf w)) 1 0) e)
+
+-- a message joins the down queue of a lane
+pub posted-weight : (u : ℕ) (x : DownMessage) (l : Lane) → LaneSized l → fullAt (l .downs .len) ≡ false → weight u (posted x l) ≡ weight u l + price (x .kind)
+unfolding weight
+posted-weight u x l g e = let a = join-weight (l .downs .len) (l .downs .at) x (g .downs) (leb-false _ _ e) in rw e (omega arith)
+
+pub posted-waits : (x : DownMessage) (l : Lane) → waits (posted x l) ≡ waits l
+posted-waits x l = refl
+
+-- the head leaves the return queue of a lane
+pub returned-weight : (u : ℕ) (l : Lane) → emptyAt (l .returns .len) ≡ false → weight u (withReturns (takeReturn (l .returns) .queue) l) + 1 ≡ weight u l
+unfolding weight
+returned-weight u l e = let n = eqb-false (l .returns .len) 0 e in rw e (omega (arith, n))
+
+-- .. and the down queue
+taken-weight : (u : ℕ) (l : Lane) → LaneSized l → l .downs .len ≤ 2 → emptyAt (l .downs .len) ≡ false →
+    weight u (withDowns (takeDown (l .downs) .queue) l) + price (headDown (l .downs) .kind) ≡ weight u l
+unfolding weight
+taken-weight u l g s e =
+    let n = eqb-false (l .downs .len) 0 e in
+    let a = leave-weight (l .downs .len) (l .downs .at) (g .downs) (omega (arith, n)) s in
+    rw e (omega arith)
+
+-- how many operations complete in a lane's part
+abbrev pub completed : LaneAnswer → ℕ
+completed (Value v) = 1
+completed Waits = 0
+completed Stepped = 0
+completed (LaneAnswer.Refused x) = 0
+
+pub completed-done : (k : LaneNo) (a : LaneAnswer) → length (doneIn (answerTo k a)) ≡ completed a
+completed-done k (Value v) = refl
+completed-done k Waits = refl
+completed-done k Stepped = refl
+completed-done k (LaneAnswer.Refused x) = refl
+
+-- a lane's part of a step that took a message of price x: the lane is lighter, and a completion is of the operation that waited
+pub record Taken (u x : ℕ) (l : Lane) (r : LaneStep) : Type 0 where
+  pub lighter : weight u (r .lane) < weight u l + x
+  pub completes : completed (r .answer) + waits (r .lane) ≡ waits l
+
+-- .. unless it is refused
+abbrev pub Takes : ℕ → ℕ → Lane → LaneStep → Type 0
+Takes u x l r = refusedIn (r .answer) ≡ false → Taken u x l r
+
+refused-takes : (u x : ℕ) (l : Lane) (n : Refusal) → Takes u x l (refuseLane n l)
+refused-takes u x l n e = absurd (true≢false e)
+
+-- an answer joins the return queue; the line it is of may have changed
+reply-takes : (u : ℕ) (y : ReturnMessage) (l : Lane) → Takes u 2 l (reply y l)
+unfolding reply weight
+reply-takes u y l =
+    on (leb 2 (l .returns .len)) (λ q. rw q (refused-takes u 2 l QueueFull)) (λ q. rw q (λ _. record { lighter = omega arith; completes = zero-add (waits l) }))
+
+line-takes : (u : ℕ) (y : ReturnMessage) (i : LineNo) (x : Line) (l : Lane) → Takes u 2 l (reply y (withLine i x l))
+unfolding weight
+line-takes u y i x l e = let t = reply-takes u y (withLine i x l) e in record { lighter = t .lighter; completes = t .completes }
+
+-- an operation completes
+complete-takes : (u c : ℕ) (i : LineNo) (x : Line) (op : Op) (w : WordNo) (l : Lane) (o : Operation) → l .waiting ≡ Served o →
+    Takes u 1 l (complete c i x op w l)
+unfolding complete weight
+complete-takes u c i x op w l o e h = record { lighter = omega arith; completes = sym (ap (λ (y : Waiting). cond (not (idleOf y)) 1 0) e) }
+
+module _ (u c : ℕ) (l : Lane) where
+  update-takes : (a : BlockNo) (f : Found) → Takes u 2 l (updateAt f a l)
+  update-takes a (At i) = line-takes u _ i (shared (lineAt l i)) l
+  update-takes a Nothing = reply-takes u _ l
+
+  purge-takes : (a : BlockNo) (f : Found) → Takes u 2 l (purgeAt f a l)
+  purge-takes a (At i) = line-takes u _ i (invalid (lineAt l i)) l
+  purge-takes a Nothing = reply-takes u _ l
+
+  fill-takes : (x : DownMessage) (o : Operation) (f : Found) → l .waiting ≡ Served o → Takes u 1 l (fillAt f c x o l)
+  fill-takes x o (At i) e = complete-takes u c i _ (o .op) (o .word) l o e
+  fill-takes x o Nothing e = refused-takes u 1 l _
+
+  grant-takes : (x : DownMessage) (o : Operation) (f : Found) → l .waiting ≡ Served o → Takes u 1 l (grantAt f c x o l)
+  grant-takes x o (At i) e = refused-takes u 1 l _
+  grant-takes x o Nothing e = fill-takes x o (vacantOf l c) e
+
+  bare-takes : (o : Operation) (f : Found) → l .waiting ≡ Served o → Takes u 1 l (bareAt f c o l)
+  bare-takes o (At i) e = complete-takes u c i _ (o .op) (o .word) l o e
+  bare-takes o Nothing e = refused-takes u 1 l _
+
+  -- a grant is to the operation that is served, or is refused
+  grants-take : (x : DownMessage) (w : Waiting) → l .waiting ≡ w → Takes u 1 l (grantTo (servedOn w (x .block)) c x l)
+  grants-take x Idle e = refused-takes u 1 l _
+  grants-take x (Unserved o) e = refused-takes u 1 l _
+  grants-take x (Served o) e =
+      by-cond (λ (r : Ready). Takes u 1 l (grantTo r c x l)) (eqb (blockOf (o .word) .0) (x .block .0)) (Go o) (No Unexpected)
+      (grant-takes x o (searchOf l c (x .block)) e) (refused-takes u 1 l _)
+
+  bares-take : (x : DownMessage) (w : Waiting) → l .waiting ≡ w → Takes u 1 l (bareTo (servedOn w (x .block)) c x l)
+  bares-take x Idle e = refused-takes u 1 l _
+  bares-take x (Unserved o) e = refused-takes u 1 l _
+  bares-take x (Served o) e =
+      by-cond (λ (r : Ready). Takes u 1 l (bareTo r c x l)) (eqb (blockOf (o .word) .0) (x .block .0)) (Go o) (No Unexpected)
+      (bare-takes o (searchOf l c (x .block)) e) (refused-takes u 1 l _)
+
+  -- what a message does in a lane that has taken it
+  kind-takes : (y : DownKind) (x : DownMessage) → Takes u (price y) l (deliverKind y c x l)
+  kind-takes Update x = update-takes (x .block) (searchOf l c (x .block))
+  kind-takes Purge x = purge-takes (x .block) (searchOf l c (x .block))
+  kind-takes Grant x = grants-take x (l .waiting) refl
+  kind-takes BareGrant x = bares-take x (l .waiting) refl
+
+-- the lane's part of deliver
+pub deliver-lane-takes : (u c : ℕ) (l : Lane) → LaneSized l → l .downs .len ≤ 2 → Takes u 0 l (deliverLane c l)
+unfolding deliverLane
+deliver-lane-takes u c l g s =
+    pick (λ (r : LaneStep). Takes u 0 l r) (emptyAt (l .downs .len)) (refuseLane NothingPending l) _ (λ _. refused-takes u 0 l _)
+    (λ q e.
+    let t = kind-takes u c (withDowns (takeDown (l .downs) .queue) l) (headDown (l .downs) .kind) (headDown (l .downs)) e in
+    let a = t .lighter in
+    let b = taken-weight u l g s q in
+    record { lighter = rw e (omega arith); completes = rw e (t .completes) })
+
+-- a lane adds no more than two messages of each queue and its operation
+pub weight-most : (u : ℕ) (l : Lane) → l .returns .len ≤ 2 → weight u l ≤ u + 6
+unfolding weight
+weight-most u l h =
+    let a = downs-weight (l .downs .len) (l .downs .at) in
+    let b = price-most (ltb 0 (l .downs .len)) (isOrder (getD (l .downs .at) 0 noDown .kind)) in
+    let c = price-most (ltb 1 (l .downs .len)) (isOrder (getD (l .downs .at) 1 noDown .kind)) in
+    let d = waiting-most (unservedOf (l .waiting)) in
+    omega arith
+  where
+    price-most : (b o : Bool) → cond b (cond o 2 1) 0 ≤ 2
+    price-most true true = omega arith
+    price-most true false = omega arith
+    price-most false o = omega arith
+
+    waiting-most : (b : Bool) → cond b u 0 ≤ u
+    waiting-most true = omega arith
+    waiting-most false = omega arith

@@ -1,0 +1,141 @@
+-- Settle's bound is what the lanes and the control add; what a lane, or memory's part of a call, put back makes of it. Assumes nothing.
+use Prim.Native.Nat.{ℕ, _+_, _*_, _<_, _≤_}
+use mathlib.Core.Path.{_≡_, refl, sym, ap}
+use mathlib.Core.Bool.{Bool, true, false, cond, _&&_, true≢false}
+use mathlib.Core.List.{List}
+use lib.ListN.{length, getD, set}
+use lib.Seq.{getD-set-same, getD-set-other}
+use native.Mathlib.Omega.{arith}
+use native.Mathlib.Nat.{add-zero}
+use Rattle.words.specs.declared.LaneNo.{LaneNo}
+use Rattle.words.specs.declared.BlockNo.{BlockNo}
+use Rattle.words.specs.Folds.{countTo, sumTo}
+use Rattle.words.proofs.Folds.{any-false, by-cond}
+use Rattle.queues.specs.declared.DownMessage.{DownMessage}
+use Rattle.queues.specs.Queues.{fullAt}
+use Rattle.lanes.specs.declared.Lane.{Lane}
+use Rattle.lanes.specs.Waits.{unservedOf}
+use Rattle.answers.specs.Refusals.{refusedOf}
+use Rattle.store.specs.declared.Store.{Store}
+use Rattle.store.specs.declared.Control.{Control}
+use Rattle.store.specs.declared.Outcome.{Outcome}
+use Rattle.store.specs.Control.{busyOf}
+use Rattle.store.specs.Stores.{noLane, laneAt, withLane}
+use Rattle.machine.specs.declared.LaneStep.{LaneStep}
+use Rattle.machine.specs.declared.Move.{Move}
+use Rattle.machine.specs.Change.{commitLane, goesTo, someFull, posted, postAll, commitMove, refusedIn, answerTo, movedStore}
+use Rattle.answers.specs.Completions.{doneIn}
+use Rattle.machine.specs.Settle.{downsOf, boundOf}
+use Rattle.machine.specs.Sized.{LaneSized, Sized}
+use Rattle.machine.proofs.laws.Tests.{and-right}
+use Rattle.machine.proofs.laws.Sums.{sum-same, sum-change, sum-grown, sum-weights}
+use Rattle.machine.proofs.bounds.Posts.{post-all-at}
+use Rattle.machine.proofs.bounds.SizedKeeps.{LanesSized, set-lane-sized, lanes-sized}
+use Rattle.machine.proofs.settle.FallsLane.{price, weight, waits, posted-weight, posted-waits, Takes, completed-done}
+use Rattle.machine.proofs.rules.Rules.{lane-rule, move-rule}
+
+-- what the first n lanes add
+abbrev pub lanesWeight : ℕ → List Lane → ℕ → ℕ
+lanesWeight u ls n = sumTo (λ k. weight u (getD ls k noLane)) n
+
+-- how many of them wait
+abbrev pub lanesWait : List Lane → ℕ → ℕ
+lanesWait ls n = sumTo (λ k. waits (getD ls k noLane)) n
+
+-- what a control adds
+abbrev pub service : Control → ℕ
+service x = cond (busyOf x) 1 0
+
+pub bound-sum : (s : Store) → boundOf s ≡ lanesWeight (2 * s .shape .n) (s .lanes) (s .shape .n) + service (s .control)
+unfolding boundOf weight
+bound-sum s =
+    let a = sum-weights (λ k. laneAt s k .returns .len) (λ k. downsOf false (laneAt s k .downs)) (λ k. downsOf true (laneAt s k .downs))
+    (λ k. unservedOf (laneAt s k .waiting)) (2 * s .shape .n) (s .shape .n) in
+    omega arith
+
+-- a step that lowers the bound, and completes as many operations as wait no more
+pub record Advances (s : Store) (r : Outcome) : Type 0 where
+  pub falls : boundOf (r .store) < boundOf s
+  pub completes : length (doneIn (r .answer)) + lanesWait (r .store .lanes) (r .store .shape .n) ≡ lanesWait (s .lanes) (s .shape .n)
+
+-- .. unless it is refused
+abbrev pub Advancing : Store → Outcome → Type 0
+Advancing s r = refusedOf (r .answer) ≡ false → Advances s r
+
+-- lane k is replaced
+set-sum : (w : Lane → ℕ) (ls : List Lane) (k n : ℕ) (l : Lane) → k < n → k < length ls →
+    sumTo (λ j. w (getD (set ls k l) j noLane)) n + w (getD ls k noLane) ≡ sumTo (λ j. w (getD ls j noLane)) n + w l
+set-sum w ls k n l h g =
+    let a = sum-change (λ j. w (getD ls j noLane)) (λ j. w (getD (set ls k l) j noLane)) n k h (λ j m. ap w (getD-set-other ls k j l noLane m)) in
+    let b = ap w (getD-set-same ls k l noLane g) in
+    omega arith
+
+-- lane k after its part of a call
+pub commit-lane-advances : (s : Store) (k : LaneNo) (r : LaneStep) → length (s .lanes) ≡ 8 → s .shape .n ≤ 8 → k .0 < s .shape .n →
+    Takes (2 * s .shape .n) 0 (laneAt s (k .0)) r → Advancing s (commitLane s k r)
+commit-lane-advances s k r g h l t = lane-rule (Advancing s) s k r (λ _ _ e. absurd (true≢false e)) (λ e _. put e)
+  where
+    put : refusedIn (r .answer) ≡ false → Advances s (record { answer = answerTo k (r .answer); store = withLane s (k .0) (r .lane) })
+    put e =
+        let p = t e .lighter in
+        let q = t e .completes in
+        let o = completed-done k (r .answer) in
+        let a = set-sum (weight (2 * s .shape .n)) (s .lanes) (k .0) (s .shape .n) (r .lane) l (omega arith) in
+        let b = set-sum waits (s .lanes) (k .0) (s .shape .n) (r .lane) l (omega arith) in
+        let c = bound-sum s in
+        let d = bound-sum (withLane s (k .0) (r .lane)) in
+        record { falls = omega arith; completes = omega arith }
+
+-- a message is sent to some lanes, none of them full
+module _ (to : List Bool) (x : DownMessage) (ls : List Lane) (n : ℕ) (h : n ≤ 8) (g : LanesSized ls) where
+  post-weight : (u : ℕ) → someFull to ls ≡ false → lanesWeight u (postAll to x ls) n ≡ lanesWeight u ls n + price (x .kind) * countTo (goesTo to) n
+  unfolding someFull
+  post-weight u e = sum-grown (λ j. weight u (getD ls j noLane)) (λ j. weight u (getD (postAll to x ls) j noLane)) (goesTo to) (price (x .kind)) n at-lane
+    where
+      grown : (j : ℕ) → j < 8 → (b : Bool) → goesTo to j ≡ b →
+          weight u (cond b (posted x (getD ls j noLane)) (getD ls j noLane)) ≡ weight u (getD ls j noLane) + cond b (price (x .kind)) 0
+      grown j l true q =
+          posted-weight u x (getD ls j noLane) (g .lane j l)
+          (and-right (goesTo to j) (fullAt (getD ls j noLane .downs .len)) (any-false (λ i. goesTo to i && fullAt (getD ls i noLane .downs .len)) 8 j e l) q)
+      grown j l false q = sym (add-zero _)
+
+      at-lane : (j : ℕ) → j < n → weight u (getD (postAll to x ls) j noLane) ≡ weight u (getD ls j noLane) + cond (goesTo to j) (price (x .kind)) 0
+      at-lane j l = let d = g .lanes in rw (post-all-at to x j ls (omega arith) (omega arith)) (grown j (omega arith) (goesTo to j) refl)
+
+  post-waits : lanesWait (postAll to x ls) n ≡ lanesWait ls n
+  post-waits = sum-same (λ j. waits (getD ls j noLane)) (λ j. waits (getD (postAll to x ls) j noLane)) n at-lane
+    where
+      at-lane : (j : ℕ) → j < n → waits (getD (postAll to x ls) j noLane) ≡ waits (getD ls j noLane)
+      at-lane j l =
+          let d = g .lanes in
+          rw (post-all-at to x j ls (omega arith) (omega arith))
+          (by-cond (λ (r : Lane). waits r ≡ waits (getD ls j noLane)) (goesTo to j) (posted x (getD ls j noLane)) (getD ls j noLane) (posted-waits x (getD ls j noLane)) refl)
+
+-- memory's part of a call: the lane, what is sent and the service add less than before, and no operation completes
+pub record Lowers (n u : ℕ) (l : Lane) (x : Control) (v : Move) : Type 0 where
+  pub lighter : weight u (v .lane) + price (v .message .kind) * countTo (goesTo (v .to)) n + service (v .control) < weight u l + service x
+  pub waits-on : waits (v .lane) ≡ waits l
+  pub completes-none : length (doneIn (v .answer)) ≡ 0
+
+-- the store after memory's part of a call
+pub commit-move-advances : (s : Store) (k : LaneNo) (a : BlockNo) (v : Move) → Sized s → s .shape .n ≤ 8 → k .0 < s .shape .n → (k .0 < 8 → LaneSized (v .lane)) →
+    (refusedOf (v .answer) ≡ false → Lowers (s .shape .n) (2 * s .shape .n) (laneAt s (k .0)) (s .control) v) → Advancing s (commitMove s k a v)
+commit-move-advances s k a v g h l f t = move-rule (Advancing s) s k a v (λ _ e. absurd (true≢false e)) (λ q o _. put (t q) o)
+  where
+    after : List Lane
+    after = set (s .lanes) (k .0) (v .lane)
+
+    put : Lowers (s .shape .n) (2 * s .shape .n) (laneAt s (k .0)) (s .control) v → someFull (v .to) after ≡ false → Advances s (record { answer = v .answer; store = movedStore s k a v })
+    put w o =
+        let z = set-lane-sized (s .lanes) (k .0) (v .lane) (lanes-sized s g) f in
+        let i = g .lanes in
+        let p = w .lighter in
+        let q = w .waits-on in
+        let d = w .completes-none in
+        let a₀ = set-sum (weight (2 * s .shape .n)) (s .lanes) (k .0) (s .shape .n) (v .lane) l (omega arith) in
+        let b₀ = set-sum waits (s .lanes) (k .0) (s .shape .n) (v .lane) l (omega arith) in
+        let a₁ = post-weight (v .to) (v .message) after (s .shape .n) h z (2 * s .shape .n) o in
+        let b₁ = post-waits (v .to) (v .message) after (s .shape .n) h z in
+        let c₀ = bound-sum s in
+        let c₁ = bound-sum (movedStore s k a v) in
+        record { falls = omega arith; completes = omega arith }

@@ -1,0 +1,181 @@
+-- The places past the n lanes stay as an opening leaves them: with empty queues. A call on such a lane is refused, and no message
+-- goes to one. Assumes nothing.
+use Prim.Native.Nat.{ℕ, zero, suc, _<_, _≤_}
+use mathlib.Core.Path.{_≡_, refl, sym, ap, _∙_}
+use mathlib.Core.Bool.{Bool, true, false}
+use mathlib.Core.List.{List, [], _∷_}
+use lib.Dec.{eqb}
+use lib.ListN.{getD, set}
+use lib.Seq.{getD-set-other}
+use native.Mathlib.Omega.{arith}
+use Rattle.words.specs.declared.LaneNo.{LaneNo}
+use Rattle.words.specs.declared.BlockNo.{BlockNo}
+use Rattle.words.specs.declared.WordNo.{WordNo}
+use Rattle.words.specs.declared.Op.{Op}
+use Rattle.words.specs.declared.Shape.{Shape}
+use Rattle.words.specs.Units.{blockOf, shaped}
+use Rattle.words.specs.Folds.{upTo}
+use Rattle.words.proofs.Folds.{by-cond}
+use Rattle.queues.specs.declared.ReturnMessage.{ReturnMessage}
+use Rattle.queues.specs.declared.DownMessage.{DownMessage}
+use Rattle.queues.specs.Queues.{headReturn, takeReturn}
+use Rattle.lanes.specs.declared.Lane.{Lane}
+use Rattle.lanes.specs.declared.Operation.{Operation}
+use Rattle.lanes.specs.Lanes.{withReturns}
+use Rattle.store.specs.declared.Store.{Store}
+use Rattle.store.specs.declared.Block.{Block}
+use Rattle.store.specs.declared.Control.{Control}
+use Rattle.store.specs.declared.Control.the-variants.{Free, Busy}
+use Rattle.store.specs.declared.Counted.{Counted}
+use Rattle.store.specs.declared.Counted.the-variants.{Awaits, Closes, NotAwaited}
+use Rattle.store.specs.declared.Lookup.{Lookup}
+use Rattle.store.specs.declared.Lookup.the-variants.{Of, Nothing}
+use Rattle.store.specs.declared.Outcome.{Outcome}
+use Rattle.store.specs.Control.{lowered, countedOf, answerOf}
+use Rattle.store.specs.Opening.{badShape, blankLane, freshOf, openOf}
+use Rattle.store.specs.Stores.{noLane, laneAt, blockAt}
+use Rattle.machine.specs.declared.LaneStep.{LaneStep}
+use Rattle.machine.specs.declared.Move.{Move}
+use Rattle.machine.specs.Change.{commitLane, nobody, only, goesTo, postTo, postAll, commitMove, movedStore}
+use Rattle.machine.specs.Begin.{beginOf}
+use Rattle.machine.specs.Serve.{ordered, countOf, close, serveMove, serveOf}
+use Rattle.machine.specs.Return.{takenBy, isAnswer, countedMove, returnMove, returnOf}
+use Rattle.machine.specs.Deliver.{deliverOf}
+use Rattle.machine.specs.Settle.{settleStep, boundOf, Progress, advance, repeatStep, Settlement, settleOf, lane}
+use Rattle.machine.specs.Calls.{Call, Begin, Serve, Return, Deliver, Settle, callOf, run}
+use Rattle.machine.proofs.laws.Tests.{on}
+use Rattle.machine.proofs.bounds.KeepsLane.{clash}
+use Rattle.machine.proofs.bounds.Sound.{BlockSound, ControlSound, sound}
+use Rattle.machine.proofs.bounds.KeepsServe.{ordered-absent}
+use Rattle.machine.proofs.protocol.Directories.{nobody-none}
+use Rattle.machine.proofs.projection.Project.{}
+use Rattle.machine.proofs.store.ConsistentOpen.{each-lane}
+use Rattle.machine.proofs.settle.FallsSettle.{startAt, settle-rule}
+use Rattle.machine.proofs.rules.Rules.{lane-rule, move-rule, begin-rule, serve-rule, return-rule, deliver-rule}
+use Rattle.machine.proofs.rules.RulesSettle.{step-rule, repeat-rule}
+
+-- a lane that has no messages
+pub record Empty (l : Lane) : Type 0 where
+  pub returns : l .returns .len ≡ 0
+  pub downs : l .downs .len ≡ 0
+
+-- the places past the lanes have none
+abbrev pub Spare : Store → Type 0
+Spare s = (j : ℕ) → s .shape .n ≤ j → Empty (laneAt s j)
+
+-- an opening
+blank-empty : Empty blankLane
+unfolding blankLane
+blank-empty = record { returns = refl; downs = refl }
+
+fresh-spare : (shape : Shape) → Spare (freshOf shape)
+fresh-spare shape j _ = each-lane Empty shape blank-empty (record { returns = refl; downs = refl }) j
+
+pub open-spare : (shape : Shape) → Spare (openOf shape .store)
+unfolding openOf
+open-spare shape = by-cond (λ (r : Outcome). Spare (r .store)) (badShape shape) _ _ (fresh-spare (shaped 0 0 0)) (fresh-spare shape)
+
+-- a lane put back
+set-spare : (n : ℕ) (ls : List Lane) (k : ℕ) (l : Lane) → k < n → ((j : ℕ) → n ≤ j → Empty (getD ls j noLane)) → (j : ℕ) → n ≤ j → Empty (getD (set ls k l) j noLane)
+set-spare n ls k l h e j g = rw (getD-set-other ls k j l noLane (λ q. omega arith)) (e j g)
+
+lane-spare : (s : Store) (k : LaneNo) (r : LaneStep) → k .0 < s .shape .n → Spare s → Spare (commitLane s k r .store)
+lane-spare s k r h e = lane-rule (λ (x : Outcome). Spare (x .store)) s k r (λ _ _. e) (λ _. set-spare (s .shape .n) (s .lanes) (k .0) (r .lane) h e)
+
+-- a message leaves the lanes that it does not go to as they were
+post-skip : (to : List Bool) (x : DownMessage) (j t : ℕ) (ls : List Lane) → (j ≡ t → goesTo to t ≡ false) → getD (postTo to x t ls) j noLane ≡ getD ls j noLane
+unfolding postTo
+post-skip to x j t ls e = on (goesTo to t) (λ q. rw q (getD-set-other ls t j _ noLane (λ z. clash (cc (e z))))) (λ q. rw q)
+
+post-skips : (to : List Bool) (x : DownMessage) (j t : ℕ) (ls : List Lane) → (j < t → goesTo to j ≡ false) → getD (upTo (postTo to x) t ls) j noLane ≡ getD ls j noLane
+unfolding upTo
+post-skips to x j zero ls e = refl
+post-skips to x j (suc t) ls e =
+    post-skip to x j t (upTo (postTo to x) t ls) (λ z. ap (goesTo to) (sym z) ∙ e (omega arith)) ∙ post-skips to x j t ls (λ h. e (omega arith))
+
+-- memory's part of a call, whose message goes to lanes only
+move-spare : (s : Store) (k : LaneNo) (a : BlockNo) (v : Move) → k .0 < s .shape .n → ((j : ℕ) → s .shape .n ≤ j → j < 8 → goesTo (v .to) j ≡ false) → Spare s →
+    Spare (commitMove s k a v .store)
+unfolding postAll
+move-spare s k a v h to e = move-rule (λ (r : Outcome). Spare (r .store)) s k a v (λ _. e) (λ _ _. moved)
+  where
+    moved : Spare (movedStore s k a v)
+    moved j g = rw (post-skips (v .to) (v .message) j 8 (set (s .lanes) (k .0) (v .lane)) (to j g)) (set-spare (s .shape .n) (s .lanes) (k .0) (v .lane) h e j g)
+
+-- one lane alone
+only-spare : (n : ℕ) (k : LaneNo) → k .0 < n → (j : ℕ) → n ≤ j → goesTo (only k) j ≡ false
+only-spare n k h j g = getD-set-other nobody (k .0) j true false (λ q. omega arith) ∙ nobody-none j
+
+-- serve
+serve-to : (n : ℕ) (k : LaneNo) (o : Operation) (l : Lane) (b : Block) (x : Control) → k .0 < n → BlockSound n b → (j : ℕ) → n ≤ j → j < 8 →
+    goesTo (serveMove k o l b x .to) j ≡ false
+unfolding serveMove close
+serve-to n k o l b x h g j p q =
+    by-cond (λ (v : Move). goesTo (v .to) j ≡ false) (eqb (countOf (ordered b k (o .command))) 0) _ _ (only-spare n k h j p) (ordered-absent n b k (o .command) g j p q)
+
+serve-spare : (s : Store) (k : LaneNo) → Spare s → Spare (serveOf s k .store)
+serve-spare s k e =
+    serve-rule (λ (r : Outcome). Spare (r .store)) s k (λ _. e)
+    (λ o r.
+    let a = sound s (r .sound) in
+    move-spare s k (blockOf (o .word)) _ (r .lane)
+    (serve-to (s .shape .n) k o (laneAt s (k .0)) (blockAt s (blockOf (o .word) .0)) (s .control) (r .lane) (a .block (blockOf (o .word) .0) (a .lane (k .0) (r .lane) .unserved o (r .unserved)))) e)
+
+-- return
+answered-to : (n m : ℕ) (x : Control) (a : BlockNo) (l : Lane) (b : Block) (t : Lane) (u : Block) → ControlSound n m x → (j : ℕ) → n ≤ j →
+    goesTo (countedMove (answerOf x a) l b x t u .to) j ≡ false
+unfolding close
+answered-to n m Free a l b t u g j p = nobody-none j
+answered-to n m (Busy v) a l b t u g j p =
+    by-cond (λ (r : Lookup). goesTo (countedMove (countedOf r) l b (Busy v) t u .to) j ≡ false) (eqb (v .block .0) (a .0)) (Of v) Nothing
+    (by-cond (λ (r : Counted). goesTo (countedMove r l b (Busy v) t u .to) j ≡ false) (eqb (v .awaited) 0) NotAwaited _ (nobody-none j)
+    (by-cond (λ (r : Counted). goesTo (countedMove r l b (Busy v) t u .to) j ≡ false) (eqb (v .awaited) 1) (Closes v Free) (Awaits (Busy (lowered v)))
+    (only-spare n (v .lane) (g .service v refl .lane) j p) (nobody-none j)))
+    (nobody-none j)
+
+return-to : (n m : ℕ) (k : LaneNo) (x : ReturnMessage) (l : Lane) (b : Block) (y : Control) → ControlSound n m y → (j : ℕ) → n ≤ j → goesTo (returnMove k x l b y .to) j ≡ false
+unfolding returnMove
+return-to n m k x l b y g j p =
+    by-cond (λ (v : Move). goesTo (v .to) j ≡ false) (isAnswer (x .kind)) _ _
+    (answered-to n m y (x .block) l b (withReturns (takeReturn (l .returns) .queue) l) (takenBy (x .kind) (x .words) k b) g j p) (nobody-none j)
+
+return-spare : (s : Store) (k : LaneNo) → Spare s → Spare (returnOf s k .store)
+return-spare s k e =
+    return-rule (λ (r : Outcome). Spare (r .store)) s k (λ _. e)
+    (λ r.
+    let x = headReturn (laneAt s (k .0) .returns) in
+    move-spare s k (x .block) _ (r .lane)
+    (λ j p _. return-to (s .shape .n) (s .shape .m) k x (laneAt s (k .0)) (blockAt s (x .block .0)) (s .control) (sound s (r .sound) .control) j p) e)
+
+deliver-spare : (s : Store) (k : LaneNo) → Spare s → Spare (deliverOf s k .store)
+deliver-spare s k e = deliver-rule (λ (r : Outcome). Spare (r .store)) s k (λ _. e) (λ _ h. lane-spare s k _ h e)
+
+begin-spare : (s : Store) (k : LaneNo) (op : Op) (w : WordNo) → Spare s → Spare (beginOf s k op w .store)
+begin-spare s k op w e = begin-rule (λ (r : Outcome). Spare (r .store)) s k op w (λ _. e) (λ r. lane-spare s k _ (r .lane) e)
+
+-- settle
+pub step-spare : (s : Store) → Spare s → Spare (settleStep s .store)
+step-spare s e =
+    step-rule (λ (r : Outcome). Spare (r .store)) s (λ k _ _. deliver-spare s (lane k) e) (λ _ k _ _. return-spare s (lane k) e) (λ _ _ k _ _. serve-spare s (lane k) e)
+    (λ _ _ _. e)
+
+repeat-spare : (n : ℕ) (p : Progress) → Spare (p .store) → Spare (repeatStep n p .store)
+unfolding advance
+repeat-spare n p e = repeat-rule (λ (r : Progress). Spare (r .store)) (λ q _. step-spare (q .store)) n p e
+
+settle-spare : (s : Store) → Spare s → Spare (settleOf s .store)
+settle-spare s e = settle-rule (λ (r : Settlement). Spare (r .store)) s (λ _. e) (λ _ _ _. repeat-spare (suc (boundOf s)) (startAt s) e)
+
+-- every call, and every list of calls
+pub call-spare : (s : Store) (x : Call) → Spare s → Spare (callOf s x .store)
+unfolding callOf
+call-spare s (Begin k op w) e = begin-spare s k op w e
+call-spare s (Serve k) e = serve-spare s k e
+call-spare s (Return k) e = return-spare s k e
+call-spare s (Deliver k) e = deliver-spare s k e
+call-spare s Settle e = settle-spare s e
+
+pub run-spare : (s : Store) (calls : List Call) → Spare s → Spare (run s calls .store)
+unfolding run
+run-spare s [] e = e
+run-spare s (x ∷ calls) e = run-spare (callOf s x .store) calls (call-spare s x e)
