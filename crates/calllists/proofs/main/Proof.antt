@@ -20,8 +20,8 @@ one-more t h = omega arith
 one-less : (t : ℕ) → t < 100000000 → 100000000 - (t + 1) < 100000000 - t
 one-less t h = omega arith
 
-open-requires : tie.Need-open-requires Inv-loop μ-loop
-open-requires c κs = search needs
+blank-requires : tie.Need-blank-requires Inv-loop μ-loop
+blank-requires c κs = search needs
 
 loop-holds : tie.Need-loop-holds Inv-loop μ-loop
 loop-holds c = search needs
@@ -50,7 +50,7 @@ main-spec =
     (tie.spec
     Inv-loop
     μ-loop
-    open-requires
+    blank-requires
     loop-holds
     next-requires
     add-turns
