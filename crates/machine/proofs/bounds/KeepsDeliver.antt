@@ -15,6 +15,7 @@ use Rattle.queues.specs.declared.DownMessage.{DownMessage}
 use Rattle.queues.specs.declared.DownKind.{DownKind}
 use Rattle.queues.specs.declared.DownKind.the-variants.{Update, Purge, Grant, BareGrant}
 use Rattle.queues.specs.Queues.{emptyAt, headDown, takeDown, noDown}
+use Rattle.queues.specs.Messages.{bareReturn, wordsReturn}
 use Rattle.lanes.specs.declared.Lane.{Lane}
 use Rattle.lanes.specs.declared.Operation.{Operation}
 use Rattle.lanes.specs.declared.Found.{Found}
@@ -30,7 +31,6 @@ use Rattle.machine.specs.declared.LaneStep.{LaneStep}
 use Rattle.machine.specs.declared.Ready.{Ready}
 use Rattle.machine.specs.declared.Ready.the-variants.{Go, No}
 use Rattle.machine.specs.Change.{refuseLane, refusedIn}
-use Rattle.queues.specs.Messages.{bareReturn, wordsReturn}
 use Rattle.machine.specs.Deliver.{shared, updateAt, purgedOf, purgeAt, claimed, fillAt, grantAt, bareAt, servedOn, grantTo, bareTo, deliverKind, deliverLane, deliverOf}
 use Rattle.machine.proofs.bounds.KeepsLane.{LaneFit, clash, with-line, complete-keeps, reply-keeps, taken-keeps, head-inside}
 use Rattle.machine.proofs.bounds.KeepsStore.{Fit, lane-fit, commit-lane-keeps}

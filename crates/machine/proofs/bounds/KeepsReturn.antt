@@ -1,37 +1,29 @@
 -- Return keeps a store within bounds. Assumes nothing.
 use Prim.Native.Nat.{ℕ, _≤_}
-use mathlib.Core.Path.{refl}
 use mathlib.Core.List.{List}
-use lib.Dec.{eqb}
 use lib.ListN.{getD}
 use borrow.Author.Tests.{ne-eqb}
 use native.Mathlib.Omega.{arith}
 use Rattle.words.specs.declared.LaneNo.{LaneNo}
-use Rattle.words.specs.declared.BlockNo.{BlockNo}
-use Rattle.words.proofs.Folds.{by-cond}
 use Rattle.queues.specs.declared.ReturnMessage.{ReturnMessage}
 use Rattle.queues.specs.declared.ReturnKind.{ReturnKind}
 use Rattle.queues.specs.declared.ReturnKind.the-variants.{Eject, WriteEject, Updated, Purged, PurgedWords, Gone}
-use Rattle.queues.specs.Queues.{headReturn, takeReturn, noReturn}
+use Rattle.queues.specs.Queues.{headReturn, noReturn}
 use Rattle.lanes.specs.declared.Lane.{Lane}
-use Rattle.lanes.specs.Lanes.{withReturns}
 use Rattle.store.specs.declared.Store.{Store}
 use Rattle.store.specs.declared.Block.{Block}
 use Rattle.store.specs.declared.Control.{Control}
 use Rattle.store.specs.declared.Control.the-variants.{Free, Busy}
-use Rattle.store.specs.declared.Lookup.{Lookup}
-use Rattle.store.specs.declared.Lookup.the-variants.{Of, Nothing}
-use Rattle.store.specs.declared.Counted.{Counted}
-use Rattle.store.specs.declared.Counted.the-variants.{Awaits, Closes}
 use Rattle.store.specs.declared.Outcome.{Outcome}
-use Rattle.store.specs.Control.{lowered, countedOf, answerOf}
+use Rattle.store.specs.Control.{lowered}
 use Rattle.store.specs.Stores.{laneAt, blockAt}
-use Rattle.machine.specs.Return.{takenBy, isAnswer, sendNothing, countedMove, returnMove, returnOf}
+use Rattle.machine.specs.Return.{takenBy, sendNothing, returnMove, returnOf}
 use Rattle.machine.proofs.bounds.Sound.{BlockSound, ControlSound}
 use Rattle.machine.proofs.bounds.KeepsLane.{LaneFit, returned-keeps, head-inside}
 use Rattle.machine.proofs.bounds.KeepsStore.{Fit, lane-fit, MoveFit, commit-move-keeps}
 use Rattle.machine.proofs.bounds.KeepsServe.{busy-sound, free-sound, reset-absent, close-keeps}
 use Rattle.machine.proofs.rules.Rules.{return-rule}
+use Rattle.machine.proofs.rules.RulesMemory.{return-move-rule}
 
 -- what a message makes of its block
 taken-by-keeps : (n : ℕ) (x : ReturnKind) (ws : List ℕ) (k : LaneNo) (b : Block) → BlockSound n b → BlockSound n (takenBy x ws k b)
@@ -46,31 +38,16 @@ module _ (h n c m : ℕ) (z : 1 ≤ m) where
   sendNothing-keeps : (l : Lane) (b : Block) (x : Control) → LaneFit h c m l → BlockSound n b → ControlSound n m x → MoveFit h n c m (sendNothing l b x)
   sendNothing-keeps l b x f g y = record { lane = f; block = g; control = y; message = z }
 
-  -- an answer comes in: it is not awaited, it is counted, or it closes the service
-  answered-keeps : (x : Control) (a : BlockNo) (l : Lane) (b : Block) (t : Lane) (u : Block) → ControlSound n m x → LaneFit h c m l → BlockSound n b →
-      LaneFit h c m t → BlockSound n u → MoveFit h n c m (countedMove (answerOf x a) l b x t u)
-  answered-keeps Free a l b t u y f g p q = record { lane = f; block = g; control = y; message = z }
-  answered-keeps (Busy v) a l b t u y f g p q =
-      let w = y .service v refl in
-      by-cond (λ (r : Lookup). MoveFit h n c m (countedMove (countedOf r) l b (Busy v) t u)) (eqb (v .block .0) (a .0)) (Of v) Nothing
-      (by-cond (λ (r : Counted). MoveFit h n c m (countedMove r l b (Busy v) t u)) (eqb (v .awaited) 0) _ _
-      (record { lane = f; block = g; control = y; message = z })
-      (by-cond (λ (r : Counted). MoveFit h n c m (countedMove r l b (Busy v) t u)) (eqb (v .awaited) 1) (Closes v Free) (Awaits (Busy (lowered v)))
-      (close-keeps h n c m v t u Free (w .lane) (w .block) p q (free-sound n m))
-      (sendNothing-keeps t u (Busy (lowered v)) p q
-      (busy-sound n m (lowered v) (record { lane = w .lane; block = w .block; awaited = let d = w .awaited in omega arith })))))
-      (record { lane = f; block = g; control = y; message = z })
-
   -- memory's part of return
   pub return-move-keeps : (k : LaneNo) (x : ReturnMessage) (l : Lane) (b : Block) (y : Control) → LaneFit h c m l → BlockSound n b → ControlSound n m y →
       MoveFit h n c m (returnMove k x l b y)
-  unfolding returnMove
   return-move-keeps k x l b y f g w =
       let t = returned-keeps h c m l f in
       let u = taken-by-keeps n (x .kind) (x .words) k b g in
-      by-cond (MoveFit h n c m) (isAnswer (x .kind)) _ _
-      (answered-keeps y (x .block) l b (withReturns (takeReturn (l .returns) .queue) l) (takenBy (x .kind) (x .words) k b) w f g t u)
-      (sendNothing-keeps (withReturns (takeReturn (l .returns) .queue) l) (takenBy (x .kind) (x .words) k b) y t u w)
+      return-move-rule (MoveFit h n c m) k x l b y (λ _. sendNothing-keeps _ _ y t u w) (record { lane = f; block = g; control = w; message = z })
+      (λ _ v q _. let d = w .service v (q .busy) in close-keeps h n c m v _ _ Free (d .lane) (d .block) t u (free-sound n m))
+      (λ _ v q _. let d = w .service v (q .busy) in sendNothing-keeps _ _ (Busy (lowered v)) t u
+      (busy-sound n m (lowered v) (record { lane = d .lane; block = d .block; awaited = let e = d .awaited in omega arith })))
 
 pub return-fit : (h : ℕ) (s : Store) (k : LaneNo) → Fit h s → Fit h (returnOf s k .store)
 return-fit h s k g =

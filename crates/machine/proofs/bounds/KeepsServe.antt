@@ -3,7 +3,6 @@ use Prim.Native.Nat.{ℕ, _<_, _≤_}
 use mathlib.Core.Path.{_≡_, refl}
 use mathlib.Core.Bool.{Bool, true, false}
 use mathlib.Core.List.{List}
-use lib.Dec.{eqb}
 use lib.ListN.{getD, set, getD-replicate}
 use native.Mathlib.Omega.{arith}
 use Rattle.words.specs.declared.LaneNo.{LaneNo}
@@ -31,6 +30,7 @@ use Rattle.machine.proofs.bounds.Sound.{BlockSound, ServiceSound, Contr
 use Rattle.machine.proofs.bounds.KeepsLane.{LaneFit, with-served, clash}
 use Rattle.machine.proofs.bounds.KeepsStore.{Fit, lane-fit, MoveFit, commit-move-keeps}
 use Rattle.machine.proofs.rules.Rules.{serve-rule}
+use Rattle.machine.proofs.rules.RulesMemory.{serve-move-rule}
 
 -- a control with a service within bounds
 pub busy-sound : (n m : ℕ) (v : Service) → ServiceSound n m v → ControlSound n m (Busy v)
@@ -94,13 +94,12 @@ ordered-fewer n b k x h l g =
 -- memory's part of serve
 pub serve-move-keeps : (h n c m : ℕ) (k : LaneNo) (o : Operation) (l : Lane) (b : Block) (x : Control) → n ≤ 8 → k .0 < n → blockOf (o .word) .0 < m →
     LaneFit h c m l → BlockSound n b → ControlSound n m x → MoveFit h n c m (serveMove k o l b x)
-unfolding serveMove
 serve-move-keeps h n c m k o l b x p q r f g y =
     let t = with-served h c m l f o r in
     let z = ordered-fewer n b k (o .command) p q g in
-    by-cond (MoveFit h n c m) (eqb (countOf (ordered b k (o .command))) 0) _ _
-    (close-keeps h n c m (serviceFor k o b (countOf (ordered b k (o .command)))) (withWaiting (Served o) l) b x q r t g y)
-    (record {
+    serve-move-rule (MoveFit h n c m) k o l b x
+    (λ _. close-keeps h n c m (serviceFor k o b (countOf (ordered b k (o .command)))) (withWaiting (Served o) l) b x q r t g y)
+    (λ _. record {
       lane = t;
       block = g;
       control = busy-sound n m (serviceFor k o b (countOf (ordered b k (o .command)))) (record { lane = q; block = r; awaited = z });

@@ -3,7 +3,6 @@ use Prim.Native.Nat.{ℕ, zero, suc, _<_, _≤_}
 use mathlib.Core.Path.{_≡_, refl, _∙_}
 use mathlib.Core.Bool.{Bool, true, false, _||_}
 use mathlib.Core.List.{List}
-use lib.Dec.{eqb}
 use lib.ListN.{length, getD, set, length-set, length-replicate, getD-replicate}
 use native.Mathlib.Omega.{arith}
 use Rattle.words.specs.declared.LaneNo.{LaneNo}
@@ -46,10 +45,7 @@ use Rattle.answers.specs.declared.Refusal.the-variants.{NothingPending}
 use Rattle.store.specs.declared.Store.{Store}
 use Rattle.store.specs.declared.Block.{Block}
 use Rattle.store.specs.declared.Control.{Control}
-use Rattle.store.specs.declared.Counted.{Counted}
-use Rattle.store.specs.declared.Counted.the-variants.{Awaits, Closes, NotAwaited}
 use Rattle.store.specs.declared.Outcome.{Outcome}
-use Rattle.store.specs.Control.{answerOf}
 use Rattle.store.specs.Opening.{blankLane, blankBlock, freshOf}
 use Rattle.store.specs.Stores.{noLane, noBlock, laneAt, blockAt}
 use Rattle.machine.specs.declared.LaneStep.{LaneStep}
@@ -58,8 +54,8 @@ use Rattle.machine.specs.declared.Ready.the-variants.{Go, No}
 use Rattle.machine.specs.declared.Move.{Move}
 use Rattle.machine.specs.Change.{refuseLane, commitLane, nobody, only, goesTo, posted, postTo, postAll, commitMove, refusedIn}
 use Rattle.machine.specs.Begin.{complete, waits, hit, ejectOf, evict, missWith, miss, beginAt, beginLane, beginOf}
-use Rattle.machine.specs.Serve.{ordered, countOf, closedBlock, close, serveMove, serveOf}
-use Rattle.machine.specs.Return.{takenBy, isAnswer, countedMove, returnMove, returnOf}
+use Rattle.machine.specs.Serve.{closedBlock, close, serveMove, serveOf}
+use Rattle.machine.specs.Return.{takenBy, returnMove, returnOf}
 use Rattle.machine.specs.Deliver.{reply, shared, updateAt, purgeAt, fillAt, grantAt, bareAt, servedOn, grantTo, bareTo, deliverKind, deliverLane, deliverOf}
 use Rattle.machine.specs.Settle.{settleStep, lane}
 use Rattle.machine.specs.Sized.{LaneSized, Sized}
@@ -68,6 +64,7 @@ use Rattle.machine.proofs.laws.Orders.{used-length}
 use Rattle.machine.proofs.bounds.Keeps.{Whole}
 use Rattle.machine.proofs.rules.Rules.{lane-rule, move-rule, begin-rule, serve-rule, return-rule, deliver-rule}
 use Rattle.machine.proofs.rules.RulesSettle.{step-rule}
+use Rattle.machine.proofs.rules.RulesMemory.{return-move-rule, serve-move-rule}
 
 -- a message joins a queue, or the head leaves it: its places stay 2
 push-return-sized : (q : ReturnQueue) (x : ReturnMessage) → length (q .at) ≡ 2 → length (pushReturn q x .queue .at) ≡ 2
@@ -261,14 +258,14 @@ closed-sized Exclude b k e = only-sized k
 
 -- memory's part of serve: its lane, its block
 pub serve-move-lane : (k : LaneNo) (o : Operation) (l : Lane) (b : Block) (x : Control) → LaneSized l → LaneSized (serveMove k o l b x .lane)
-unfolding serveMove close
+unfolding close
 serve-move-lane k o l b x f =
-    by-cond (λ (v : Move). LaneSized (v .lane)) (eqb (countOf (ordered b k (o .command))) 0) _ _ (with-waiting-sized l f (Served o)) (with-waiting-sized l f (Served o))
+    serve-move-rule (λ (v : Move). LaneSized (v .lane)) k o l b x (λ _. with-waiting-sized l f (Served o)) (λ _. with-waiting-sized l f (Served o))
 
 serve-move-present : (k : LaneNo) (o : Operation) (l : Lane) (b : Block) (x : Control) → length (b .present) ≡ 8 → length (serveMove k o l b x .block .present) ≡ 8
-unfolding serveMove close
+unfolding close
 serve-move-present k o l b x e =
-    by-cond (λ (v : Move). length (v .block .present) ≡ 8) (eqb (countOf (ordered b k (o .command))) 0) _ _ (closed-sized (o .command) b k e) e
+    serve-move-rule (λ (v : Move). length (v .block .present) ≡ 8) k o l b x (λ _. closed-sized (o .command) b k e) (λ _. e)
 
 -- memory's part of return
 taken-by-sized : (x : ReturnKind) (ws : List ℕ) (k : LaneNo) (b : Block) → length (b .present) ≡ 8 → length (takenBy x ws k b .present) ≡ 8
@@ -279,33 +276,18 @@ taken-by-sized Purged ws k b e = length-set (b .present) (k .0) false ∙ e
 taken-by-sized PurgedWords ws k b e = length-set (b .present) (k .0) false ∙ e
 taken-by-sized Gone ws k b e = length-set (b .present) (k .0) false ∙ e
 
-answered-lane : (r : Counted) (l : Lane) (b : Block) (x : Control) (t : Lane) (u : Block) → LaneSized l → LaneSized t → LaneSized (countedMove r l b x t u .lane)
-unfolding close
-answered-lane NotAwaited l b x t u f g = f
-answered-lane (Awaits y) l b x t u f g = g
-answered-lane (Closes v y) l b x t u f g = g
-
-answered-present : (r : Counted) (l : Lane) (b : Block) (x : Control) (t : Lane) (u : Block) → length (b .present) ≡ 8 → length (u .present) ≡ 8 →
-    length (countedMove r l b x t u .block .present) ≡ 8
-unfolding close
-answered-present NotAwaited l b x t u e d = e
-answered-present (Awaits y) l b x t u e d = d
-answered-present (Closes v y) l b x t u e d = closed-sized (v .command) u (v .lane) d
-
 pub return-move-lane : (k : LaneNo) (x : ReturnMessage) (l : Lane) (b : Block) (y : Control) → LaneSized l → LaneSized (returnMove k x l b y .lane)
-unfolding returnMove
+unfolding close
 return-move-lane k x l b y f =
     let t = with-returns-sized l f (takeReturn (l .returns) .queue) (take-return-sized (l .returns) (f .returns)) in
-    by-cond (λ (v : Move). LaneSized (v .lane)) (isAnswer (x .kind)) _ _
-    (answered-lane (answerOf y (x .block)) l b y (withReturns (takeReturn (l .returns) .queue) l) (takenBy (x .kind) (x .words) k b) f t) t
+    return-move-rule (λ (v : Move). LaneSized (v .lane)) k x l b y (λ _. t) f (λ _ v _ _. t) (λ _ v _ _. t)
 
 return-move-present : (k : LaneNo) (x : ReturnMessage) (l : Lane) (b : Block) (y : Control) → length (b .present) ≡ 8 →
     length (returnMove k x l b y .block .present) ≡ 8
-unfolding returnMove
+unfolding close
 return-move-present k x l b y e =
     let u = taken-by-sized (x .kind) (x .words) k b e in
-    by-cond (λ (v : Move). length (v .block .present) ≡ 8) (isAnswer (x .kind)) _ _
-    (answered-present (answerOf y (x .block)) l b y (withReturns (takeReturn (l .returns) .queue) l) (takenBy (x .kind) (x .words) k b) e u) u
+    return-move-rule (λ (v : Move). length (v .block .present) ≡ 8) k x l b y (λ _. u) e (λ _ v _ _. closed-sized (v .command) _ (v .lane) u) (λ _ v _ _. u)
 
 -- an opening
 blank-sized : LaneSized blankLane

@@ -10,9 +10,9 @@ use Rattle.words.specs.declared.Op.{Op}
 use Rattle.words.specs.Operations.{isLoad}
 use Rattle.queues.specs.declared.ReturnMessage.{ReturnMessage}
 use Rattle.queues.specs.declared.ReturnKind.the-variants.{Eject, WriteEject}
+use Rattle.queues.specs.Messages.{bareReturn, wordsReturn}
 use Rattle.lanes.specs.declared.Operation.{Operation}
 use Rattle.lanes.specs.declared.Waiting.the-variants.{Idle, Unserved}
-use Rattle.queues.specs.Messages.{bareReturn, wordsReturn}
 use Rattle.machine.specs.Return.{isAnswer}
 use Rattle.machine.proofs.bounds.KeepsLane.{clash}
 use Rattle.machine.proofs.laws.Tests.{on}

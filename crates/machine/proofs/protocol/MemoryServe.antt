@@ -17,6 +17,7 @@ use Rattle.queues.specs.declared.ReturnKind.the-variants.{Eject, WriteEject, Up
 use Rattle.queues.specs.declared.DownMessage.{DownMessage}
 use Rattle.queues.specs.declared.DownKind.{DownKind}
 use Rattle.queues.specs.declared.DownKind.the-variants.{Update, Purge, Grant, BareGrant}
+use Rattle.queues.specs.Messages.{bareDown}
 use Rattle.lanes.specs.declared.Command.{Command}
 use Rattle.lanes.specs.declared.Command.the-variants.{ReadShared, ReadExclusive, Exclude}
 use Rattle.lanes.specs.declared.Operation.{Operation}
@@ -26,7 +27,6 @@ use Rattle.store.specs.declared.Service.{Service}
 use Rattle.store.specs.declared.Lookup.{Lookup}
 use Rattle.store.specs.declared.Lookup.the-variants.{Of, Nothing}
 use Rattle.machine.specs.Change.{goesTo}
-use Rattle.queues.specs.Messages.{bareDown}
 use Rattle.machine.specs.Serve.{orderOf, ordered, countOf, serviceFor}
 use Rattle.machine.specs.Return.{isAnswer}
 use Rattle.machine.specs.Settle.{isOrder}

@@ -11,6 +11,7 @@ use Rattle.words.specs.Operations.{isLoad}
 use Rattle.queues.specs.declared.ReturnMessage.{ReturnMessage}
 use Rattle.queues.specs.declared.ReturnKind.the-variants.{Eject, WriteEject, Updated, Purged, PurgedWords, Gone}
 use Rattle.queues.specs.declared.DownMessage.{DownMessage}
+use Rattle.queues.specs.Messages.{bareReturn, wordsReturn, bareDown}
 use Rattle.lanes.specs.declared.Operation.{Operation}
 use Rattle.lanes.specs.declared.Waiting.{Waiting}
 use Rattle.lanes.specs.declared.Waiting.the-variants.{Idle, Served}
@@ -18,7 +19,6 @@ use Rattle.store.specs.declared.Service.{Service}
 use Rattle.store.specs.declared.Lookup.{Lookup}
 use Rattle.store.specs.declared.Lookup.the-variants.{Of, Nothing}
 use Rattle.machine.specs.Change.{only, goesTo}
-use Rattle.queues.specs.Messages.{bareReturn, wordsReturn, bareDown}
 use Rattle.machine.specs.Serve.{orderOf, ordered, countOf, closedBlock, grantOf, serviceFor}
 use Rattle.machine.specs.Return.{takenBy}
 use Rattle.machine.proofs.list.Owes.{upd}

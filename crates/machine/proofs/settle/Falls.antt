@@ -15,6 +15,7 @@ use Rattle.lanes.specs.Waits.{idleOf}
 use Rattle.answers.specs.declared.Refusal.{Refusal}
 use Rattle.answers.specs.declared.Refusal.the-variants.{Unexpected}
 use Rattle.answers.specs.Refusals.{refusedOf}
+use Rattle.answers.specs.Completions.{doneIn}
 use Rattle.store.specs.declared.Store.{Store}
 use Rattle.store.specs.Control.{busyOf}
 use Rattle.store.specs.Stores.{laneAt, blockAt}
@@ -23,7 +24,6 @@ use Rattle.machine.specs.Change.{refuse}
 use Rattle.machine.specs.Serve.{serveOf}
 use Rattle.machine.specs.Return.{returnOf}
 use Rattle.machine.specs.Deliver.{deliverOf}
-use Rattle.answers.specs.Completions.{doneIn}
 use Rattle.machine.specs.Settle.{settleStep, boundOf, lane}
 use Rattle.machine.specs.Sized.{Sized}
 use Rattle.machine.proofs.laws.Counts.{step-most}

@@ -36,6 +36,7 @@ use Rattle.lanes.specs.Waits.{idleOf, unservedOf}
 use Rattle.lanes.specs.Lanes.{withWaiting, withReturns, withDowns, withLine}
 use Rattle.answers.specs.declared.Refusal.{Refusal}
 use Rattle.answers.specs.declared.Refusal.the-variants.{NothingPending, QueueFull, Unexpected}
+use Rattle.answers.specs.Completions.{doneIn}
 use Rattle.machine.specs.declared.LaneStep.{LaneStep}
 use Rattle.machine.specs.declared.Ready.{Ready}
 use Rattle.machine.specs.declared.Ready.the-variants.{Go, No}
@@ -44,7 +45,6 @@ use Rattle.machine.specs.declared.LaneAnswer.{LaneAnswer}
 use Rattle.machine.specs.Change.{refuseLane, posted, refusedIn, answerTo}
 use Rattle.machine.specs.Begin.{complete}
 use Rattle.machine.specs.Deliver.{reply, shared, updateAt, purgeAt, fillAt, grantAt, bareAt, servedOn, grantTo, bareTo, deliverKind, deliverLane}
-use Rattle.answers.specs.Completions.{doneIn}
 use Rattle.machine.specs.Settle.{isOrder, downsOf}
 use Rattle.machine.specs.Sized.{LaneSized}
 use Rattle.machine.proofs.laws.Tests.{on}

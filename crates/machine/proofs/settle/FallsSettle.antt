@@ -12,11 +12,11 @@ use Rattle.answers.specs.declared.Answer.the-variants.{Opened, Done, Wait, Step
 use Rattle.answers.specs.declared.Refusal.{Refusal}
 use Rattle.answers.specs.declared.Refusal.the-variants.{Corrupt, Unexpected}
 use Rattle.answers.specs.Refusals.{refusedOf}
+use Rattle.answers.specs.Completions.{doneIn}
 use Rattle.store.specs.declared.Store.{Store}
 use Rattle.store.specs.Quiet.{quietOf}
 use Rattle.machine.specs.declared.Settled.the-variants.{Steps}
 use Rattle.machine.specs.Corruption.{corruptOf}
-use Rattle.answers.specs.Completions.{doneIn}
 use Rattle.machine.specs.Settle.{Progress, settleStep, boundOf, advance, ended, repeatStep, Settlement, refuseSettle, reached, unlessRefused, settleOf}
 use Rattle.machine.specs.Sized.{Sized}
 use Rattle.machine.proofs.laws.Tests.{on}

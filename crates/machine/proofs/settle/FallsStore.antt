@@ -16,6 +16,7 @@ use Rattle.queues.specs.Queues.{fullAt}
 use Rattle.lanes.specs.declared.Lane.{Lane}
 use Rattle.lanes.specs.Waits.{unservedOf}
 use Rattle.answers.specs.Refusals.{refusedOf}
+use Rattle.answers.specs.Completions.{doneIn}
 use Rattle.store.specs.declared.Store.{Store}
 use Rattle.store.specs.declared.Control.{Control}
 use Rattle.store.specs.declared.Outcome.{Outcome}
@@ -24,7 +25,6 @@ use Rattle.store.specs.Stores.{noLane, laneAt, withLane}
 use Rattle.machine.specs.declared.LaneStep.{LaneStep}
 use Rattle.machine.specs.declared.Move.{Move}
 use Rattle.machine.specs.Change.{commitLane, goesTo, someFull, posted, postAll, commitMove, refusedIn, answerTo, movedStore}
-use Rattle.answers.specs.Completions.{doneIn}
 use Rattle.machine.specs.Settle.{downsOf, boundOf}
 use Rattle.machine.specs.Sized.{LaneSized, Sized}
 use Rattle.machine.proofs.laws.Tests.{and-right}

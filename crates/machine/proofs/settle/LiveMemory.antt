@@ -31,7 +31,7 @@ use Rattle.store.specs.Control.{lowered, answerOf, busyOf}
 use Rattle.store.specs.Stores.{noLane, laneAt, blockAt}
 use Rattle.machine.specs.declared.Move.{Move}
 use Rattle.machine.specs.Change.{goesTo, someFull, commitMove}
-use Rattle.machine.specs.Serve.{ordered, countOf, close, serveMove, serveOf}
+use Rattle.machine.specs.Serve.{close, serveMove, serveOf}
 use Rattle.machine.specs.Return.{takenBy, isAnswer, countedMove, returnMove, returnOf}
 use Rattle.machine.proofs.laws.Tests.{and-never}
 use Rattle.machine.proofs.laws.Sets.{set-cases}
@@ -44,6 +44,7 @@ use Rattle.machine.proofs.store.ConsistentLane.{lane-below}
 use Rattle.machine.proofs.store.ConsistentReturn.{has-head}
 use Rattle.machine.proofs.settle.LiveAwaited.{Awaited, owed-awaited}
 use Rattle.machine.proofs.rules.Rules.{return-is, serve-is}
+use Rattle.machine.proofs.rules.RulesMemory.{serve-move-rule}
 
 -- memory's part of a call that is not refused, of a lane with an empty down queue
 record Goes (v : Move) : Type 0 where
@@ -110,9 +111,8 @@ module _ (s : Store) (empty : (j : ℕ) → laneAt s j .downs .len ≡ 0) where
           commit-goes k a (returnMove k x l b (s .control)) return-move-goes
 
     serve-move-goes : (o : Operation) (b : Block) (y : Control) → Goes (serveMove k o l b y)
-    unfolding serveMove close
-    serve-move-goes o b y =
-        by-cond Goes (eqb (countOf (ordered b k (o .command))) 0) _ _ (record { answer = refl; downs = empty (k .0) }) (record { answer = refl; downs = empty (k .0) })
+    unfolding close
+    serve-move-goes o b y = serve-move-rule Goes k o l b y (λ _. record { answer = refl; downs = empty (k .0) }) (λ _. record { answer = refl; downs = empty (k .0) })
 
     pub serve-goes : (o : Operation) → l .waiting ≡ Unserved o → busyOf (s .control) ≡ false → l .returns .len ≡ 0 → refusedOf (serveOf s k .answer) ≡ false
     serve-goes o w c r =

@@ -1,15 +1,13 @@
 -- Return keeps a store live. Assumes nothing.
 use Prim.Native.Nat.{ℕ, _<_, _≤_}
 use mathlib.Core.Logic.{_≢_}
-use mathlib.Core.Path.{_≡_, refl, sym, ap, _∙_}
-use mathlib.Core.Bool.{Bool, true, false, cond}
+use mathlib.Core.Path.{_≡_, refl, ap}
+use mathlib.Core.Bool.{false}
 use mathlib.Core.List.{List}
-use lib.Dec.{eqb}
-use borrow.Author.Tests.{eq-eqb, ne-eqb, eqb-true, eqb-false}
 use native.Mathlib.Omega.{arith}
 use Rattle.words.specs.declared.LaneNo.{LaneNo}
 use Rattle.words.specs.declared.BlockNo.{BlockNo}
-use Rattle.words.proofs.Folds.{by-cond, pick}
+use Rattle.words.proofs.Folds.{by-cond}
 use Rattle.queues.specs.declared.ReturnMessage.{ReturnMessage}
 use Rattle.queues.specs.declared.DownMessage.{DownMessage}
 use Rattle.queues.specs.Queues.{headReturn, takeReturn}
@@ -20,37 +18,33 @@ use Rattle.store.specs.declared.Block.{Block}
 use Rattle.store.specs.declared.Service.{Service}
 use Rattle.store.specs.declared.Control.{Control}
 use Rattle.store.specs.declared.Control.the-variants.{Free, Busy}
-use Rattle.store.specs.declared.Counted.the-variants.{Awaits, Closes, NotAwaited}
-use Rattle.store.specs.declared.Lookup.{Lookup}
-use Rattle.store.specs.declared.Lookup.the-variants.{Of, Nothing}
 use Rattle.store.specs.declared.Outcome.{Outcome}
-use Rattle.store.specs.Control.{serviceOf, lowered, countedOf}
+use Rattle.store.specs.Control.{lowered}
 use Rattle.store.specs.Stores.{laneAt, blockAt}
 use Rattle.machine.specs.declared.Move.{Move}
 use Rattle.machine.specs.Change.{nobody, only, noMessage, commitMove}
 use Rattle.machine.specs.Serve.{grantOf, close}
-use Rattle.machine.specs.Return.{takenBy, isAnswer, sendNothing, countedMove, returnMove, returnOf}
+use Rattle.machine.specs.Return.{takenBy, sendNothing, returnMove, returnOf}
 use Rattle.machine.specs.Settle.{isOrder}
-use Rattle.machine.specs.Flat.{flatBlock}
 use Rattle.machine.proofs.bounds.KeepsLane.{clash}
 use Rattle.machine.proofs.bounds.Sound.{sound}
 use Rattle.machine.proofs.list.Owes.{upd}
 use Rattle.machine.proofs.laws.Updates.{upd-cases}
-use Rattle.machine.proofs.protocol.BlockState.{Status, Seen, keepIf, returnAbout, seen, project}
+use Rattle.machine.proofs.protocol.BlockState.{Seen, keepIf, returnAbout, seen, project}
 use Rattle.machine.proofs.projection.Queued.{queuedReturns}
-use Rattle.machine.proofs.protocol.Invariant.{Inv, owed}
-use Rattle.machine.proofs.protocol.Moves.{returnState}
+use Rattle.machine.proofs.protocol.Invariant.{owed}
 use Rattle.machine.proofs.protocol.Directories.{nobody-none}
-use Rattle.machine.proofs.protocol.MemoryReturn.{eject-returns, answer-returns}
 use Rattle.machine.proofs.store.Consistent.{Consistent}
 use Rattle.machine.proofs.store.ConsistentLane.{lane-below}
 use Rattle.machine.proofs.store.ConsistentServe.{send-none}
-use Rattle.machine.proofs.store.ConsistentReturn.{looked-up, taken, has-head, before, quiet-shows, close-shows}
+use Rattle.machine.proofs.store.ConsistentReturn.{taken, has-head, eject-shows, last-shows, more-shows}
 use Rattle.machine.proofs.settle.Live.{ejectCount, LaneLive, Live}
 use Rattle.machine.proofs.settle.LiveLane.{stays-live}
 use Rattle.machine.proofs.settle.LiveOwed.{take-owed}
 use Rattle.machine.proofs.settle.LiveMove.{send-grant, ShowsLive, commit-live}
 use Rattle.machine.proofs.rules.Rules.{return-rule}
+use Rattle.machine.proofs.rules.RulesMemory.{return-move-rule}
+use Rattle.machine.proofs.store.ConsistentMove.{Shows}
 
 -- a grant is no order
 grant-order : (b : Block) (v : Service) → isOrder (grantOf b v .kind) ≡ false
@@ -122,46 +116,16 @@ module _ (s : Store) (f : List ℕ) (i : Consistent s f) (live : Live s) (k : La
     awaits = λ w e. clash (cc);
   }
 
-  -- a message that is no answer
-  eject-live : isAnswer (x .kind) ≡ false → Live (commitMove s k a (sendNothing t u (s .control)) .store)
-  eject-live e =
-      let p = before s f i k h filled in
-      commit-live s f i live k (lane-below s f i (k .0) h) a _
-      (quiet-shows s f i k h filled (s .control) (λ c n. refl)
-      (eject-returns (p .0) (project s (a .0)) (flatBlock f (a .0)) k x rest (p .1) (lane-below s f i (k .0) h) (has-head s f i k h filled) e))
-      (quiet-live (s .control) (live .awaits))
-
-  -- an answer, by what the control says to it
-  answer-live : isAnswer (x .kind) ≡ true → (v : Service) → serviceOf (s .control) a ≡ Of v → Live (commitMove s k a (countedMove (countedOf (Of v)) l b (s .control) t u) .store)
-  unfolding commitMove
-  answer-live e v q = go (eqb (v .awaited) 0) refl (eqb (v .awaited) 1) refl
-    where
-      c : (s .control ≡ Busy v) × (v .block .0 ≡ a .0)
-      c = looked-up (s .control) a v q
-
-      after : v .awaited ≢ 0 → (w : (ℕ → Status)) × Inv w (returnState k x rest (Of (lowered v)) (project s (a .0))) (flatBlock f (a .0))
-      after n =
-          let p = before s f i k h filled in
-          answer-returns (p .0) (project s (a .0)) (flatBlock f (a .0)) k x rest v (p .1) (lane-below s f i (k .0) h) (has-head s f i k h filled) e q n
-
-      go : (p : Bool) → eqb (v .awaited) 0 ≡ p → (d : Bool) → eqb (v .awaited) 1 ≡ d →
-          Live (commitMove s k a (countedMove (cond p NotAwaited (cond d (Closes v Free) (Awaits (Busy (lowered v))))) l b (s .control) t u) .store)
-      go true z d y = live
-      go false z true y =
-          commit-live s f i live k (lane-below s f i (k .0) h) a _ (close-shows s f i k h filled v (c .0) (c .1) (after (eqb-false _ _ z)) (eqb-true _ _ y)) (close-live v)
-      go false z false y =
-          commit-live s f i live k (lane-below s f i (k .0) h) a _
-          (quiet-shows s f i k h filled (Busy (lowered v)) (λ j n. rw (c .0, ne-eqb (v .block .0) j (λ r. n (sym r ∙ c .1)))) (rw (eq-eqb _ _ (c .1)) (after (eqb-false _ _ z))))
-          (quiet-live (Busy (lowered v)) (λ w r. lowered-awaits v w (eqb-false _ _ z) (eqb-false _ _ y) r))
-
-  -- memory's part, by the kind of the head
   pub head-live : Live (commitMove s k a (returnMove k x l b (s .control)) .store)
-  unfolding returnMove commitMove
-  head-live = pick (λ (v : Move). Live (commitMove s k a v .store)) (isAnswer (x .kind)) _ _ (λ e. go e (serviceOf (s .control) a) refl) eject-live
+  unfolding commitMove
+  head-live =
+      return-move-rule (λ (v : Move). Live (commitMove s k a v .store)) k x l b (s .control)
+      (λ e. committed _ (eject-shows s f i k h filled e) (quiet-live (s .control) (live .awaits))) live
+      (λ e v w one. committed _ (last-shows s f i k h filled e v w one) (close-live v))
+      (λ e v w more. committed _ (more-shows s f i k h filled e v w) (quiet-live (Busy (lowered v)) (λ z r. lowered-awaits v z (w .some) more r)))
     where
-      go : isAnswer (x .kind) ≡ true → (w : Lookup) → serviceOf (s .control) a ≡ w → Live (commitMove s k a (countedMove (countedOf w) l b (s .control) t u) .store)
-      go e Nothing q = live
-      go e (Of v) q = answer-live e v q
+      committed : (v : Move) → Shows s f k a v → ShowsLive s k a v → Live (commitMove s k a v .store)
+      committed v y g = commit-live s f i live k (lane-below s f i (k .0) h) a v y g
 
 pub return-live : (s : Store) (f : List ℕ) (k : LaneNo) → Consistent s f → Live s → Live (returnOf s k .store)
 return-live s f k i live = return-rule (λ (r : Outcome). Live (r .store)) s k (λ _. live) (λ r. head-live s f i live k (r .lane) (r .filled))

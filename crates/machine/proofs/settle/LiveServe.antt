@@ -4,14 +4,12 @@ use mathlib.Core.Logic.{_≢_}
 use mathlib.Core.Path.{_≡_, refl, sym, ap, _∙_}
 use mathlib.Core.Bool.{Bool}
 use mathlib.Core.List.{List}
-use lib.Dec.{eqb}
-use borrow.Author.Tests.{eqb-true, eqb-false}
 use native.Mathlib.Omega.{arith}
 use Rattle.words.specs.declared.LaneNo.{LaneNo}
 use Rattle.words.specs.declared.BlockNo.{BlockNo}
 use Rattle.words.specs.Units.{blockOf}
-use Rattle.words.proofs.Folds.{pick}
 use Rattle.queues.specs.declared.DownMessage.{DownMessage}
+use Rattle.queues.specs.Messages.{bareDown}
 use Rattle.lanes.specs.declared.Lane.{Lane}
 use Rattle.lanes.specs.declared.Operation.{Operation}
 use Rattle.lanes.specs.declared.Waiting.the-variants.{Unserved, Served}
@@ -27,7 +25,6 @@ use Rattle.store.specs.Control.{serviceOf}
 use Rattle.store.specs.Stores.{laneAt, blockAt}
 use Rattle.machine.specs.declared.Move.{Move}
 use Rattle.machine.specs.Change.{only, commitMove}
-use Rattle.queues.specs.Messages.{bareDown}
 use Rattle.machine.specs.Serve.{orderOf, ordered, countOf, grantOf, close, serviceFor, serveMove, serveOf}
 use Rattle.machine.proofs.bounds.Sound.{sound}
 use Rattle.machine.proofs.list.Owes.{upd}
@@ -42,6 +39,7 @@ use Rattle.machine.proofs.store.ConsistentServe.{not-busy, open-shows, 
 use Rattle.machine.proofs.settle.Live.{hasRoom, LaneLive, Live}
 use Rattle.machine.proofs.settle.LiveMove.{send-most, ShowsLive, commit-live}
 use Rattle.machine.proofs.rules.Rules.{serve-rule}
+use Rattle.machine.proofs.rules.RulesMemory.{serve-move-rule}
 
 module _ (s : Store) (f : List ℕ) (i : Consistent s f) (live : Live s) (k : LaneNo) (h : k .0 < s .shape .n) (o : Operation) (e : laneAt s (k .0) .waiting ≡ Unserved o)
     (free : s .control ≡ Free) (clear : laneAt s (k .0) .returns .len ≡ 0) where
@@ -94,11 +92,10 @@ module _ (s : Store) (f : List ℕ) (i : Consistent s f) (live : Live s) (k : La
 
   -- memory's part
   pub ready-live : Live (commitMove s k x (serveMove k o (laneAt s (k .0)) (blockAt s (x .0)) (s .control)) .store)
-  unfolding serveMove
   ready-live =
-      pick (λ (y : Move). Live (commitMove s k x y .store)) (eqb (countOf to) 0) _ _
-      (λ q. commit-live s f i live k (lane-below s f i (k .0) h) x _ (close-shows s f i k h o e free clear (eqb-true _ _ q)) closes)
-      (λ q. commit-live s f i live k (lane-below s f i (k .0) h) x _ (open-shows s f i k h o e free clear) (opens (eqb-false _ _ q)))
+      serve-move-rule (λ (y : Move). Live (commitMove s k x y .store)) k o (laneAt s (k .0)) (blockAt s (x .0)) (s .control)
+      (λ q. commit-live s f i live k (lane-below s f i (k .0) h) x _ (close-shows s f i k h o e free clear q) closes)
+      (λ q. commit-live s f i live k (lane-below s f i (k .0) h) x _ (open-shows s f i k h o e free clear) (opens q))
 
 pub serve-live : (s : Store) (f : List ℕ) (k : LaneNo) → Consistent s f → Live s → Live (serveOf s k .store)
 serve-live s f k i live =

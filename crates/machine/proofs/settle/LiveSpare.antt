@@ -4,7 +4,6 @@ use Prim.Native.Nat.{ℕ, zero, suc, _<_, _≤_}
 use mathlib.Core.Path.{_≡_, refl, sym, ap, _∙_}
 use mathlib.Core.Bool.{Bool, true, false}
 use mathlib.Core.List.{List, [], _∷_}
-use lib.Dec.{eqb}
 use lib.ListN.{getD, set}
 use lib.Seq.{getD-set-other}
 use native.Mathlib.Omega.{arith}
@@ -18,28 +17,21 @@ use Rattle.words.specs.Folds.{upTo}
 use Rattle.words.proofs.Folds.{by-cond}
 use Rattle.queues.specs.declared.ReturnMessage.{ReturnMessage}
 use Rattle.queues.specs.declared.DownMessage.{DownMessage}
-use Rattle.queues.specs.Queues.{headReturn, takeReturn}
+use Rattle.queues.specs.Queues.{headReturn}
 use Rattle.lanes.specs.declared.Lane.{Lane}
 use Rattle.lanes.specs.declared.Operation.{Operation}
-use Rattle.lanes.specs.Lanes.{withReturns}
 use Rattle.store.specs.declared.Store.{Store}
 use Rattle.store.specs.declared.Block.{Block}
 use Rattle.store.specs.declared.Control.{Control}
-use Rattle.store.specs.declared.Control.the-variants.{Free, Busy}
-use Rattle.store.specs.declared.Counted.{Counted}
-use Rattle.store.specs.declared.Counted.the-variants.{Awaits, Closes, NotAwaited}
-use Rattle.store.specs.declared.Lookup.{Lookup}
-use Rattle.store.specs.declared.Lookup.the-variants.{Of, Nothing}
 use Rattle.store.specs.declared.Outcome.{Outcome}
-use Rattle.store.specs.Control.{lowered, countedOf, answerOf}
 use Rattle.store.specs.Opening.{badShape, blankLane, freshOf, openOf}
 use Rattle.store.specs.Stores.{noLane, laneAt, blockAt}
 use Rattle.machine.specs.declared.LaneStep.{LaneStep}
 use Rattle.machine.specs.declared.Move.{Move}
 use Rattle.machine.specs.Change.{commitLane, nobody, only, goesTo, postTo, postAll, commitMove, movedStore}
 use Rattle.machine.specs.Begin.{beginOf}
-use Rattle.machine.specs.Serve.{ordered, countOf, close, serveMove, serveOf}
-use Rattle.machine.specs.Return.{takenBy, isAnswer, countedMove, returnMove, returnOf}
+use Rattle.machine.specs.Serve.{close, serveMove, serveOf}
+use Rattle.machine.specs.Return.{returnMove, returnOf}
 use Rattle.machine.specs.Deliver.{deliverOf}
 use Rattle.machine.specs.Settle.{settleStep, boundOf, Progress, advance, repeatStep, Settlement, settleOf, lane}
 use Rattle.machine.specs.Calls.{Call, Begin, Serve, Return, Deliver, Settle, callOf, run}
@@ -53,6 +45,7 @@ use Rattle.machine.proofs.store.ConsistentOpen.{each-lane}
 use Rattle.machine.proofs.settle.FallsSettle.{startAt, settle-rule}
 use Rattle.machine.proofs.rules.Rules.{lane-rule, move-rule, begin-rule, serve-rule, return-rule, deliver-rule}
 use Rattle.machine.proofs.rules.RulesSettle.{step-rule, repeat-rule}
+use Rattle.machine.proofs.rules.RulesMemory.{return-move-rule, serve-move-rule}
 
 -- a lane that has no messages
 pub record Empty (l : Lane) : Type 0 where
@@ -109,9 +102,9 @@ only-spare n k h j g = getD-set-other nobody (k .0) j true false (λ q. omega ar
 -- serve
 serve-to : (n : ℕ) (k : LaneNo) (o : Operation) (l : Lane) (b : Block) (x : Control) → k .0 < n → BlockSound n b → (j : ℕ) → n ≤ j → j < 8 →
     goesTo (serveMove k o l b x .to) j ≡ false
-unfolding serveMove close
+unfolding close
 serve-to n k o l b x h g j p q =
-    by-cond (λ (v : Move). goesTo (v .to) j ≡ false) (eqb (countOf (ordered b k (o .command))) 0) _ _ (only-spare n k h j p) (ordered-absent n b k (o .command) g j p q)
+    serve-move-rule (λ (v : Move). goesTo (v .to) j ≡ false) k o l b x (λ _. only-spare n k h j p) (λ _. ordered-absent n b k (o .command) g j p q)
 
 serve-spare : (s : Store) (k : LaneNo) → Spare s → Spare (serveOf s k .store)
 serve-spare s k e =
@@ -122,22 +115,11 @@ serve-spare s k e =
     (serve-to (s .shape .n) k o (laneAt s (k .0)) (blockAt s (blockOf (o .word) .0)) (s .control) (r .lane) (a .block (blockOf (o .word) .0) (a .lane (k .0) (r .lane) .unserved o (r .unserved)))) e)
 
 -- return
-answered-to : (n m : ℕ) (x : Control) (a : BlockNo) (l : Lane) (b : Block) (t : Lane) (u : Block) → ControlSound n m x → (j : ℕ) → n ≤ j →
-    goesTo (countedMove (answerOf x a) l b x t u .to) j ≡ false
-unfolding close
-answered-to n m Free a l b t u g j p = nobody-none j
-answered-to n m (Busy v) a l b t u g j p =
-    by-cond (λ (r : Lookup). goesTo (countedMove (countedOf r) l b (Busy v) t u .to) j ≡ false) (eqb (v .block .0) (a .0)) (Of v) Nothing
-    (by-cond (λ (r : Counted). goesTo (countedMove r l b (Busy v) t u .to) j ≡ false) (eqb (v .awaited) 0) NotAwaited _ (nobody-none j)
-    (by-cond (λ (r : Counted). goesTo (countedMove r l b (Busy v) t u .to) j ≡ false) (eqb (v .awaited) 1) (Closes v Free) (Awaits (Busy (lowered v)))
-    (only-spare n (v .lane) (g .service v refl .lane) j p) (nobody-none j)))
-    (nobody-none j)
-
 return-to : (n m : ℕ) (k : LaneNo) (x : ReturnMessage) (l : Lane) (b : Block) (y : Control) → ControlSound n m y → (j : ℕ) → n ≤ j → goesTo (returnMove k x l b y .to) j ≡ false
-unfolding returnMove
+unfolding close
 return-to n m k x l b y g j p =
-    by-cond (λ (v : Move). goesTo (v .to) j ≡ false) (isAnswer (x .kind)) _ _
-    (answered-to n m y (x .block) l b (withReturns (takeReturn (l .returns) .queue) l) (takenBy (x .kind) (x .words) k b) g j p) (nobody-none j)
+    return-move-rule (λ (v : Move). goesTo (v .to) j ≡ false) k x l b y (λ _. nobody-none j) (nobody-none j) (λ _ v w _. only-spare n (v .lane) (g .service v (w .busy) .lane) j p)
+    (λ _ v _ _. nobody-none j)
 
 return-spare : (s : Store) (k : LaneNo) → Spare s → Spare (returnOf s k .store)
 return-spare s k e =

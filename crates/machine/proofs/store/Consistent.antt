@@ -8,12 +8,12 @@ use lib.Dec.{ltb}
 use Rattle.lanes.specs.declared.Waiting.{Waiting}
 use Rattle.lanes.specs.declared.Waiting.the-variants.{Idle, Unserved, Served}
 use Rattle.answers.specs.declared.Refusal.{Refusal}
+use Rattle.answers.specs.Completions.{doneIn}
 use Rattle.store.specs.declared.Store.{Store}
 use Rattle.store.specs.declared.Outcome.{Outcome}
 use Rattle.store.specs.Stores.{laneAt}
 use Rattle.machine.specs.Corruption.{corruptOf}
 use Rattle.machine.specs.Change.{refuse}
-use Rattle.answers.specs.Completions.{doneIn}
 use Rattle.machine.specs.Flat.{flatBlock}
 use Rattle.machine.specs.Sized.{Sized}
 use Rattle.machine.proofs.list.Owes.{Pending, Rests, Completes}

@@ -10,12 +10,12 @@ use native.Mathlib.Omega.{arith}
 use Rattle.words.specs.declared.BlockNo.{BlockNo}
 use Rattle.words.specs.declared.Shape.{Shape}
 use Rattle.words.specs.Lines.{noLine}
+use Rattle.words.specs.Units.{zeros}
 use Rattle.words.proofs.Folds.{below?}
 use Rattle.lanes.specs.declared.Lane.{Lane}
 use Rattle.lanes.specs.declared.Waiting.the-variants.{Idle}
 use Rattle.answers.specs.declared.Answer.the-variants.{Opened}
 use Rattle.store.specs.declared.Block.{Block}
-use Rattle.words.specs.Units.{zeros}
 use Rattle.store.specs.Opening.{badShape, blankLine, blankLane, blankBlock, freshOf, openOf}
 use Rattle.store.specs.Stores.{noLane, noBlock, laneAt, blockAt}
 use Rattle.machine.specs.Flat.{flatOf, flatBlock}

@@ -6,11 +6,10 @@ use mathlib.Core.Bool.{Bool, true, false, cond}
 use mathlib.Core.List.{List, _∷_}
 use lib.Dec.{eqb}
 use lib.ListN.{length-set}
-use borrow.Author.Tests.{eq-eqb, ne-eqb, eqb-true, eqb-false}
+use borrow.Author.Tests.{eq-eqb, ne-eqb, eqb-true}
 use native.Mathlib.Omega.{arith}
 use Rattle.words.specs.declared.LaneNo.{LaneNo}
 use Rattle.words.specs.declared.BlockNo.{BlockNo}
-use Rattle.words.proofs.Folds.{pick}
 use Rattle.queues.specs.declared.ReturnMessage.{ReturnMessage}
 use Rattle.queues.specs.Queues.{headReturn, takeReturn}
 use Rattle.lanes.specs.declared.Lane.{Lane}
@@ -21,15 +20,13 @@ use Rattle.store.specs.declared.Block.{Block}
 use Rattle.store.specs.declared.Service.{Service}
 use Rattle.store.specs.declared.Control.{Control}
 use Rattle.store.specs.declared.Control.the-variants.{Free, Busy}
-use Rattle.store.specs.declared.Counted.the-variants.{Awaits, Closes, NotAwaited}
-use Rattle.store.specs.declared.Lookup.{Lookup}
 use Rattle.store.specs.declared.Lookup.the-variants.{Of, Nothing}
-use Rattle.store.specs.Control.{serviceOf, lowered, countedOf}
+use Rattle.store.specs.Control.{serviceOf, lowered}
 use Rattle.store.specs.Stores.{laneAt, blockAt}
 use Rattle.machine.specs.declared.Move.{Move}
 use Rattle.machine.specs.Change.{nobody, noMessage, commitMove}
 use Rattle.machine.specs.Serve.{close}
-use Rattle.machine.specs.Return.{takenBy, isAnswer, sendNothing, countedMove, returnMove, returnOf}
+use Rattle.machine.specs.Return.{takenBy, isAnswer, sendNothing, returnMove, returnOf}
 use Rattle.machine.specs.Flat.{flatBlock}
 use Rattle.machine.specs.Sized.{LaneSized}
 use Rattle.machine.proofs.bounds.Sound.{sound}
@@ -47,6 +44,7 @@ use Rattle.machine.proofs.store.Consistent.{Consistent, StaysConsistent
 use Rattle.machine.proofs.store.ConsistentMove.{Shows, commit-consistent}
 use Rattle.machine.proofs.store.ConsistentServe.{send-none, grant-block, only-length}
 use Rattle.machine.proofs.rules.Rules.{return-rule}
+use Rattle.machine.proofs.rules.RulesMemory.{Awaited, return-move-rule}
 
 -- a service looked up is the control's
 pub looked-up : (y : Control) (a : BlockNo) (v : Service) → serviceOf y a ≡ Of v → (y ≡ Busy v) × (v .block .0 ≡ a .0)
@@ -159,41 +157,30 @@ module _ (s : Store) (f : List ℕ) (i : Consistent s f) (k : LaneNo) (h : k .0 
       }
 
   -- a message that is no answer
-  pub eject-consistent : isAnswer (x .kind) ≡ false → StaysConsistent s f (commitMove s k a (sendNothing t u (s .control)))
-  eject-consistent e =
-      commit-consistent s f i k lane-below a (sendNothing t u (s .control))
-      (quiet-shows (s .control) (λ c n. refl) (eject-returns (before .0) (project s (a .0)) (flatBlock f (a .0)) k x rest (before .1) lane-below has-head e))
+  pub eject-shows : isAnswer (x .kind) ≡ false → Shows s f k a (sendNothing t u (s .control))
+  eject-shows e =
+      quiet-shows (s .control) (λ c n. refl) (eject-returns (before .0) (project s (a .0)) (flatBlock f (a .0)) k x rest (before .1) lane-below has-head e)
 
-  -- an answer, by what the control says to it
-  pub answer-consistent : isAnswer (x .kind) ≡ true → (v : Service) → serviceOf (s .control) a ≡ Of v →
-      StaysConsistent s f (commitMove s k a (countedMove (countedOf (Of v)) l b (s .control) t u))
-  unfolding commitMove
-  answer-consistent e v q = go (eqb (v .awaited) 0) refl (eqb (v .awaited) 1) refl
-    where
-      c : (s .control ≡ Busy v) × (v .block .0 ≡ a .0)
-      c = looked-up (s .control) a v q
+  -- an answer to the service v: the invariant once it is counted
+  module _ (e : isAnswer (x .kind) ≡ true) (v : Service) (w : Awaited (s .control) a v) where
+    counted : (z : (ℕ → Status)) × Inv z (returnState k x rest (Of (lowered v)) (project s (a .0))) (flatBlock f (a .0))
+    counted = answer-returns (before .0) (project s (a .0)) (flatBlock f (a .0)) k x rest v (before .1) lane-below has-head e (w .found) (w .some)
 
-      after : v .awaited ≢ 0 → (w : (ℕ → Status)) × Inv w (returnState k x rest (Of (lowered v)) (project s (a .0))) (flatBlock f (a .0))
-      after n = answer-returns (before .0) (project s (a .0)) (flatBlock f (a .0)) k x rest v (before .1) lane-below has-head e q n
+    pub last-shows : v .awaited ≡ 1 → Shows s f k a (close v t u Free)
+    last-shows one = close-shows v (w .busy) (w .block) counted one
 
-      go : (p : Bool) → eqb (v .awaited) 0 ≡ p → (d : Bool) → eqb (v .awaited) 1 ≡ d →
-          StaysConsistent s f (commitMove s k a (countedMove (cond p NotAwaited (cond d (Closes v Free) (Awaits (Busy (lowered v))))) l b (s .control) t u))
-      go true z d y = refused-consistent s f Unexpected i
-      go false z true y =
-          let n = eqb-true _ _ y in
-          commit-consistent s f i k lane-below a (close v t u Free) (close-shows v (c .0) (c .1) (after (eqb-false _ _ z)) n)
-      go false z false y =
-          commit-consistent s f i k lane-below a (sendNothing t u (Busy (lowered v)))
-          (quiet-shows (Busy (lowered v)) (λ j n. rw (c .0, ne-eqb (v .block .0) j (λ r. n (sym r ∙ c .1)))) (rw (eq-eqb _ _ (c .1)) (after (eqb-false _ _ z))))
+    pub more-shows : Shows s f k a (sendNothing t u (Busy (lowered v)))
+    more-shows =
+        quiet-shows (Busy (lowered v)) (λ j n. rw (w .busy, ne-eqb (v .block .0) j (λ r. n (sym r ∙ w .block)))) (rw (eq-eqb _ _ (w .block)) counted)
 
   pub head-consistent : StaysConsistent s f (commitMove s k a (returnMove k x l b (s .control)))
-  unfolding returnMove commitMove
+  unfolding commitMove
   head-consistent =
-      pick (λ (v : Move). StaysConsistent s f (commitMove s k a v)) (isAnswer (x .kind)) _ _ (λ e. go e (serviceOf (s .control) a) refl) eject-consistent
+      return-move-rule (λ (v : Move). StaysConsistent s f (commitMove s k a v)) k x l b (s .control) (λ e. committed _ (eject-shows e)) (refused-consistent s f Unexpected i)
+      (λ e v w one. committed _ (last-shows e v w one)) (λ e v w _. committed _ (more-shows e v w))
     where
-      go : isAnswer (x .kind) ≡ true → (w : Lookup) → serviceOf (s .control) a ≡ w → StaysConsistent s f (commitMove s k a (countedMove (countedOf w) l b (s .control) t u))
-      go e Nothing q = refused-consistent s f Unexpected i
-      go e (Of v) q = answer-consistent e v q
+      committed : (v : Move) → Shows s f k a v → StaysConsistent s f (commitMove s k a v)
+      committed v h = commit-consistent s f i k lane-below a v h
 
 pub return-consistent : (s : Store) (f : List ℕ) (k : LaneNo) → Consistent s f → StaysConsistent s f (returnOf s k)
 return-consistent s f k i =

@@ -4,16 +4,16 @@ use mathlib.Core.Logic.{_⊎_, inl, inr, _≢_}
 use mathlib.Core.Path.{_≡_, refl, sym, ap, _∙_, fun-ext}
 use mathlib.Core.Bool.{Bool, true, false, cond}
 use mathlib.Core.List.{List, []}
-use lib.Dec.{eqb}
 use lib.ListN.{length, length-set, List·getD-eq-default}
-use borrow.Author.Tests.{eq-eqb, ne-eqb, eqb-true}
+use borrow.Author.Tests.{eq-eqb, ne-eqb}
 use native.Mathlib.Omega.{arith}
 use Rattle.words.specs.declared.LaneNo.{LaneNo}
 use Rattle.words.specs.declared.BlockNo.{BlockNo}
 use Rattle.words.specs.Folds.{countTo}
 use Rattle.words.specs.Units.{blockOf}
-use Rattle.words.proofs.Folds.{below?, by-cond, pick}
+use Rattle.words.proofs.Folds.{below?, by-cond}
 use Rattle.queues.specs.declared.DownMessage.{DownMessage}
+use Rattle.queues.specs.Messages.{bareDown}
 use Rattle.lanes.specs.declared.Lane.{Lane}
 use Rattle.lanes.specs.declared.Command.{Command}
 use Rattle.lanes.specs.declared.Operation.{Operation}
@@ -29,7 +29,6 @@ use Rattle.store.specs.declared.Lookup.the-variants.{Nothing}
 use Rattle.store.specs.Control.{busyOf, serviceOf}
 use Rattle.store.specs.Stores.{laneAt, blockAt}
 use Rattle.machine.specs.Change.{nobody, only, goesTo, commitMove}
-use Rattle.queues.specs.Messages.{bareDown}
 use Rattle.machine.specs.Serve.{orderOf, sendsOf, ordered, countOf, closedBlock, grantOf, close, serviceFor, serveMove, serveOf}
 use Rattle.machine.specs.Flat.{flatBlock}
 use Rattle.machine.specs.Sized.{LaneSized}
@@ -46,6 +45,7 @@ use Rattle.machine.proofs.projection.Project.{project-here}
 use Rattle.machine.proofs.store.Consistent.{Consistent, StaysConsistent, refused-consistent}
 use Rattle.machine.proofs.store.ConsistentMove.{Shows, commit-consistent}
 use Rattle.machine.proofs.rules.Rules.{serve-rule}
+use Rattle.machine.proofs.rules.RulesMemory.{serve-move-rule}
 
 -- none below n passes a test that counts none
 count-none : (p : ℕ → Bool) (n : ℕ) → countTo p n ≡ 0 → (j : ℕ) → j < n → p j ≡ false
@@ -184,10 +184,9 @@ module _ (s : Store) (f : List ℕ) (i : Consistent s f) (k : LaneNo) (h : k .0 
       }
 
   pub ready-consistent : StaysConsistent s f (commitMove s k x (serveMove k o (laneAt s (k .0)) b (s .control)))
-  unfolding serveMove
   ready-consistent =
       commit-consistent s f i k lane-below x (serveMove k o (laneAt s (k .0)) b (s .control))
-      (pick (Shows s f k x) (eqb (countOf to) 0) _ _ (λ q. close-shows (eqb-true _ _ q)) (λ q. open-shows))
+      (serve-move-rule (Shows s f k x) k o (laneAt s (k .0)) b (s .control) close-shows (λ _. open-shows))
 
 pub serve-consistent : (s : Store) (f : List ℕ) (k : LaneNo) → Consistent s f → StaysConsistent s f (serveOf s k)
 serve-consistent s f k i =

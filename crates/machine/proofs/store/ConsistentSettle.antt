@@ -4,12 +4,12 @@ use mathlib.Core.Path.{refl}
 use mathlib.Core.List.{List, [], _∷_, _++_}
 use Rattle.words.specs.declared.LaneNo.{LaneNo}
 use Rattle.answers.specs.declared.Completion.{Completion}
+use Rattle.answers.specs.Completions.{doneIn}
 use Rattle.store.specs.declared.Store.{Store}
 use Rattle.store.specs.declared.Outcome.{Outcome}
 use Rattle.machine.specs.Serve.{serveOf}
 use Rattle.machine.specs.Return.{returnOf}
 use Rattle.machine.specs.Deliver.{deliverOf}
-use Rattle.answers.specs.Completions.{doneIn}
 use Rattle.machine.specs.Settle.{settleStep, boundOf, Progress, advance, repeatStep, Settlement, settleOf, lane}
 use Rattle.machine.specs.Calls.{SettledWith, completionsOf}
 use Rattle.machine.proofs.bounds.Sound.{sound}
