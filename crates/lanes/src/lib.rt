@@ -75,21 +75,11 @@ pub enum Found {
 }
 
 impl Lane {
-    // The lane with another waiting operation: a field that is an enum can't be stored to.
+    // The lane with another waiting operation.
     pub fn with_waiting(self, x: Waiting) -> Lane
         ensures { λ r. ⌜ r ≡ withWaiting x self ⌝ }
     {
-        let lines = self.lines;
-        let order = self.order;
-        let returns = self.returns;
-        let downs = self.downs;
-        Lane {
-            lines: lines,
-            order: order,
-            returns: returns,
-            downs: downs,
-            waiting: x,
-        }
+        Lane { waiting: x, ..self }
     }
 
     // 01's Search: the lowest-numbered valid line, of the first c, that has block a.
