@@ -3,7 +3,8 @@
 ghost use mathlib.Core.Path.{_≡_};
 ghost use Prim.Native.Nat.{_<_};
 ghost use Rattle.lanes.specs.Lanes.{withWaiting, withReturns};
-ghost use Rattle.machine.specs.Change.{only, refuseMove};
+ghost use Rattle.store.specs.LaneSets.{only};
+ghost use Rattle.machine.specs.Change.{refuseMove};
 ghost use Rattle.queues.specs.Messages.{bareDown};
 ghost use Rattle.machine.specs.Serve.{exclusively, closedBlock, grantOf, close};
 ghost use Rattle.machine.specs.Return.{sendNothing};

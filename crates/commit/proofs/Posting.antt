@@ -22,7 +22,8 @@ use Rattle.store.specs.declared.Store.{Store}
 use Rattle.store.specs.declared.Control.{Control}
 use Rattle.store.specs.Stores.{noLane, withControl, withLanes}
 use Rattle.machine.specs.declared.Move.{Move}
-use Rattle.machine.specs.Change.{refuse, movedStore, goesTo, someFull, posted, postTo, postAll, commitMove}
+use Rattle.store.specs.LaneSets.{goesTo}
+use Rattle.machine.specs.Change.{refuse, movedStore, someFull, posted, postTo, postAll, commitMove}
 use Rattle.commit.specs.Moves.{lengthAt, lengthsOf, fullBy, moveAnswer}
 
 -- ---- the loop that posts

@@ -13,7 +13,8 @@ use Rattle.answers.specs.declared.Refusal.the-variants.{QueueFull}
 use Rattle.answers.specs.Refusals.{refusedOf}
 use Rattle.store.specs.Stores.{noLane}
 use Rattle.machine.specs.declared.Move.{Move}
-use Rattle.machine.specs.Change.{goesTo, someFull}
+use Rattle.store.specs.LaneSets.{goesTo}
+use Rattle.machine.specs.Change.{someFull}
 
 -- the length of lane j's down queue
 abbrev pub lengthAt : List Lane → ℕ → ℕ

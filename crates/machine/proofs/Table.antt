@@ -9,7 +9,8 @@ use Rattle.store.specs.Quiet.{activeOf, quietOf}
 use Rattle.machine.specs.Corruption.{badLane, badFlags, corruptOf}
 use Rattle.machine.specs.Change.{commitLane, someFull, postTo, postAll, commitMove}
 use Rattle.machine.specs.Begin.{complete, hit, evict, miss, beginLane, beginOf}
-use Rattle.machine.specs.Serve.{ordered, countOf, close, readyOf, serveMove, serveOf}
+use Rattle.store.specs.LaneSets.{countOf}
+use Rattle.machine.specs.Serve.{ordered, close, readyOf, serveMove, serveOf}
 use Rattle.machine.specs.Return.{returnMove, returnOf}
 use Rattle.machine.specs.Deliver.{reply, deliverLane, deliverOf}
 use Rattle.machine.specs.Settle.{settleStep, boundOf, advance, ended, repeatStep, settleOf}

@@ -14,6 +14,7 @@ use Rattle.words.specs.Lines.{invalid}
 use Rattle.queues.specs.declared.ReturnMessage.{ReturnMessage}
 use Rattle.queues.specs.declared.ReturnKind.the-variants.{Eject, WriteEject}
 use Rattle.queues.specs.Queues.{pushReturn}
+use Rattle.queues.specs.Messages.{bareReturn, wordsReturn}
 use Rattle.lanes.specs.declared.Lane.{Lane}
 use Rattle.lanes.specs.declared.Command.{Command}
 use Rattle.lanes.specs.declared.Command.the-variants.{ReadShared, ReadExclusive, Exclude}
@@ -31,7 +32,6 @@ use Rattle.store.specs.Stores.{laneAt}
 use Rattle.machine.specs.declared.LaneAnswer.the-variants.{Value, Waits}
 use Rattle.machine.specs.declared.LaneStep.{LaneStep}
 use Rattle.machine.specs.Change.{refuse, refuseLane, guarded, commitLane}
-use Rattle.queues.specs.Messages.{bareReturn, wordsReturn}
 
 -- the operation is done on a word of line i, here with the contents x
 abbrev pub performed : LineNo → Line → Op → WordNo → Lane → Lane

@@ -8,6 +8,7 @@ use Rattle.answers.specs.declared.Answer.{Answer}
 use Rattle.answers.specs.declared.Answer.the-variants.{Opened, Done, Wait, Step}
 use Rattle.answers.specs.declared.Completion.{Completion}
 use Rattle.answers.specs.Refusals.{refusedOf}
+use Rattle.answers.specs.Completions.{doneIn}
 use Rattle.store.specs.declared.Store.{Store}
 use Rattle.store.specs.declared.Outcome.{Outcome}
 use Rattle.machine.specs.declared.Settled.{Settled}
@@ -16,7 +17,6 @@ use Rattle.machine.specs.Begin.{beginOf}
 use Rattle.machine.specs.Serve.{serveOf}
 use Rattle.machine.specs.Return.{returnOf}
 use Rattle.machine.specs.Deliver.{deliverOf}
-use Rattle.answers.specs.Completions.{doneIn}
 use Rattle.machine.specs.Settle.{Settlement, settleOf}
 
 -- load, store, exchange and add are begin calls, with their operation; lane and word are any numbers

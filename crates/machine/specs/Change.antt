@@ -4,10 +4,11 @@ use Prim.Native.Nat.{ℕ}
 use mathlib.Core.Bool.{Bool, false, true, cond, _&&_}
 use mathlib.Core.List.{List}
 use lib.Dec.{leb}
-use lib.ListN.{getD, set, replicate}
+use lib.ListN.{getD, set}
 use Rattle.words.specs.declared.LaneNo.{LaneNo}
 use Rattle.words.specs.declared.BlockNo.{BlockNo}
 use Rattle.words.specs.Folds.{upTo, anyTo}
+use Rattle.words.specs.Units.{zeros}
 use Rattle.queues.specs.declared.DownMessage.{DownMessage}
 use Rattle.queues.specs.declared.DownKind.the-variants.{Update}
 use Rattle.queues.specs.Queues.{fullAt, pushDown}
@@ -23,8 +24,8 @@ use Rattle.store.specs.declared.Store.{Store}
 use Rattle.store.specs.declared.Block.{Block}
 use Rattle.store.specs.declared.Control.{Control}
 use Rattle.store.specs.declared.Outcome.{Outcome}
-use Rattle.words.specs.Units.{zeros}
 use Rattle.store.specs.Stores.{noLane, withControl, withLanes, withLane, withBlock}
+use Rattle.store.specs.LaneSets.{LaneSet, nobody, goesTo}
 use Rattle.machine.specs.declared.LaneAnswer.{LaneAnswer}
 use Rattle.machine.specs.declared.LaneAnswer.the-variants.{Value, Waits, Stepped}
 use Rattle.machine.specs.declared.LaneStep.{LaneStep}
@@ -65,19 +66,8 @@ commitLane s k r = record { answer = answerTo k (r .answer); store = cond (refus
 abbrev pub noMessage : DownMessage
 noMessage = record { kind = Update; block = record { 0 = 0 }; words = zeros }
 
--- no lane; lane k alone
-abbrev pub nobody : List Bool
-nobody = replicate 8 false
-
-abbrev pub only : LaneNo → List Bool
-only k = set nobody (k .0) true
-
--- whether a message goes to lane j
-abbrev pub goesTo : List Bool → ℕ → Bool
-goesTo to j = getD to j false
-
 -- 12 for messages to lanes: a down queue the step adds to is full
-unfoldable pub someFull : List Bool → List Lane → Bool
+unfoldable pub someFull : LaneSet → List Lane → Bool
 someFull to ls = anyTo (λ j. goesTo to j && fullAt (getD ls j noLane .downs .len)) 8
 
 -- the message joins the down queue of a lane
@@ -85,11 +75,11 @@ abbrev pub posted : DownMessage → Lane → Lane
 posted x l = withDowns (pushDown (l .downs) x .queue) l
 
 -- .. of lane j if it goes there
-unfoldable pub postTo : List Bool → DownMessage → ℕ → List Lane → List Lane
+unfoldable pub postTo : LaneSet → DownMessage → ℕ → List Lane → List Lane
 postTo to x j ls = cond (goesTo to j) (set ls j (posted x (getD ls j noLane))) ls
 
 -- .. of each lane that it goes to
-unfoldable pub postAll : List Bool → DownMessage → List Lane → List Lane
+unfoldable pub postAll : LaneSet → DownMessage → List Lane → List Lane
 postAll to x ls = upTo (postTo to x) 8 ls
 
 -- a refusal of memory's part

@@ -24,6 +24,7 @@ use Rattle.store.specs.declared.Control.{Control}
 use Rattle.store.specs.declared.Control.the-variants.{Free, Busy}
 use Rattle.store.specs.Opening.{badShape}
 use Rattle.store.specs.Stores.{laneAt, blockAt}
+use Rattle.store.specs.LaneSets.{goesTo}
 
 -- a block number out of range
 abbrev pub badBlock : ℕ → BlockNo → Bool
@@ -70,7 +71,7 @@ badLane c m l =
 
 -- PRESENT for lane n or above
 abbrev pub badFlag : ℕ → Block → ℕ → Bool
-badFlag n b k = leb n k && getD (b .present) k false
+badFlag n b k = leb n k && goesTo (b .present) k
 
 unfoldable pub badFlags : ℕ → Block → Bool
 badFlags n b = anyTo (badFlag n b) 8

@@ -15,6 +15,7 @@ use Rattle.queues.specs.declared.DownMessage.{DownMessage}
 use Rattle.queues.specs.declared.DownKind.{DownKind}
 use Rattle.queues.specs.declared.DownKind.the-variants.{Update, Purge, Grant, BareGrant}
 use Rattle.queues.specs.Queues.{emptyAt, headDown, takeDown, pushReturn}
+use Rattle.queues.specs.Messages.{bareReturn, wordsReturn}
 use Rattle.lanes.specs.declared.Lane.{Lane}
 use Rattle.lanes.specs.declared.Operation.{Operation}
 use Rattle.lanes.specs.declared.Waiting.{Waiting}
@@ -32,7 +33,6 @@ use Rattle.machine.specs.declared.LaneStep.{LaneStep}
 use Rattle.machine.specs.declared.Ready.{Ready}
 use Rattle.machine.specs.declared.Ready.the-variants.{Go, No}
 use Rattle.machine.specs.Change.{refuseLane, guarded, commitLane, refusedIn}
-use Rattle.queues.specs.Messages.{bareReturn, wordsReturn}
 use Rattle.machine.specs.Begin.{complete}
 
 -- an answer joins the lane's return queue; 12 where that is full

@@ -2,7 +2,6 @@
 use Prim.Native.Nat.{ℕ}
 use mathlib.Core.Bool.{Bool, true, false, cond}
 use mathlib.Core.List.{List}
-use lib.ListN.{set}
 use Rattle.words.specs.declared.LaneNo.{LaneNo}
 use Rattle.queues.specs.declared.ReturnMessage.{ReturnMessage}
 use Rattle.queues.specs.declared.ReturnKind.{ReturnKind}
@@ -21,13 +20,14 @@ use Rattle.store.specs.declared.Outcome.{Outcome}
 use Rattle.store.specs.Control.{answerOf}
 use Rattle.store.specs.Stores.{laneAt, blockAt}
 use Rattle.store.specs.Blocks.{withContents, withPresent, withModified}
+use Rattle.store.specs.LaneSets.{nobody, without}
 use Rattle.machine.specs.declared.Move.{Move}
-use Rattle.machine.specs.Change.{refuse, refuseMove, guarded, commitMove, nobody, noMessage}
+use Rattle.machine.specs.Change.{refuse, refuseMove, guarded, commitMove, noMessage}
 use Rattle.machine.specs.Serve.{close}
 
 -- resets k's PRESENT
 abbrev pub absent : LaneNo → Block → Block
-absent k b = withPresent (set (b .present) (k .0) false) b
+absent k b = withPresent (without k (b .present)) b
 
 -- writes the words, resets MODIFIED
 abbrev pub writtenBack : List ℕ → Block → Block

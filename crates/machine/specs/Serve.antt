@@ -1,15 +1,13 @@
 -- 01, "Serve k" and "Close". Assumes nothing.
 use Prim.Native.Nat.{ℕ}
 use mathlib.Core.Bool.{Bool, true, false, cond}
-use mathlib.Core.List.{List}
 use lib.Dec.{ltb, eqb}
-use lib.ListN.{getD, set}
 use Rattle.words.specs.declared.LaneNo.{LaneNo}
 use Rattle.words.specs.Units.{blockOf}
-use Rattle.words.specs.Folds.{countTo}
 use Rattle.queues.specs.declared.DownMessage.{DownMessage}
 use Rattle.queues.specs.declared.DownKind.{DownKind}
 use Rattle.queues.specs.declared.DownKind.the-variants.{Update, Purge, Grant, BareGrant}
+use Rattle.queues.specs.Messages.{bareDown, wordsDown}
 use Rattle.lanes.specs.declared.Lane.{Lane}
 use Rattle.lanes.specs.declared.Operation.{Operation}
 use Rattle.lanes.specs.declared.Command.{Command}
@@ -28,11 +26,11 @@ use Rattle.store.specs.declared.Outcome.{Outcome}
 use Rattle.store.specs.Control.{busyOf}
 use Rattle.store.specs.Stores.{laneAt, blockAt}
 use Rattle.store.specs.Blocks.{withPresent, withModified}
+use Rattle.store.specs.LaneSets.{nobody, only, goesTo, LaneSet, including, without, countOf}
 use Rattle.machine.specs.declared.Ready.{Ready}
 use Rattle.machine.specs.declared.Ready.the-variants.{Go, No}
 use Rattle.machine.specs.declared.Move.{Move}
-use Rattle.machine.specs.Change.{refuse, guarded, commitMove, nobody, only, goesTo}
-use Rattle.queues.specs.Messages.{bareDown, wordsDown}
+use Rattle.machine.specs.Change.{refuse, guarded, commitMove}
 
 -- READ shared sends orders if MODIFIED is set, else nothing; READ exclusive and EXCLUDE send orders
 abbrev pub sendsOf : Command → Bool → Bool
@@ -47,12 +45,8 @@ orderOf ReadExclusive = Purge
 orderOf Exclude = Purge
 
 -- .. to every other PRESENT lane
-unfoldable pub ordered : Block → LaneNo → Command → List Bool
-ordered b k x = cond (sendsOf x (b .modified)) (set (b .present) (k .0) false) nobody
-
--- The count of sent orders is awaited
-unfoldable pub countOf : List Bool → ℕ
-countOf to = countTo (goesTo to) 8
+unfoldable pub ordered : Block → LaneNo → Command → LaneSet
+ordered b k x = cond (sendsOf x (b .modified)) (without k (b .present)) nobody
 
 -- The grant is bare only for EXCLUDE with k's PRESENT set
 abbrev pub bareOf : Command → Bool → Bool
@@ -66,7 +60,7 @@ exclusively b k = withModified true (withPresent (only k) b)
 
 -- Shared: set k's PRESENT; exclusive as above
 abbrev pub closedBlock : Command → Block → LaneNo → Block
-closedBlock ReadShared b k = withPresent (set (b .present) (k .0) true) b
+closedBlock ReadShared b k = withPresent (including k (b .present)) b
 closedBlock ReadExclusive b k = exclusively b k
 closedBlock Exclude b k = exclusively b k
 
@@ -91,9 +85,9 @@ readyOf l x = readyWith (l .waiting) l x
 -- the service of lane k's operation
 abbrev pub serviceFor : LaneNo → Operation → Block → ℕ → Service
 serviceFor k o b awaited =
-    record { lane = k; block = blockOf (o .word); command = o .command; awaited = awaited; bare = bareOf (o .command) (getD (b .present) (k .0) false) }
+    record { lane = k; block = blockOf (o .word); command = o .command; awaited = awaited; bare = bareOf (o .command) (goesTo (b .present) (k .0)) }
 
--- Memory takes lane k's command; the operation is then served. If none are awaited the service closes in this step
+-- Memory takes lane k's command; the operation is then served. The count of sent orders is awaited. If none are awaited the service closes in this step
 unfoldable pub serveMove : LaneNo → Operation → Lane → Block → Control → Move
 serveMove k o l b x =
     let to = ordered b k (o .command) in

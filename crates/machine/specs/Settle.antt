@@ -17,6 +17,7 @@ use Rattle.answers.specs.declared.Completion.{Completion}
 use Rattle.answers.specs.declared.Refusal.{Refusal}
 use Rattle.answers.specs.declared.Refusal.the-variants.{Corrupt, Unexpected}
 use Rattle.answers.specs.Refusals.{refusedOf}
+use Rattle.answers.specs.Completions.{doneIn}
 use Rattle.store.specs.declared.Store.{Store}
 use Rattle.store.specs.declared.Outcome.{Outcome}
 use Rattle.store.specs.Control.{busyOf}
@@ -29,7 +30,6 @@ use Rattle.machine.specs.Change.{refuse}
 use Rattle.machine.specs.Serve.{serveOf}
 use Rattle.machine.specs.Return.{returnOf}
 use Rattle.machine.specs.Deliver.{deliverOf}
-use Rattle.answers.specs.Completions.{doneIn}
 
 -- the lane of number k
 abbrev pub lane : ℕ → LaneNo

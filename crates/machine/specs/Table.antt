@@ -14,6 +14,7 @@ use Rattle.queues.specs.declared.DownKind.{DownKind}
 use Rattle.queues.specs.declared.DownKind.the-variants.{Purge, Grant, BareGrant}
 use Rattle.queues.specs.declared.ReturnKind.the-variants.{Gone}
 use Rattle.queues.specs.Queues.{pushReturn}
+use Rattle.queues.specs.Messages.{bareReturn, bareDown}
 use Rattle.lanes.specs.declared.Command.the-variants.{ReadShared, ReadExclusive}
 use Rattle.lanes.specs.declared.Operation.{Operation}
 use Rattle.lanes.specs.declared.Waiting.{Waiting}
@@ -35,7 +36,6 @@ use Rattle.machine.specs.declared.Settled.{Settled}
 use Rattle.machine.specs.declared.Settled.the-variants.{Steps}
 use Rattle.machine.specs.declared.Filled.the-variants as Filled
 use Rattle.machine.specs.Change.{posted}
-use Rattle.queues.specs.Messages.{bareReturn, bareDown}
 use Rattle.machine.specs.Settle.{lane, boundOf}
 use Rattle.machine.specs.Flags.{lineIn}
 use Rattle.machine.specs.Calls.{Call, Begin, Serve, Return, Deliver, Settle, Reply, Entry, run}

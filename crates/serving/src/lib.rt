@@ -3,7 +3,8 @@
 ghost use mathlib.Core.Path.{_≡_};
 ghost use mathlib.Core.Bool.{cond};
 ghost use Prim.Native.Nat.{_<_};
-ghost use Rattle.machine.specs.Serve.{sendsOf, orderOf, ordered, countOf, bareOf, readyOf, serviceFor, serveMove};
+ghost use Rattle.store.specs.LaneSets.{countOf};
+ghost use Rattle.machine.specs.Serve.{sendsOf, orderOf, ordered, bareOf, readyOf, serviceFor, serveMove};
 use answers::Answer;
 use answers::Refusal;
 use lanes::Command;

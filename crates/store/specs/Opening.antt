@@ -1,7 +1,7 @@
 -- 01, "Parts of a store": opening gives words and block numbers 0, flags reset, queues empty, no waiting operation and no service. Assumes nothing.
 use Prim.Native.Nat.{ℕ}
 use mathlib.Core.Bool.{Bool, false, cond}
-use mathlib.Core.List.{List, [], _∷_}
+use mathlib.Core.List.{[], _∷_}
 use lib.Dec.{ltb}
 use lib.ListN.{replicate}
 use Rattle.words.specs.declared.Line.{Line}
@@ -19,6 +19,7 @@ use Rattle.store.specs.declared.Store.{Store}
 use Rattle.store.specs.declared.Block.{Block}
 use Rattle.store.specs.declared.Control.the-variants.{Free}
 use Rattle.store.specs.declared.Outcome.{Outcome}
+use Rattle.store.specs.LaneSets.{nobody}
 
 -- Lanes n: 2 to 8. Lines per lane c: 1 to 8. Blocks m: 1 to 64
 unfoldable pub badShape : Shape → Bool
@@ -44,7 +45,7 @@ blankLane = record {
 
 -- words 0, flags reset
 unfoldable pub blankBlock : Block
-blankBlock = record { words = zeros; present = replicate 8 false; modified = false }
+blankBlock = record { words = zeros; present = nobody; modified = false }
 
 -- the store of an opening
 unfoldable pub freshOf : Shape → Store

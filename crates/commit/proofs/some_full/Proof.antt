@@ -8,7 +8,7 @@ use lib.ListN.{getD}
 use Rattle.words.specs.Folds.{anyTo}
 use Rattle.words.proofs.Folds.{any-none, any-more, any-true}
 use Rattle.queues.specs.Queues.{fullAt}
-use Rattle.machine.specs.Change.{goesTo}
+use Rattle.store.specs.LaneSets.{goesTo}
 use Rattle.commit.specs.Moves.{fullBy}
 use Rattle.commit.proofs.some_full.Statement.{statement}
 use Rattle.commit.proofs.some_full.Tie as tie

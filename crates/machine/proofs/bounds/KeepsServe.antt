@@ -22,8 +22,8 @@ use Rattle.store.specs.declared.Control.{Control}
 use Rattle.store.specs.declared.Control.the-variants.{Free, Busy}
 use Rattle.store.specs.declared.Outcome.{Outcome}
 use Rattle.store.specs.Stores.{laneAt, blockAt}
-use Rattle.machine.specs.Change.{nobody, goesTo}
-use Rattle.machine.specs.Serve.{sendsOf, ordered, countOf, closedBlock, close, serviceFor, serveMove, serveOf}
+use Rattle.store.specs.LaneSets.{nobody, goesTo, countOf}
+use Rattle.machine.specs.Serve.{sendsOf, ordered, closedBlock, close, serviceFor, serveMove, serveOf}
 use Rattle.machine.proofs.laws.Sets.{set-cases, set-here}
 use Rattle.machine.proofs.laws.Counts.{count-less, count-past}
 use Rattle.machine.proofs.bounds.Sound.{BlockSound, ServiceSound, ControlSound, sound}

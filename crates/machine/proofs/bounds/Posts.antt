@@ -12,7 +12,8 @@ use Rattle.words.proofs.Folds.{by-cond}
 use Rattle.queues.specs.declared.DownMessage.{DownMessage}
 use Rattle.lanes.specs.declared.Lane.{Lane}
 use Rattle.store.specs.Stores.{noLane}
-use Rattle.machine.specs.Change.{goesTo, posted, postTo, postAll}
+use Rattle.store.specs.LaneSets.{goesTo}
+use Rattle.machine.specs.Change.{posted, postTo, postAll}
 use Rattle.machine.proofs.laws.Sets.{same?}
 
 module _ (to : List Bool) (x : DownMessage) where

@@ -48,11 +48,12 @@ use Rattle.store.specs.declared.Control.{Control}
 use Rattle.store.specs.declared.Outcome.{Outcome}
 use Rattle.store.specs.Opening.{blankLane, blankBlock, freshOf}
 use Rattle.store.specs.Stores.{noLane, noBlock, laneAt, blockAt}
+use Rattle.store.specs.LaneSets.{nobody, only, goesTo}
 use Rattle.machine.specs.declared.LaneStep.{LaneStep}
 use Rattle.machine.specs.declared.Ready.{Ready}
 use Rattle.machine.specs.declared.Ready.the-variants.{Go, No}
 use Rattle.machine.specs.declared.Move.{Move}
-use Rattle.machine.specs.Change.{refuseLane, commitLane, nobody, only, goesTo, posted, postTo, postAll, commitMove, refusedIn}
+use Rattle.machine.specs.Change.{refuseLane, commitLane, posted, postTo, postAll, commitMove, refusedIn}
 use Rattle.machine.specs.Begin.{complete, waits, hit, ejectOf, evict, missWith, miss, beginAt, beginLane, beginOf}
 use Rattle.machine.specs.Serve.{closedBlock, close, serveMove, serveOf}
 use Rattle.machine.specs.Return.{takenBy, returnMove, returnOf}

@@ -14,7 +14,7 @@ use Rattle.queues.specs.declared.ReturnKind.the-variants.{Eject, WriteEject, Up
 use Rattle.lanes.specs.declared.Command.{Command}
 use Rattle.lanes.specs.declared.Command.the-variants.{ReadShared, ReadExclusive, Exclude}
 use Rattle.store.specs.declared.Block.{Block}
-use Rattle.machine.specs.Change.{nobody, goesTo}
+use Rattle.store.specs.LaneSets.{nobody, goesTo}
 use Rattle.machine.specs.Serve.{sendsOf, ordered, bareOf, exclusively, closedBlock}
 use Rattle.machine.specs.Return.{absent, writtenBack, takenBy}
 use Rattle.machine.proofs.laws.Tests.{on}

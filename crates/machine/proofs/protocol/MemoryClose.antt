@@ -19,7 +19,7 @@ use Rattle.lanes.specs.declared.Waiting.the-variants.{Served}
 use Rattle.store.specs.declared.Block.{Block}
 use Rattle.store.specs.declared.Service.{Service}
 use Rattle.store.specs.declared.Lookup.the-variants.{Of, Nothing}
-use Rattle.machine.specs.Change.{nobody, only}
+use Rattle.store.specs.LaneSets.{nobody, only}
 use Rattle.machine.specs.Serve.{closedBlock, grantOf}
 use Rattle.machine.specs.Settle.{isOrder}
 use Rattle.machine.proofs.laws.Sets.{same?}

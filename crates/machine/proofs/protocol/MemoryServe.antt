@@ -26,8 +26,8 @@ use Rattle.lanes.specs.declared.Waiting.the-variants.{Unserved, Served}
 use Rattle.store.specs.declared.Service.{Service}
 use Rattle.store.specs.declared.Lookup.{Lookup}
 use Rattle.store.specs.declared.Lookup.the-variants.{Of, Nothing}
-use Rattle.machine.specs.Change.{goesTo}
-use Rattle.machine.specs.Serve.{orderOf, ordered, countOf, serviceFor}
+use Rattle.store.specs.LaneSets.{goesTo, countOf}
+use Rattle.machine.specs.Serve.{orderOf, ordered, serviceFor}
 use Rattle.machine.specs.Return.{isAnswer}
 use Rattle.machine.specs.Settle.{isOrder}
 use Rattle.machine.proofs.laws.Tests.{on}

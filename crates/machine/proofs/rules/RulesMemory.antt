@@ -28,9 +28,10 @@ use Rattle.store.specs.declared.Lookup.the-variants.{Of, Nothing}
 use Rattle.store.specs.declared.Counted.{Counted}
 use Rattle.store.specs.declared.Counted.the-variants.{Awaits, Closes, NotAwaited}
 use Rattle.store.specs.Control.{lowered, serviceOf, countedOf, answerOf}
+use Rattle.store.specs.LaneSets.{countOf}
 use Rattle.machine.specs.declared.Move.{Move}
 use Rattle.machine.specs.Change.{refuseMove}
-use Rattle.machine.specs.Serve.{ordered, countOf, orderOf, close, serviceFor, serveMove}
+use Rattle.machine.specs.Serve.{ordered, orderOf, close, serviceFor, serveMove}
 use Rattle.machine.specs.Return.{takenBy, isAnswer, sendNothing, countedMove, returnMove}
 
 -- an answer of block a to the service v that control x has for it

@@ -29,9 +29,9 @@ use Rattle.store.specs.declared.Lookup.the-variants.{Of, Nothing}
 use Rattle.store.specs.declared.Counted.{Counted}
 use Rattle.store.specs.declared.Counted.the-variants.{Awaits, Closes, NotAwaited}
 use Rattle.store.specs.Control.{busyOf, lowered, countedOf, answerOf}
+use Rattle.store.specs.LaneSets.{nobody, only, goesTo, countOf}
 use Rattle.machine.specs.declared.Move.{Move}
-use Rattle.machine.specs.Change.{nobody, only, goesTo}
-use Rattle.machine.specs.Serve.{orderOf, ordered, countOf, grantOf, close, serviceFor, serveMove}
+use Rattle.machine.specs.Serve.{orderOf, ordered, grantOf, close, serviceFor, serveMove}
 use Rattle.machine.specs.Return.{takenBy, isAnswer, sendNothing, countedMove, returnMove}
 use Rattle.machine.proofs.laws.Sums.{count-zero, count-one, count-mono}
 use Rattle.machine.proofs.bounds.Sound.{BlockSound}

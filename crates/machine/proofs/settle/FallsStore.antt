@@ -22,9 +22,10 @@ use Rattle.store.specs.declared.Control.{Control}
 use Rattle.store.specs.declared.Outcome.{Outcome}
 use Rattle.store.specs.Control.{busyOf}
 use Rattle.store.specs.Stores.{noLane, laneAt, withLane}
+use Rattle.store.specs.LaneSets.{goesTo}
 use Rattle.machine.specs.declared.LaneStep.{LaneStep}
 use Rattle.machine.specs.declared.Move.{Move}
-use Rattle.machine.specs.Change.{commitLane, goesTo, someFull, posted, postAll, commitMove, refusedIn, answerTo, movedStore}
+use Rattle.machine.specs.Change.{commitLane, someFull, posted, postAll, commitMove, refusedIn, answerTo, movedStore}
 use Rattle.machine.specs.Settle.{downsOf, boundOf}
 use Rattle.machine.specs.Sized.{LaneSized, Sized}
 use Rattle.machine.proofs.laws.Tests.{and-right}

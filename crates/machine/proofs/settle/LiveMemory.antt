@@ -29,8 +29,9 @@ use Rattle.store.specs.declared.Counted.the-variants.{Awaits, Closes}
 use Rattle.store.specs.declared.Outcome.{Outcome}
 use Rattle.store.specs.Control.{lowered, answerOf, busyOf}
 use Rattle.store.specs.Stores.{noLane, laneAt, blockAt}
+use Rattle.store.specs.LaneSets.{goesTo}
 use Rattle.machine.specs.declared.Move.{Move}
-use Rattle.machine.specs.Change.{goesTo, someFull, commitMove}
+use Rattle.machine.specs.Change.{someFull, commitMove}
 use Rattle.machine.specs.Serve.{close, serveMove, serveOf}
 use Rattle.machine.specs.Return.{takenBy, isAnswer, countedMove, returnMove, returnOf}
 use Rattle.machine.proofs.laws.Tests.{and-never}

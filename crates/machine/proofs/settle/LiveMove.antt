@@ -17,8 +17,9 @@ use Rattle.store.specs.declared.Outcome.{Outcome}
 use Rattle.store.specs.declared.Service.{Service}
 use Rattle.store.specs.declared.Control.the-variants.{Busy}
 use Rattle.store.specs.Stores.{laneAt}
+use Rattle.store.specs.LaneSets.{goesTo}
 use Rattle.machine.specs.declared.Move.{Move}
-use Rattle.machine.specs.Change.{goesTo, someFull, commitMove, movedStore}
+use Rattle.machine.specs.Change.{someFull, commitMove, movedStore}
 use Rattle.machine.specs.Settle.{isOrder}
 use Rattle.machine.proofs.laws.Sets.{same?}
 use Rattle.machine.proofs.list.Owes.{upd}

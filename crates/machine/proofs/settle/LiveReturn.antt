@@ -21,8 +21,9 @@ use Rattle.store.specs.declared.Control.the-variants.{Free, Busy}
 use Rattle.store.specs.declared.Outcome.{Outcome}
 use Rattle.store.specs.Control.{lowered}
 use Rattle.store.specs.Stores.{laneAt, blockAt}
+use Rattle.store.specs.LaneSets.{nobody, only}
 use Rattle.machine.specs.declared.Move.{Move}
-use Rattle.machine.specs.Change.{nobody, only, noMessage, commitMove}
+use Rattle.machine.specs.Change.{noMessage, commitMove}
 use Rattle.machine.specs.Serve.{grantOf, close}
 use Rattle.machine.specs.Return.{takenBy, sendNothing, returnMove, returnOf}
 use Rattle.machine.specs.Settle.{isOrder}

@@ -23,9 +23,10 @@ use Rattle.store.specs.declared.Control.the-variants.{Free, Busy}
 use Rattle.store.specs.declared.Outcome.{Outcome}
 use Rattle.store.specs.Control.{serviceOf}
 use Rattle.store.specs.Stores.{laneAt, blockAt}
+use Rattle.store.specs.LaneSets.{only, countOf}
 use Rattle.machine.specs.declared.Move.{Move}
-use Rattle.machine.specs.Change.{only, commitMove}
-use Rattle.machine.specs.Serve.{orderOf, ordered, countOf, grantOf, close, serviceFor, serveMove, serveOf}
+use Rattle.machine.specs.Change.{commitMove}
+use Rattle.machine.specs.Serve.{orderOf, ordered, grantOf, close, serviceFor, serveMove, serveOf}
 use Rattle.machine.proofs.bounds.Sound.{sound}
 use Rattle.machine.proofs.list.Owes.{upd}
 use Rattle.machine.proofs.laws.Updates.{upd-cases}

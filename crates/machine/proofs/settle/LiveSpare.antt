@@ -26,9 +26,10 @@ use Rattle.store.specs.declared.Control.{Control}
 use Rattle.store.specs.declared.Outcome.{Outcome}
 use Rattle.store.specs.Opening.{badShape, blankLane, freshOf, openOf}
 use Rattle.store.specs.Stores.{noLane, laneAt, blockAt}
+use Rattle.store.specs.LaneSets.{nobody, only, goesTo}
 use Rattle.machine.specs.declared.LaneStep.{LaneStep}
 use Rattle.machine.specs.declared.Move.{Move}
-use Rattle.machine.specs.Change.{commitLane, nobody, only, goesTo, postTo, postAll, commitMove, movedStore}
+use Rattle.machine.specs.Change.{commitLane, postTo, postAll, commitMove, movedStore}
 use Rattle.machine.specs.Begin.{beginOf}
 use Rattle.machine.specs.Serve.{close, serveMove, serveOf}
 use Rattle.machine.specs.Return.{returnMove, returnOf}

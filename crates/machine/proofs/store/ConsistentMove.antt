@@ -17,8 +17,9 @@ use Rattle.answers.specs.declared.Refusal.the-variants.{QueueFull}
 use Rattle.store.specs.declared.Store.{Store}
 use Rattle.store.specs.Control.{serviceOf}
 use Rattle.store.specs.Stores.{laneAt}
+use Rattle.store.specs.LaneSets.{goesTo}
 use Rattle.machine.specs.declared.Move.{Move}
-use Rattle.machine.specs.Change.{goesTo, someFull, posted, commitMove, movedStore}
+use Rattle.machine.specs.Change.{someFull, posted, commitMove, movedStore}
 use Rattle.machine.specs.Flat.{flatBlock}
 use Rattle.machine.specs.Sized.{LaneSized}
 use Rattle.machine.proofs.laws.Sets.{same?}

@@ -23,8 +23,9 @@ use Rattle.store.specs.declared.Control.the-variants.{Free, Busy}
 use Rattle.store.specs.declared.Lookup.the-variants.{Of, Nothing}
 use Rattle.store.specs.Control.{serviceOf, lowered}
 use Rattle.store.specs.Stores.{laneAt, blockAt}
+use Rattle.store.specs.LaneSets.{nobody}
 use Rattle.machine.specs.declared.Move.{Move}
-use Rattle.machine.specs.Change.{nobody, noMessage, commitMove}
+use Rattle.machine.specs.Change.{noMessage, commitMove}
 use Rattle.machine.specs.Serve.{close}
 use Rattle.machine.specs.Return.{takenBy, isAnswer, sendNothing, returnMove, returnOf}
 use Rattle.machine.specs.Flat.{flatBlock}

@@ -28,8 +28,9 @@ use Rattle.store.specs.declared.Control.the-variants.{Free, Busy}
 use Rattle.store.specs.declared.Lookup.the-variants.{Nothing}
 use Rattle.store.specs.Control.{busyOf, serviceOf}
 use Rattle.store.specs.Stores.{laneAt, blockAt}
-use Rattle.machine.specs.Change.{nobody, only, goesTo, commitMove}
-use Rattle.machine.specs.Serve.{orderOf, sendsOf, ordered, countOf, closedBlock, grantOf, close, serviceFor, serveMove, serveOf}
+use Rattle.store.specs.LaneSets.{nobody, only, goesTo, countOf}
+use Rattle.machine.specs.Change.{commitMove}
+use Rattle.machine.specs.Serve.{orderOf, sendsOf, ordered, closedBlock, grantOf, close, serviceFor, serveMove, serveOf}
 use Rattle.machine.specs.Flat.{flatBlock}
 use Rattle.machine.specs.Sized.{LaneSized}
 use Rattle.machine.proofs.bounds.Sound.{sound}

@@ -4,8 +4,7 @@ use mathlib.Core.Path.{_≡_, sym, _∙_}
 use native.Mathlib.Omega.{arith}
 use Rattle.words.specs.Folds.{countTo}
 use Rattle.words.proofs.Folds.{count-none, count-more, count-most}
-use Rattle.machine.specs.Change.{goesTo}
-use Rattle.machine.specs.Serve.{countOf}
+use Rattle.store.specs.LaneSets.{goesTo, countOf}
 use Rattle.serving.proofs.count.Statement.{statement}
 use Rattle.serving.proofs.count.Tie as tie
 
