@@ -30,7 +30,7 @@ use Rattle.lanes.specs.declared.Found.{Found}
 use Rattle.lanes.specs.declared.Found.the-variants.{At, Nothing}
 use Rattle.lanes.specs.Search.{lineAt, searchOf, vacantOf}
 use Rattle.lanes.specs.UseOrder.{placeAt}
-use Rattle.lanes.specs.Lanes.{withWaiting}
+use Rattle.lanes.specs.Lanes.{withWaiting, withReturns, withLine}
 use Rattle.answers.specs.declared.Answer.the-variants.{Refused}
 use Rattle.answers.specs.declared.Refusal.{Refusal}
 use Rattle.answers.specs.declared.Refusal.the-variants.{QueueFull}
@@ -154,13 +154,7 @@ eject-seen x l = on (x .private) (λ p. rw p) (λ p. rw p)
 
 -- the lane with line i given up
 abbrev pub evicted : LineNo → Lane → Lane
-evicted i l = record {
-  lines = set (l .lines) (i .0) (invalid (lineAt l i));
-  order = l .order;
-  returns = pushReturn (l .returns) (ejectOf (lineAt l i)) .queue;
-  downs = l .downs;
-  waiting = l .waiting;
-}
+evicted i l = withReturns (pushReturn (l .returns) (ejectOf (lineAt l i)) .queue) (withLine i (invalid (lineAt l i)) l)
 
 -- line i is given up: it is valid, and the return queue has a free place
 module _ (c : ℕ) (l : Lane) (z : LaneSized l) (b : c ≤ 8) (u : Unique c l) (i : LineNo) (h : i .0 < c) (v : lineAt l i .valid ≡ true) (room : l .returns .len < 2) where
