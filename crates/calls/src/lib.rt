@@ -17,9 +17,9 @@ pub fn begin(s: Store, k: LaneNo, op: Op, w: WordNo) -> Outcome
     ensures { λ r. ⌜ r ≡ beginOf s k op w ⌝ }
 {
     if corruption::corrupt(s) {
-        return steps::refused(Refusal::Corrupt, s);
+        return commit::refused(Refusal::Corrupt, s);
     }
-    steps::begin_sound(s, k, op, w)
+    lanesteps::begin_sound(s, k, op, w)
 }
 
 // Serve k.
@@ -27,9 +27,9 @@ pub fn serve(s: Store, k: LaneNo) -> Outcome
     ensures { λ r. ⌜ r ≡ serveOf s k ⌝ }
 {
     if corruption::corrupt(s) {
-        return steps::refused(Refusal::Corrupt, s);
+        return commit::refused(Refusal::Corrupt, s);
     }
-    steps::serve_sound(s, k)
+    memorysteps::serve_sound(s, k)
 }
 
 // Return k; `return` is a word of the language.
@@ -37,9 +37,9 @@ pub fn return_head(s: Store, k: LaneNo) -> Outcome
     ensures { λ r. ⌜ r ≡ returnOf s k ⌝ }
 {
     if corruption::corrupt(s) {
-        return steps::refused(Refusal::Corrupt, s);
+        return commit::refused(Refusal::Corrupt, s);
     }
-    steps::return_sound(s, k)
+    memorysteps::return_sound(s, k)
 }
 
 // Deliver k.
@@ -47,7 +47,7 @@ pub fn deliver(s: Store, k: LaneNo) -> Outcome
     ensures { λ r. ⌜ r ≡ deliverOf s k ⌝ }
 {
     if corruption::corrupt(s) {
-        return steps::refused(Refusal::Corrupt, s);
+        return commit::refused(Refusal::Corrupt, s);
     }
-    steps::deliver_sound(s, k)
+    lanesteps::deliver_sound(s, k)
 }

@@ -1,10 +1,10 @@
-// A store put back together after memory's part of a call: lane, block, control and the queues of those that a message goes to.
+// A refusal, and a store put back together after memory's part of a call: lane, block, control and the queues of those that a message goes to.
 // The store is handed in by value and changed in a local. Functions with a requires are for the crates above and not for others.
 ghost use mathlib.Core.Path.{_≡_};
 ghost use mathlib.Core.Bool.{_&&_};
 ghost use Prim.Native.Nat.{_<_};
 ghost use Rattle.queues.specs.Queues.{fullAt};
-ghost use Rattle.machine.specs.Change.{posted, commitMove};
+ghost use Rattle.machine.specs.Change.{refuse, posted, commitMove};
 ghost use Rattle.commit.specs.Moves.{lengthsOf, fullBy, moveAnswer};
 use answers::Answer;
 use answers::Refusal;
@@ -87,6 +87,16 @@ fn post(x: DownMessage, l: Lane) -> Lane
     let mut t = l;
     t.downs = d;
     t
+}
+
+// A refusal leaves the store as it was.
+pub fn refused(r: Refusal, s: Store) -> Outcome
+    ensures { λ o. ⌜ o ≡ refuse r s ⌝ }
+{
+    Outcome {
+        answer: Answer::Refused(r),
+        store: s,
+    }
 }
 
 // Lane k, block a, the control and the down queues after memory's part of a call.

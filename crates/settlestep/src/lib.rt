@@ -58,9 +58,9 @@ fn take_step(x: StepKind, s: Store, k: LaneNo) -> Outcome
     ensures { λ r. ⌜ r ≡ stepOf x s k ⌝ }
 {
     match x {
-        StepKind::Deliver => steps::deliver_sound(s, k),
-        StepKind::Return => steps::return_sound(s, k),
-        StepKind::Serve => steps::serve_sound(s, k),
+        StepKind::Deliver => lanesteps::deliver_sound(s, k),
+        StepKind::Return => memorysteps::return_sound(s, k),
+        StepKind::Serve => memorysteps::serve_sound(s, k),
     }
 }
 
@@ -82,5 +82,5 @@ pub fn step(s: Store) -> Outcome
     if u < n {
         return take_step(StepKind::Serve, s, LaneNo(u));
     }
-    steps::refused(Refusal::Unexpected, s)
+    commit::refused(Refusal::Unexpected, s)
 }

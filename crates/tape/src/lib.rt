@@ -18,7 +18,7 @@ fn open_record(s: Store, shape: Shape) -> Outcome
 {
     if s.shape.n == 0 {
         if opening::bad_shape(shape) {
-            return steps::refused(Refusal::InvalidShape, s);
+            return commit::refused(Refusal::InvalidShape, s);
         }
         let t = opening::fresh(shape);
         return Outcome {
@@ -26,14 +26,14 @@ fn open_record(s: Store, shape: Shape) -> Outcome
             store: t,
         };
     }
-    steps::refused(Refusal::AlreadyOpen, s)
+    commit::refused(Refusal::AlreadyOpen, s)
 }
 
 // 3: a call before an opening.
 fn not_open(s: Store) -> Outcome
     ensures { λ r. ⌜ r ≡ refuse NotOpen s ⌝ }
 {
-    steps::refused(Refusal::NotOpen, s)
+    commit::refused(Refusal::NotOpen, s)
 }
 
 // What a record does: 2, 1, or what its kind says; 3 before an opening.
@@ -42,32 +42,32 @@ pub fn record_sound(s: Store, rec: Record) -> Outcome
     ensures { λ r. ⌜ r ≡ recordOf s rec ⌝ }
 {
     match rec {
-        Record::Unknown => steps::refused(Refusal::UnknownKind, s),
-        Record::Truncated => steps::refused(Refusal::Truncated, s),
+        Record::Unknown => commit::refused(Refusal::UnknownKind, s),
+        Record::Truncated => commit::refused(Refusal::Truncated, s),
         Record::Open(shape) => open_record(s, shape),
         Record::Begin(k, op, w) => {
             if s.shape.n == 0 {
                 return not_open(s);
             }
-            steps::begin_sound(s, k, op, w)
+            lanesteps::begin_sound(s, k, op, w)
         }
         Record::Serve(k) => {
             if s.shape.n == 0 {
                 return not_open(s);
             }
-            steps::serve_sound(s, k)
+            memorysteps::serve_sound(s, k)
         }
         Record::Return(k) => {
             if s.shape.n == 0 {
                 return not_open(s);
             }
-            steps::return_sound(s, k)
+            memorysteps::return_sound(s, k)
         }
         Record::Deliver(k) => {
             if s.shape.n == 0 {
                 return not_open(s);
             }
-            steps::deliver_sound(s, k)
+            lanesteps::deliver_sound(s, k)
         }
     }
 }

@@ -1,10 +1,11 @@
--- `steps::return_sound` meets its contract. Assumes nothing.
+-- `memorysteps::return_sound` meets its contract. Assumes nothing.
 use borrow.Author.Tests.{le-leb, lt-leb, eq-eqb, ne-eqb}
-use Rattle.steps.proofs.Bounds.{lane-bound, head-bound, service-bound}
+use Rattle.commit.proofs.Bounds.{lane-bound}
+use Rattle.memorysteps.proofs.Bounds.{head-bound, service-bound}
 use Rattle.machine.specs.Return.{returnOf}
 use borrow.Author.Needs.{needs}
-use Rattle.steps.proofs.return_sound.Statement.{statement}
-use Rattle.steps.proofs.return_sound.Tie as tie
+use Rattle.memorysteps.proofs.return_sound.Statement.{statement}
+use Rattle.memorysteps.proofs.return_sound.Tie as tie
 
 refused-requires : tie.Need-refused-requires
 refused-requires c κs = search needs

@@ -1,13 +1,14 @@
--- `steps::serve_sound` meets its contract. Assumes nothing.
+-- `memorysteps::serve_sound` meets its contract. Assumes nothing.
 use borrow.Author.Tests.{le-leb, lt-leb}
 use native.Mathlib.Omega.{arith}
 use mathlib.Core.Path.{sym, ap, _∙_}
-use Rattle.steps.proofs.Bounds.{lane-bound, ready-bound}
+use Rattle.commit.proofs.Bounds.{lane-bound}
+use Rattle.memorysteps.proofs.Bounds.{ready-bound}
 use Rattle.words.specs.declared.BlockNo.{BlockNo}
 use Rattle.machine.specs.Serve.{serveOf}
 use borrow.Author.Needs.{needs}
-use Rattle.steps.proofs.serve_sound.Statement.{statement}
-use Rattle.steps.proofs.serve_sound.Tie as tie
+use Rattle.memorysteps.proofs.serve_sound.Statement.{statement}
+use Rattle.memorysteps.proofs.serve_sound.Tie as tie
 
 refused-requires : tie.Need-refused-requires
 refused-requires c κs = search needs

@@ -1,4 +1,4 @@
--- The bounds that a call's parts ask for, from a store that is not corrupt. Assumes nothing.
+-- The bounds that memory's part of a call asks for, from a store that is not corrupt. Assumes nothing.
 use Prim.Native.Nat.{ℕ, _<_, _≤_}
 use native.Mathlib.Omega.{arith}
 use mathlib.Core.Bool.{false}
@@ -13,7 +13,6 @@ use Rattle.lanes.specs.declared.Lane.{Lane}
 use Rattle.lanes.specs.declared.Operation.{Operation}
 use Rattle.lanes.specs.declared.Waiting.{Waiting}
 use Rattle.lanes.specs.declared.Waiting.the-variants.{Idle, Unserved, Served}
-use Rattle.lanes.specs.UseOrder.{placeAt}
 use Rattle.answers.specs.declared.Refusal.{Refusal}
 use Rattle.store.specs.declared.Store.{Store}
 use Rattle.store.specs.declared.Control.{Control}
@@ -43,15 +42,6 @@ below-eight n m Free h g = tt
 below-eight n m (Busy v) h g = let l = g .service v refl .lane in omega arith
 
 module _ (s : Store) (k : LaneNo) (e : corruptOf s ≡ false) (h : k .0 < s .shape .n) where
-  pub lane-bound : k .0 < 8
-  lane-bound = let g = sound s e .n-high in omega arith
-
-  pub lines-bound : s .shape .c ≤ 8
-  lines-bound = sound s e .c-high
-
-  pub oldest-bound : placeAt (laneAt s (k .0) .order) 0 .0 < 8
-  oldest-bound = let g = sound s e in let p = g .lane (k .0) h .order .named 0 (g .c-low) in let q = g .c-high in omega arith
-
   pub ready-bound : (o : Operation) → readyOf (laneAt s (k .0)) (s .control) ≡ Go o → blockOf (o .word) .0 < 64
   unfolding readyOf
   ready-bound o r =

@@ -1,14 +1,14 @@
--- `steps::begin_sound` meets its contract: 6, 7, 8, then the lane's part, refused or put back. Assumes nothing.
+-- `lanesteps::begin_sound` meets its contract: 6, 7, 8, then the lane's part, refused or put back. Assumes nothing.
 use borrow.Author.Tests.{le-leb, lt-leb}
 use native.Mathlib.Omega.{arith}
 use Prim.Native.Nat.{_*_}
-use Rattle.steps.proofs.Bounds.{lane-bound, lines-bound, oldest-bound}
+use Rattle.commit.proofs.Bounds.{lane-bound, lines-bound, oldest-bound}
 use Rattle.machine.specs.Change.{commitLane}
 use Rattle.machine.specs.Begin.{beginOf}
 use Rattle.machine.proofs.rules.Rules.{answer-goes}
 use borrow.Author.Needs.{needs}
-use Rattle.steps.proofs.begin_sound.Statement.{statement}
-use Rattle.steps.proofs.begin_sound.Tie as tie
+use Rattle.lanesteps.proofs.begin_sound.Statement.{statement}
+use Rattle.lanesteps.proofs.begin_sound.Tie as tie
 
 refused-requires : tie.Need-refused-requires
 refused-requires c κs = search needs

@@ -1,7 +1,7 @@
--- `steps::answer_to` meets its contract. Assumes nothing.
+-- `lanesteps::answer_to` meets its contract. Assumes nothing.
 use borrow.Author.Needs.{needs}
-use Rattle.steps.proofs.answer_to.Statement.{statement}
-use Rattle.steps.proofs.answer_to.Tie as tie
+use Rattle.lanesteps.proofs.answer_to.Statement.{statement}
+use Rattle.lanesteps.proofs.answer_to.Tie as tie
 
 enum-known-a : tie.Need-enum-known-a
 enum-known-a c = search needs
