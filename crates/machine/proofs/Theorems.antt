@@ -20,6 +20,8 @@ use Rattle.machine.specs.Completion.{AlwaysSettles, SettleBound}
 use Rattle.machine.specs.Sized.{Sized}
 pub use Rattle.machine.proofs.Table.{cases}
 use Rattle.words.specs.declared.Shape.{Shape}
+use Rattle.machine.proofs.settle.Potential.{ExactSteps}
+use Rattle.machine.proofs.settle.Falls.{steps-exact}
 use Rattle.machine.proofs.settle.FallsSettle.{startAt, settle-count, repeat-ends, repeat-same}
 use Rattle.machine.proofs.store.OrderOfMemory.{order-of-memory}
 use Rattle.machine.proofs.settle.LiveSettle.{always-settles, all-complete}
@@ -61,6 +63,11 @@ begun-completes = all-complete
 -- specs/Completion.antt).
 pub settle-bound : SettleBound
 settle-bound = settle-count
+
+-- To the exact step: each deliver, return and serve that isn't refused takes 1 from R + G + 2 × Q + S + 2 × U, and each order that a serve
+-- sends adds 2 (`ExactSteps`, Potential.antt). The bound follows, since a serve's orders are fewer than the lanes.
+pub settle-step-exact : (s : Store) → corruptOf s ≡ false → Sized s → ExactSteps s
+settle-step-exact = steps-exact
 
 -- "Settle repeats .. it ends when the store is quiet": the definition repeats boundOf + 1 times at most, and that cuts nothing off. So
 -- many repetitions have ended, with a quiet store or a refused step, and any more give the same.

@@ -7,6 +7,7 @@ use lib.ListN.{getD, set, getD-replicate}
 use native.Mathlib.Omega.{arith}
 use Rattle.words.specs.declared.LaneNo.{LaneNo}
 use Rattle.words.specs.Units.{blockOf}
+use Rattle.words.specs.Folds.{countTo}
 use Rattle.words.proofs.Folds.{by-cond}
 use Rattle.queues.specs.declared.DownMessage.{DownMessage}
 use Rattle.lanes.specs.declared.Lane.{Lane}
@@ -83,11 +84,15 @@ ordered-self b k x l =
     (set-here (λ (r : Bool). r ≡ false) (b .present) (k .0) false false refl refl)
     (nobody-absent (k .0) l)
 
--- the orders are fewer than the lanes
-pub ordered-fewer : (n : ℕ) (b : Block) (k : LaneNo) (x : Command) → n ≤ 8 → k .0 < n → BlockSound n b → countOf (ordered b k x) < n
+-- .. so they all go to lanes
+pub ordered-count : (n : ℕ) (b : Block) (k : LaneNo) (x : Command) → n ≤ 8 → BlockSound n b → countOf (ordered b k x) ≡ countTo (goesTo (ordered b k x)) n
 unfolding countOf
+ordered-count n b k x h g = count-past (goesTo (ordered b k x)) n 8 h (ordered-absent n b k x g)
+
+-- .. and are fewer than these
+pub ordered-fewer : (n : ℕ) (b : Block) (k : LaneNo) (x : Command) → n ≤ 8 → k .0 < n → BlockSound n b → countOf (ordered b k x) < n
 ordered-fewer n b k x h l g =
-    let e = count-past (goesTo (ordered b k x)) n 8 h (ordered-absent n b k x g) in
+    let e = ordered-count n b k x h g in
     let d = count-less (goesTo (ordered b k x)) n (k .0) l (ordered-self b k x (omega arith)) in
     omega arith
 

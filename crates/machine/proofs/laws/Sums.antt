@@ -4,11 +4,11 @@ use mathlib.Core.Logic.{_⊎_, inl, inr, _≢_}
 use mathlib.Core.Path.{_≡_, refl, sym, ap, _∙_}
 use mathlib.Core.Bool.{Bool, true, false, cond}
 use native.Mathlib.Omega.{arith}
-use native.Mathlib.Nat.{le-refl, add-zero, mul-add, mul-zero, mul-one, mul-suc}
+use native.Mathlib.Nat.{add-zero, mul-add, mul-zero, mul-one, mul-suc}
 use Rattle.words.specs.Folds.{countTo, sumTo}
 use Rattle.words.proofs.Folds.{count-none}
 use Rattle.machine.proofs.laws.Sets.{same?}
-use Rattle.machine.proofs.laws.Counts.{step-most, count-past}
+use Rattle.machine.proofs.laws.Counts.{count-past}
 
 -- one term more of a product with a count
 count-times : (u c : ℕ) (b : Bool) → u * (c + cond b 1 0) ≡ u * c + cond b u 0
@@ -68,29 +68,19 @@ unfolding sumTo
 sum-most f b zero e = omega arith
 sum-most f b (suc n) e = let a = e n (omega arith) in let c = sum-most f b n (λ j l. e j (omega arith)) in let d = mul-suc b n in omega arith
 
--- a count is at most that over more numbers
-pub count-mono : (p : ℕ → Bool) (n t : ℕ) → n ≤ t → countTo p n ≤ countTo p t
-unfolding countTo
-count-mono p n zero h = let e : n ≡ 0 = omega arith in rw e (omega arith)
-count-mono p n (suc t) h = go (same? n (suc t)) (λ l. count-mono p n t l)
-  where
-    go : (n ≡ suc t) ⊎ (n ≢ suc t) → (n ≤ t → countTo p n ≤ countTo p t) → countTo p n ≤ countTo p t + cond (p t) 1 0
-    go (inl q) r = rw q (le-refl _)
-    go (inr q) r = let a = r (omega (arith, q)) in omega arith
-
 -- none passes the test
 pub count-zero : (p : ℕ → Bool) (n : ℕ) → ((j : ℕ) → j < n → p j ≡ false) → countTo p n ≡ 0
 count-zero p n e = count-past p 0 n (omega arith) (λ j _ l. e j l) ∙ count-none p
 
--- at most k passes the test
-pub count-one : (p : ℕ → Bool) (n k : ℕ) → ((j : ℕ) → j < n → j ≢ k → p j ≡ false) → countTo p n ≤ 1
+-- k alone passes the test
+pub count-one : (p : ℕ → Bool) (n k : ℕ) → k < n → p k ≡ true → ((j : ℕ) → j < n → j ≢ k → p j ≡ false) → countTo p n ≡ 1
 unfolding countTo
-count-one p zero k e = omega arith
-count-one p (suc n) k e = go (same? k n) (count-one p n k (λ j l. e j (omega arith)))
+count-one p zero k h t e = absurd (omega arith)
+count-one p (suc n) k h t e = go (same? k n) (λ l. count-one p n k l t (λ j m. e j (omega arith)))
   where
-    go : (k ≡ n) ⊎ (k ≢ n) → countTo p n ≤ 1 → countTo p n + cond (p n) 1 0 ≤ 1
-    go (inl q) r = let z = count-zero p n (λ j l. e j (omega arith) (λ y. omega arith)) in let o = step-most (p n) in omega arith
-    go (inr q) r = rw (e n (omega arith) (λ y. q (sym y))) (omega arith)
+    go : (k ≡ n) ⊎ (k ≢ n) → (k < n → countTo p n ≡ 1) → countTo p n + cond (p n) 1 0 ≡ 1
+    go (inl q) r = let z = count-zero p n (λ j l. e j (omega arith) (λ y. omega arith)) in rw (rw q at t) (omega arith)
+    go (inr q) r = let z = r (omega (arith, q)) in rw (e n (omega arith) (λ y. q (sym y))) (omega arith)
 
 -- sums with factors, and a count, as one sum
 pub sum-weights : (f g h : ℕ → ℕ) (p : ℕ → Bool) (u n : ℕ) →

@@ -1,7 +1,7 @@
--- 01, "Settle": a step of settle that is not refused lowers the bound, on every store that is not corrupt, reached or not; and it
--- completes as many operations as wait no more. Assumes nothing.
+-- 01, "Settle": what a step that is not refused makes of the potential, to the exact number; so a step of settle lowers the bound, on every
+-- store that is not corrupt, reached or not; and it completes as many operations as wait no more. Assumes nothing.
 use Prim.Native.Nat.{ℕ, _+_, _*_, _<_, _≤_}
-use mathlib.Core.Path.{_≡_}
+use mathlib.Core.Path.{_≡_, refl, ap, _∙_}
 use mathlib.Core.Bool.{true, false, not, true≢false}
 use lib.ListN.{length}
 use borrow.Author.Tests.{ne-eqb}
@@ -11,12 +11,14 @@ use Rattle.words.specs.Units.{blockOf}
 use Rattle.words.specs.Folds.{countTo}
 use Rattle.words.proofs.Folds.{count-most}
 use Rattle.queues.specs.Queues.{headReturn}
+use Rattle.lanes.specs.declared.Waiting.{Waiting}
+use Rattle.lanes.specs.declared.Waiting.the-variants.{Idle, Unserved, Served}
 use Rattle.lanes.specs.Waits.{idleOf}
 use Rattle.answers.specs.declared.Refusal.{Refusal}
-use Rattle.answers.specs.declared.Refusal.the-variants.{Unexpected}
 use Rattle.answers.specs.Refusals.{refusedOf}
 use Rattle.answers.specs.Completions.{doneIn}
 use Rattle.store.specs.declared.Store.{Store}
+use Rattle.store.specs.declared.Outcome.{Outcome}
 use Rattle.store.specs.Control.{busyOf}
 use Rattle.store.specs.Stores.{laneAt, blockAt}
 use Rattle.machine.specs.Corruption.{corruptOf}
@@ -30,9 +32,11 @@ use Rattle.machine.proofs.laws.Counts.{step-most}
 use Rattle.machine.proofs.laws.Sums.{count-sum, sum-most}
 use Rattle.machine.proofs.bounds.Sound.{sound}
 use Rattle.machine.proofs.bounds.SizedKeeps.{serve-move-lane, return-move-lane}
+use Rattle.machine.proofs.bounds.KeepsServe.{ordered-fewer}
+use Rattle.machine.proofs.settle.Potential.{tallyOf, potentialOf, ordersFor, sentIn, ExactSteps}
 use Rattle.machine.proofs.settle.FallsLane.{weight, weight-most, deliver-lane-takes}
-use Rattle.machine.proofs.settle.FallsStore.{bound-sum, Advancing, commit-lane-advances, commit-move-advances}
-use Rattle.machine.proofs.settle.FallsMove.{serve-move-lowers, return-move-lowers}
+use Rattle.machine.proofs.settle.FallsStore.{tally-sum, lanesWait, Advancing, commit-lane-advances, commit-move-advances}
+use Rattle.machine.proofs.settle.FallsMove.{serve-move-weighs, return-move-weighs}
 use Rattle.machine.proofs.rules.Rules.{serve-rule, return-rule, deliver-rule}
 use Rattle.machine.proofs.rules.RulesSettle.{step-rule}
 
@@ -40,51 +44,99 @@ use Rattle.machine.proofs.rules.RulesSettle.{step-rule}
 abbrev pub waitingIn : Store → ℕ
 waitingIn s = countTo (λ k. not (idleOf (laneAt s k .waiting))) (s .shape .n)
 
-refused-advances : (s : Store) (n : Refusal) → Advancing s (refuse n s)
-refused-advances s n e = absurd (true≢false e)
+-- 01's bound is the tally with 2n for an unserved operation
+bound-tally : (s : Store) → boundOf s ≡ tallyOf (2 * s .shape .n) s
+unfolding boundOf tallyOf
+bound-tally s = refl
 
-pub deliver-advances : (s : Store) (k : LaneNo) → Sized s → Advancing s (deliverOf s k)
-deliver-advances s k g =
-    deliver-rule (Advancing s) s k (refused-advances s)
+refused-advances : (u served orders : ℕ) (s : Store) (n : Refusal) → Advancing u served orders s (refuse n s)
+refused-advances u served orders s n e = absurd (true≢false e)
+
+deliver-advances : (u : ℕ) (s : Store) (k : LaneNo) → Sized s → Advancing u 0 0 s (deliverOf s k)
+deliver-advances u s k g =
+    deliver-rule (Advancing u 0 0 s) s k (refused-advances u 0 0 s)
     (λ e l.
     let a = sound s e in
     let h = a .n-high in
-    commit-lane-advances s k _ (g .lanes) h l
-    (deliver-lane-takes (2 * s .shape .n) (s .shape .c) (laneAt s (k .0)) (g .lane (k .0) (omega arith)) (a .lane (k .0) l .downs .short)))
+    commit-lane-advances u s k _ (g .lanes) h l
+    (deliver-lane-takes u (s .shape .c) (laneAt s (k .0)) (g .lane (k .0) (omega arith)) (a .lane (k .0) l .downs .short)))
 
-pub return-advances : (s : Store) (k : LaneNo) → Sized s → Advancing s (returnOf s k)
-return-advances s k g =
-    return-rule (Advancing s) s k (refused-advances s)
+return-advances : (u : ℕ) (s : Store) (k : LaneNo) → Sized s → Advancing u 0 0 s (returnOf s k)
+return-advances u s k g =
+    return-rule (Advancing u 0 0 s) s k (refused-advances u 0 0 s)
     (λ r.
     let x = headReturn (laneAt s (k .0) .returns) in
-    let h = sound s (r .sound) .n-high in
-    commit-move-advances s k (x .block) _ g h (r .lane)
+    let a = sound s (r .sound) in
+    commit-move-advances u 0 0 s k (x .block) _ g (a .n-high) (r .lane)
     (λ z. return-move-lane k x (laneAt s (k .0)) (blockAt s (x .block .0)) (s .control) (g .lane (k .0) z))
-    (return-move-lowers (s .shape .n) (2 * s .shape .n) k x (laneAt s (k .0)) (blockAt s (x .block .0)) (s .control) h (ne-eqb _ _ (r .filled))))
+    (return-move-weighs (s .shape .n) (s .shape .m) u k x (laneAt s (k .0)) (blockAt s (x .block .0)) (s .control) (a .n-high) (a .control) (ne-eqb _ _ (r .filled))))
 
-pub serve-advances : (s : Store) (k : LaneNo) → Sized s → Advancing s (serveOf s k)
-serve-advances s k g =
-    serve-rule (Advancing s) s k (refused-advances s)
+serve-advances : (u : ℕ) (s : Store) (k : LaneNo) → Sized s → Advancing u 1 (ordersFor s k (laneAt s (k .0) .waiting)) s (serveOf s k)
+serve-advances u s k g =
+    serve-rule (Advancing u 1 (ordersFor s k (laneAt s (k .0) .waiting)) s) s k (refused-advances u 1 _ s)
     (λ o r.
     let a = sound s (r .sound) in
-    commit-move-advances s k (blockOf (o .word)) _ g (a .n-high) (r .lane)
+    rw (ap (ordersFor s k) (r .unserved))
+    (commit-move-advances u 1 _ s k (blockOf (o .word)) _ g (a .n-high) (r .lane)
     (λ z. serve-move-lane k o (laneAt s (k .0)) (blockAt s (blockOf (o .word) .0)) (s .control) (g .lane (k .0) z))
-    (serve-move-lowers (s .shape .n) k o (laneAt s (k .0)) (blockAt s (blockOf (o .word) .0)) (s .control) (a .n-high) (r .lane)
-    (a .block (blockOf (o .word) .0) (a .lane (k .0) (r .lane) .unserved o (r .unserved))) (r .unserved) (r .free)))
+    (serve-move-weighs (s .shape .n) u k o (laneAt s (k .0)) (blockAt s (blockOf (o .word) .0)) (s .control) (a .n-high) (r .lane)
+    (a .block (blockOf (o .word) .0) (a .lane (k .0) (r .lane) .unserved o (r .unserved))) (r .unserved) (r .free))))
 
--- a step of settle, which is one of them or is refused
-step-advances : (s : Store) → Sized s → Advancing s (settleStep s)
-step-advances s g =
-    step-rule (Advancing s) s (λ k _ _. deliver-advances s (lane k) g) (λ _ k _ _. return-advances s (lane k) g) (λ _ _ k _ _. serve-advances s (lane k) g)
-    (λ _ _ _. refused-advances s Unexpected)
+-- a serve's orders are fewer than the lanes
+orders-fewer : (s : Store) (k : LaneNo) → corruptOf s ≡ false → k .0 < s .shape .n → ordersFor s k (laneAt s (k .0) .waiting) < s .shape .n
+orders-fewer s k e l = go (laneAt s (k .0) .waiting) refl
+  where
+    go : (w : Waiting) → laneAt s (k .0) .waiting ≡ w → ordersFor s k w < s .shape .n
+    go Idle q = omega arith
+    go (Unserved o) q =
+        let a = sound s e in
+        ordered-fewer (s .shape .n) (blockAt s (blockOf (o .word) .0)) k (o .command) (a .n-high) l (a .block (blockOf (o .word) .0) (a .lane (k .0) l .unserved o q))
+    go (Served o) q = omega arith
+
+-- a step of settle: what it makes of the potential, so of the bound, and of the operations that wait
+record Falling (s : Store) (r : Outcome) : Type 0 where
+  potential : potentialOf (r .store) + 1 ≡ potentialOf s + 2 * sentIn (s .control) (r .store .control)
+  bound : boundOf (r .store) < boundOf s
+  completes : length (doneIn (r .answer)) + lanesWait (r .store .lanes) (r .store .shape .n) ≡ lanesWait (s .lanes) (s .shape .n)
+
+-- .. where 2n for an operation served pays for its grant or service and for its orders
+falls : (served orders : ℕ) (s : Store) (r : Outcome) → ((u : ℕ) → Advancing u served orders s r) → 2 * served + 2 * orders ≤ 2 * s .shape .n * served →
+    refusedOf (r .answer) ≡ false → Falling s r
+falls served orders s r a f h =
+    let p = a 2 h in
+    let q = a (2 * s .shape .n) h in
+    let b = p .exact in
+    let c = q .exact in
+    let d = p .sends in
+    let i = bound-tally s in
+    let j = bound-tally (r .store) ∙ ap (λ (n : ℕ). tallyOf (2 * n) (r .store)) (p .lanes) in
+    record { potential = omega arith; bound = omega arith; completes = p .completes }
+
+-- it is a deliver, a return or a serve, or is refused
+step-falls : (s : Store) → corruptOf s ≡ false → Sized s → refusedOf (settleStep s .answer) ≡ false → Falling s (settleStep s)
+step-falls s e g =
+    step-rule (λ (r : Outcome). refusedOf (r .answer) ≡ false → Falling s r) s
+    (λ k _ _. falls 0 0 s _ (λ u. deliver-advances u s (lane k) g) (omega arith))
+    (λ _ k _ _. falls 0 0 s _ (λ u. return-advances u s (lane k) g) (omega arith))
+    (λ _ _ k l _. let f = orders-fewer s (lane k) e l in falls 1 _ s _ (λ u. serve-advances u s (lane k) g) (omega arith))
+    (λ _ _ _ h. absurd (true≢false h))
+
+pub steps-exact : (s : Store) → corruptOf s ≡ false → Sized s → ExactSteps s
+steps-exact s e g =
+    record {
+      deliver = λ k h. let a = deliver-advances 2 s k g h .exact in omega arith;
+      return = λ k h. let a = return-advances 2 s k g h .exact in omega arith;
+      serve = λ k h. let a = serve-advances 2 s k g h .exact in omega arith;
+      step = λ h. step-falls s e g h .potential;
+    }
 
 pub settle-falls : (s : Store) → corruptOf s ≡ false → Sized s → refusedOf (settleStep s .answer) ≡ false → boundOf (settleStep s .store) < boundOf s
-settle-falls s _ g h = step-advances s g h .falls
+settle-falls s e g h = step-falls s e g h .bound
 
 pub settle-completes : (s : Store) → corruptOf s ≡ false → Sized s → refusedOf (settleStep s .answer) ≡ false →
     length (doneIn (settleStep s .answer)) + waitingIn (settleStep s .store) ≡ waitingIn s
-settle-completes s _ g h =
-    let a = step-advances s g h .completes in
+settle-completes s e g h =
+    let a = step-falls s e g h .completes in
     let b = count-sum (λ k. not (idleOf (laneAt s k .waiting))) (s .shape .n) in
     let c = count-sum (λ k. not (idleOf (laneAt (settleStep s .store) k .waiting))) (settleStep s .store .shape .n) in
     omega arith
@@ -94,7 +146,7 @@ pub bound-most : (s : Store) → corruptOf s ≡ false → boundOf s ≤ 177
 bound-most s e =
     let a = sound s e in
     let h = a .n-high in
-    let b = bound-sum s in
+    let b = bound-tally s ∙ tally-sum (2 * s .shape .n) s in
     let c = sum-most (λ k. weight (2 * s .shape .n) (laneAt s k)) 22 (s .shape .n)
     (λ j l. let d = weight-most (2 * s .shape .n) (laneAt s j) (a .lane j l .returns .short) in omega arith) in
     let d = step-most (busyOf (s .control)) in

@@ -1,4 +1,4 @@
--- What a lane adds to settle's bound, and what a lane's part of a step makes of it. Assumes nothing.
+-- What a lane adds to settle's potential and bound, and what a lane's part of a step makes of it. Assumes nothing.
 use Prim.Native.Nat.{ℕ, zero, suc, _+_, _-_, _*_, _<_, _≤_}
 use mathlib.Core.Path.{_≡_, refl, sym, ap}
 use mathlib.Core.Bool.{Bool, true, false, not, cond, _&&_, true≢false}
@@ -143,9 +143,9 @@ completed-done k Waits = refl
 completed-done k Stepped = refl
 completed-done k (LaneAnswer.Refused x) = refl
 
--- a lane's part of a step that took a message of price x: the lane is lighter, and a completion is of the operation that waited
+-- a lane's part of a step that took a message of price x: the lane is lighter by 1 with it, and a completion is of the operation that waited
 pub record Taken (u x : ℕ) (l : Lane) (r : LaneStep) : Type 0 where
-  pub lighter : weight u (r .lane) < weight u l + x
+  pub lighter : weight u (r .lane) + 1 ≡ weight u l + x
   pub completes : completed (r .answer) + waits (r .lane) ≡ waits l
 
 -- .. unless it is refused
@@ -169,7 +169,9 @@ line-takes u y i x l e = let t = reply-takes u y (withLine i x l) e in record { 
 complete-takes : (u c : ℕ) (i : LineNo) (x : Line) (op : Op) (w : WordNo) (l : Lane) (o : Operation) → l .waiting ≡ Served o →
     Takes u 1 l (complete c i x op w l)
 unfolding complete weight
-complete-takes u c i x op w l o e h = record { lighter = omega arith; completes = sym (ap (λ (y : Waiting). cond (not (idleOf y)) 1 0) e) }
+complete-takes u c i x op w l o e h =
+    let a = ap (λ (y : Waiting). cond (unservedOf y) u 0) e in
+    record { lighter = omega arith; completes = sym (ap (λ (y : Waiting). cond (not (idleOf y)) 1 0) e) }
 
 module _ (u c : ℕ) (l : Lane) where
   update-takes : (a : BlockNo) (f : Found) → Takes u 2 l (updateAt f a l)

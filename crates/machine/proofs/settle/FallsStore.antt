@@ -1,4 +1,4 @@
--- Settle's bound is what the lanes and the control add; what a lane, or memory's part of a call, put back makes of it. Assumes nothing.
+-- Settle's tally is what the lanes and the control add; what a lane, or memory's part of a call, put back makes of it. Assumes nothing.
 use Prim.Native.Nat.{ℕ, _+_, _*_, _<_, _≤_}
 use mathlib.Core.Path.{_≡_, refl, sym, ap}
 use mathlib.Core.Bool.{Bool, true, false, cond, _&&_, true≢false}
@@ -19,6 +19,7 @@ use Rattle.answers.specs.Refusals.{refusedOf}
 use Rattle.answers.specs.Completions.{doneIn}
 use Rattle.store.specs.declared.Store.{Store}
 use Rattle.store.specs.declared.Control.{Control}
+use Rattle.store.specs.declared.Control.the-variants.{Free, Busy}
 use Rattle.store.specs.declared.Outcome.{Outcome}
 use Rattle.store.specs.Control.{busyOf}
 use Rattle.store.specs.Stores.{noLane, laneAt, withLane}
@@ -26,11 +27,12 @@ use Rattle.store.specs.LaneSets.{goesTo}
 use Rattle.machine.specs.declared.LaneStep.{LaneStep}
 use Rattle.machine.specs.declared.Move.{Move}
 use Rattle.machine.specs.Change.{commitLane, someFull, posted, postAll, commitMove, refusedIn, answerTo, movedStore}
-use Rattle.machine.specs.Settle.{downsOf, boundOf}
+use Rattle.machine.specs.Settle.{downsOf}
 use Rattle.machine.specs.Sized.{LaneSized, Sized}
 use Rattle.machine.proofs.laws.Tests.{and-right}
 use Rattle.machine.proofs.laws.Sums.{sum-same, sum-change, sum-grown, sum-weights}
 use Rattle.machine.proofs.bounds.Posts.{post-all-at}
+use Rattle.machine.proofs.settle.Potential.{tallyOf, sentIn}
 use Rattle.machine.proofs.bounds.SizedKeeps.{LanesSized, set-lane-sized, lanes-sized}
 use Rattle.machine.proofs.settle.FallsLane.{price, weight, waits, posted-weight, posted-waits, Takes, completed-done}
 use Rattle.machine.proofs.rules.Rules.{lane-rule, move-rule}
@@ -47,21 +49,29 @@ lanesWait ls n = sumTo (λ k. waits (getD ls k noLane)) n
 abbrev pub service : Control → ℕ
 service x = cond (busyOf x) 1 0
 
-pub bound-sum : (s : Store) → boundOf s ≡ lanesWeight (2 * s .shape .n) (s .lanes) (s .shape .n) + service (s .control)
-unfolding boundOf weight
-bound-sum s =
+pub tally-sum : (u : ℕ) (s : Store) → tallyOf u s ≡ lanesWeight u (s .lanes) (s .shape .n) + service (s .control)
+unfolding tallyOf weight
+tally-sum u s =
     let a = sum-weights (λ k. laneAt s k .returns .len) (λ k. downsOf false (laneAt s k .downs)) (λ k. downsOf true (laneAt s k .downs))
-    (λ k. unservedOf (laneAt s k .waiting)) (2 * s .shape .n) (s .shape .n) in
+    (λ k. unservedOf (laneAt s k .waiting)) u (s .shape .n) in
     omega arith
 
--- a step that lowers the bound, and completes as many operations as wait no more
-pub record Advances (s : Store) (r : Outcome) : Type 0 where
-  pub falls : boundOf (r .store) < boundOf s
+-- a step takes 1 from the tally; an operation that it serves adds 2 for u, and an order that it sends 2. It completes as many operations as
+-- wait no more
+pub record Advances (u served orders : ℕ) (s : Store) (r : Outcome) : Type 0 where
+  pub exact : tallyOf u (r .store) + 1 + u * served ≡ tallyOf u s + 2 * served + 2 * orders
+  pub sends : sentIn (s .control) (r .store .control) ≡ orders
+  pub lanes : r .store .shape .n ≡ s .shape .n
   pub completes : length (doneIn (r .answer)) + lanesWait (r .store .lanes) (r .store .shape .n) ≡ lanesWait (s .lanes) (s .shape .n)
 
 -- .. unless it is refused
-abbrev pub Advancing : Store → Outcome → Type 0
-Advancing s r = refusedOf (r .answer) ≡ false → Advances s r
+abbrev pub Advancing : ℕ → ℕ → ℕ → Store → Outcome → Type 0
+Advancing u served orders s r = refusedOf (r .answer) ≡ false → Advances u served orders s r
+
+-- a control that stays has sent nothing
+pub sent-none : (x : Control) → sentIn x x ≡ 0
+sent-none Free = refl
+sent-none (Busy v) = refl
 
 -- lane k is replaced
 set-sum : (w : Lane → ℕ) (ls : List Lane) (k n : ℕ) (l : Lane) → k < n → k < length ls →
@@ -72,20 +82,20 @@ set-sum w ls k n l h g =
     omega arith
 
 -- lane k after its part of a call
-pub commit-lane-advances : (s : Store) (k : LaneNo) (r : LaneStep) → length (s .lanes) ≡ 8 → s .shape .n ≤ 8 → k .0 < s .shape .n →
-    Takes (2 * s .shape .n) 0 (laneAt s (k .0)) r → Advancing s (commitLane s k r)
-commit-lane-advances s k r g h l t = lane-rule (Advancing s) s k r (λ _ _ e. absurd (true≢false e)) (λ e _. put e)
+pub commit-lane-advances : (u : ℕ) (s : Store) (k : LaneNo) (r : LaneStep) → length (s .lanes) ≡ 8 → s .shape .n ≤ 8 → k .0 < s .shape .n →
+    Takes u 0 (laneAt s (k .0)) r → Advancing u 0 0 s (commitLane s k r)
+commit-lane-advances u s k r g h l t = lane-rule (Advancing u 0 0 s) s k r (λ _ _ e. absurd (true≢false e)) (λ e _. put e)
   where
-    put : refusedIn (r .answer) ≡ false → Advances s (record { answer = answerTo k (r .answer); store = withLane s (k .0) (r .lane) })
+    put : refusedIn (r .answer) ≡ false → Advances u 0 0 s (record { answer = answerTo k (r .answer); store = withLane s (k .0) (r .lane) })
     put e =
         let p = t e .lighter in
         let q = t e .completes in
         let o = completed-done k (r .answer) in
-        let a = set-sum (weight (2 * s .shape .n)) (s .lanes) (k .0) (s .shape .n) (r .lane) l (omega arith) in
+        let a = set-sum (weight u) (s .lanes) (k .0) (s .shape .n) (r .lane) l (omega arith) in
         let b = set-sum waits (s .lanes) (k .0) (s .shape .n) (r .lane) l (omega arith) in
-        let c = bound-sum s in
-        let d = bound-sum (withLane s (k .0) (r .lane)) in
-        record { falls = omega arith; completes = omega arith }
+        let c = tally-sum u s in
+        let d = tally-sum u (withLane s (k .0) (r .lane)) in
+        record { exact = omega arith; sends = sent-none (s .control); lanes = refl; completes = omega arith }
 
 -- a message is sent to some lanes, none of them full
 module _ (to : List Bool) (x : DownMessage) (ls : List Lane) (n : ℕ) (h : n ≤ 8) (g : LanesSized ls) where
@@ -112,31 +122,35 @@ module _ (to : List Bool) (x : DownMessage) (ls : List Lane) (n : ℕ) (h : n �
           rw (post-all-at to x j ls (omega arith) (omega arith))
           (by-cond (λ (r : Lane). waits r ≡ waits (getD ls j noLane)) (goesTo to j) (posted x (getD ls j noLane)) (getD ls j noLane) (posted-waits x (getD ls j noLane)) refl)
 
--- memory's part of a call: the lane, what is sent and the service add less than before, and no operation completes
-pub record Lowers (n u : ℕ) (l : Lane) (x : Control) (v : Move) : Type 0 where
-  pub lighter : weight u (v .lane) + price (v .message .kind) * countTo (goesTo (v .to)) n + service (v .control) < weight u l + service x
+-- memory's part of a call: what the lane, the messages sent and the service add; no operation completes
+pub record Weighs (n u served orders : ℕ) (l : Lane) (x : Control) (v : Move) : Type 0 where
+  pub exact : weight u (v .lane) + price (v .message .kind) * countTo (goesTo (v .to)) n + service (v .control) + 1 + u * served ≡
+      weight u l + service x + 2 * served + 2 * orders
+  pub sends : sentIn x (v .control) ≡ orders
   pub waits-on : waits (v .lane) ≡ waits l
   pub completes-none : length (doneIn (v .answer)) ≡ 0
 
 -- the store after memory's part of a call
-pub commit-move-advances : (s : Store) (k : LaneNo) (a : BlockNo) (v : Move) → Sized s → s .shape .n ≤ 8 → k .0 < s .shape .n → (k .0 < 8 → LaneSized (v .lane)) →
-    (refusedOf (v .answer) ≡ false → Lowers (s .shape .n) (2 * s .shape .n) (laneAt s (k .0)) (s .control) v) → Advancing s (commitMove s k a v)
-commit-move-advances s k a v g h l f t = move-rule (Advancing s) s k a v (λ _ e. absurd (true≢false e)) (λ q o _. put (t q) o)
+pub commit-move-advances : (u served orders : ℕ) (s : Store) (k : LaneNo) (a : BlockNo) (v : Move) → Sized s → s .shape .n ≤ 8 → k .0 < s .shape .n →
+    (k .0 < 8 → LaneSized (v .lane)) → (refusedOf (v .answer) ≡ false → Weighs (s .shape .n) u served orders (laneAt s (k .0)) (s .control) v) →
+    Advancing u served orders s (commitMove s k a v)
+commit-move-advances u served orders s k a v g h l f t = move-rule (Advancing u served orders s) s k a v (λ _ e. absurd (true≢false e)) (λ q o _. put (t q) o)
   where
     after : List Lane
     after = set (s .lanes) (k .0) (v .lane)
 
-    put : Lowers (s .shape .n) (2 * s .shape .n) (laneAt s (k .0)) (s .control) v → someFull (v .to) after ≡ false → Advances s (record { answer = v .answer; store = movedStore s k a v })
+    put : Weighs (s .shape .n) u served orders (laneAt s (k .0)) (s .control) v → someFull (v .to) after ≡ false →
+        Advances u served orders s (record { answer = v .answer; store = movedStore s k a v })
     put w o =
         let z = set-lane-sized (s .lanes) (k .0) (v .lane) (lanes-sized s g) f in
         let i = g .lanes in
-        let p = w .lighter in
+        let p = w .exact in
         let q = w .waits-on in
         let d = w .completes-none in
-        let a₀ = set-sum (weight (2 * s .shape .n)) (s .lanes) (k .0) (s .shape .n) (v .lane) l (omega arith) in
+        let a₀ = set-sum (weight u) (s .lanes) (k .0) (s .shape .n) (v .lane) l (omega arith) in
         let b₀ = set-sum waits (s .lanes) (k .0) (s .shape .n) (v .lane) l (omega arith) in
-        let a₁ = post-weight (v .to) (v .message) after (s .shape .n) h z (2 * s .shape .n) o in
+        let a₁ = post-weight (v .to) (v .message) after (s .shape .n) h z u o in
         let b₁ = post-waits (v .to) (v .message) after (s .shape .n) h z in
-        let c₀ = bound-sum s in
-        let c₁ = bound-sum (movedStore s k a v) in
-        record { falls = omega arith; completes = omega arith }
+        let c₀ = tally-sum u s in
+        let c₁ = tally-sum u (movedStore s k a v) in
+        record { exact = omega arith; sends = w .sends; lanes = refl; completes = omega arith }
