@@ -20,7 +20,7 @@ use Rattle.machine.specs.Completion.{AlwaysSettles, SettleBound}
 use Rattle.machine.specs.Sized.{Sized}
 pub use Rattle.machine.proofs.Table.{cases}
 use Rattle.words.specs.declared.Shape.{Shape}
-use Rattle.machine.proofs.settle.Potential.{ExactSteps}
+use Rattle.machine.specs.Potential.{ExactSteps}
 use Rattle.machine.proofs.settle.Falls.{steps-exact}
 use Rattle.machine.proofs.settle.FallsSettle.{startAt, settle-count, repeat-ends, repeat-same}
 use Rattle.machine.proofs.store.OrderOfMemory.{order-of-memory}
@@ -43,7 +43,7 @@ use Rattle.machine.proofs.settle.LiveSettle.{always-settles, all-comple
 --               so a load gives the last word stored
 --   when-quiet  where no operation waits, no service is open and the queues are empty: every operation begun has completed; the store
 --               shows flat memory's words in every block; the four properties of the flags (000, section III)
---   lanes, lines, blocks   the store still has the opening's n, c and m
+--   same        the store still has the opening's shape: n, c and m
 pub demand-3 : Demand3
 demand-3 = order-of-memory
 
@@ -65,7 +65,7 @@ pub settle-bound : SettleBound
 settle-bound = settle-count
 
 -- To the exact step: each deliver, return and serve that isn't refused takes 1 from R + G + 2 × Q + S + 2 × U, and each order that a serve
--- sends adds 2 (`ExactSteps`, Potential.antt). The bound follows, since a serve's orders are fewer than the lanes.
+-- sends adds 2 (`ExactSteps`, specs/Potential.antt). The bound follows, since a serve's orders are fewer than the lanes.
 pub settle-step-exact : (s : Store) → corruptOf s ≡ false → Sized s → ExactSteps s
 settle-step-exact = steps-exact
 

@@ -1,5 +1,4 @@
 -- Settle's count falls under its bound, and no step of it is refused.
-pub mod Potential
 pub mod FallsLane
 pub mod FallsMove
 pub mod FallsStore

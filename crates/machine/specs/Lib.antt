@@ -17,4 +17,5 @@ pub mod Flat
 pub mod Flags
 pub mod Demand3
 pub mod Completion
+pub mod Potential
 pub mod Table

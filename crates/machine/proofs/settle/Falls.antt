@@ -33,7 +33,7 @@ use Rattle.machine.proofs.laws.Sums.{count-sum, sum-most}
 use Rattle.machine.proofs.bounds.Sound.{sound}
 use Rattle.machine.proofs.bounds.SizedKeeps.{serve-move-lane, return-move-lane}
 use Rattle.machine.proofs.bounds.KeepsServe.{ordered-fewer}
-use Rattle.machine.proofs.settle.Potential.{tallyOf, potentialOf, ordersFor, sentIn, ExactSteps}
+use Rattle.machine.specs.Potential.{tallyOf, potentialOf, ordersFor, sentIn, ExactSteps}
 use Rattle.machine.proofs.settle.FallsLane.{weight, weight-most, deliver-lane-takes}
 use Rattle.machine.proofs.settle.FallsStore.{tally-sum, lanesWait, Advancing, commit-lane-advances, commit-move-advances}
 use Rattle.machine.proofs.settle.FallsMove.{serve-move-weighs, return-move-weighs}

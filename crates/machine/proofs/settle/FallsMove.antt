@@ -31,7 +31,7 @@ use Rattle.machine.proofs.laws.Sums.{count-zero, count-one}
 use Rattle.machine.proofs.bounds.Sound.{BlockSound, ControlSound}
 use Rattle.machine.proofs.bounds.KeepsServe.{ordered-count}
 use Rattle.machine.proofs.rules.RulesMemory.{return-move-rule, serve-move-rule}
-use Rattle.machine.proofs.settle.Potential.{sentIn}
+use Rattle.machine.specs.Potential.{sentIn}
 use Rattle.machine.proofs.settle.FallsLane.{price, weight, waits, served-weight, served-waits, returned-weight}
 use Rattle.machine.proofs.settle.FallsStore.{service, sent-none, Weighs}
 

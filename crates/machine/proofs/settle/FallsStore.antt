@@ -32,7 +32,7 @@ use Rattle.machine.specs.Sized.{LaneSized, Sized}
 use Rattle.machine.proofs.laws.Tests.{and-right}
 use Rattle.machine.proofs.laws.Sums.{sum-same, sum-change, sum-grown, sum-weights}
 use Rattle.machine.proofs.bounds.Posts.{post-all-at}
-use Rattle.machine.proofs.settle.Potential.{tallyOf, sentIn}
+use Rattle.machine.specs.Potential.{tallyOf, sentIn}
 use Rattle.machine.proofs.bounds.SizedKeeps.{LanesSized, set-lane-sized, lanes-sized}
 use Rattle.machine.proofs.settle.FallsLane.{price, weight, waits, posted-weight, posted-waits, Takes, completed-done}
 use Rattle.machine.proofs.rules.Rules.{lane-rule, move-rule}

@@ -1,4 +1,4 @@
--- 01, "Settle", to the exact step: what each step makes of R + G + 2Q + S + 2U. This file only states it; Theorems.antt has the theorem.
+-- 01, "Settle", to the exact step: what each step makes of R + G + 2Q + S + 2U. This file only states it; proofs/Theorems.antt has the theorem.
 -- Assumes nothing.
 use Prim.Native.Nat.{ℕ, _+_, _*_}
 use mathlib.Core.Path.{_≡_}
