@@ -1,3 +1,4 @@
+-- `lanesteps::deliver_sound` meets its contract: 6, then the lane's part, refused or put back. Assumes nothing.
 use borrow.Author.Tests.{le-leb, lt-leb}
 use Rattle.commit.proofs.Bounds.{lane-bound, lines-bound}
 use Rattle.machine.specs.Change.{commitLane}
@@ -6,12 +7,6 @@ use Rattle.machine.proofs.rules.Rules.{answer-goes}
 use borrow.Author.Needs.{needs}
 use Rattle.lanesteps.proofs.deliver_sound.Statement.{statement}
 use Rattle.lanesteps.proofs.deliver_sound.Tie as tie
-use Rattle.lanesteps.proofs.deliver_sound.Reads as reads
-use Rattle.lanesteps.proofs.deliver_sound.Lts as lts
-use Rattle.answers.proofs.Answer.refused.Reads as Answer-refused-reads
-use Rattle.deliver.proofs.deliver_lane.Reads as deliver-lane-reads
-use Rattle.lanesteps.proofs.answer_to.Reads as answer-to-reads
-use Rattle.lanesteps.proofs.refused.Reads as refused-reads
 
 refused-requires : tie.Need-refused-requires
 refused-requires c κs = search needs
