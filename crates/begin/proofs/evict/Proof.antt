@@ -43,7 +43,19 @@ wait-requires c κs = search needs
 
 returns-2 : tie.Need-returns-2
 unfolding evict
-returns-2 c = rw (evict, ← c .before .before .before .before .before .before .before .eject .ensures, ← c .before .before .before .before .before .push .ensures, c .before .before .before .before .if1 .left, c .wait .ensures, c .before .read-of .ensures, c .before .before .invalidated .ensures)
+returns-2 c =
+    let at-if1 = c .before .before .before .before in
+    let at-push = at-if1 .before in
+    let at-eject = at-push .before .before in
+    rw (
+      evict,
+      ← at-eject .eject .ensures,
+      ← at-push .push .ensures,
+      at-if1 .if1 .left,
+      c .wait .ensures,
+      c .before .read-of .ensures,
+      c .before .before .invalidated .ensures,
+    )
 
 pub evict-spec : {M : Type 1} → statement M
 evict-spec =

@@ -27,7 +27,10 @@ slice-reshare-prefix-text-of : tie.Need-slice-reshare-prefix-text-of
 slice-reshare-prefix-text-of c = rw (c .before .reading .given .1) at (c .before .before .before .before .before .read-tape .ensures)
 
 slice-aggregate-text-of : tie.Need-slice-aggregate-text-of
-slice-aggregate-text-of c = sym (length-take-le _ _ (rw (c .before .before .reading .given .1) at (c .before .before .before .before .before .before .read-tape .ensures)))
+slice-aggregate-text-of c =
+    let at-reading = c .before .before in
+    let at-read-tape = at-reading .before .before .before .before in
+    sym (length-take-le _ _ (rw (at-reading .reading .given .1) at (at-read-tape .read-tape .ensures)))
 
 text-of-requires : tie.Need-text-of-requires
 text-of-requires c κs = search needs

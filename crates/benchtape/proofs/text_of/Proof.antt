@@ -17,13 +17,19 @@ same-length : tie.Need-same-length
 same-length c = search needs
 
 returns : tie.Need-returns
-returns c = told-length (c .before .before .before .before .before .before .before .before .before .args .tape .now) (c .before .before .before .before .before .before .before .before .before .args .out .now) (c .before .before .before .before .before .before .before .before .before .pre) (c .before .before .before .before .before .print .ensures) (c .before .answer .given .1)
+returns c =
+    let at-print = c .before .before .before .before .before in
+    let start = at-print .before .before .before .before in
+    told-length (start .args .tape .now) (start .args .out .now) (start .pre) (at-print .print .ensures) (c .before .answer .given .1)
 
 same-length-2 : tie.Need-same-length-2
 same-length-2 c = search needs
 
 returns-2 : tie.Need-returns-2
-returns-2 c = absurd (told-refused (c .before .before .before .before .before .before .before .before .args .tape .now) (c .before .before .before .before .before .before .before .before .args .out .now) (c .before .before .before .before .before .before .before .before .pre) (c .before .before .before .before .print .ensures) (c .enum-told .given .1))
+returns-2 c =
+    let at-print = c .before .before .before .before in
+    let start = at-print .before .before .before .before in
+    absurd (told-refused (start .args .tape .now) (start .args .out .now) (start .pre) (at-print .print .ensures) (c .enum-told .given .1))
 
 pub text-of-spec : {M : Type 1} → statement M
 text-of-spec =

@@ -40,11 +40,16 @@ mul-result-2 : tie.Need-mul-result-2
 mul-result-2 c = search needs
 
 mul-result-3 : tie.Need-mul-result-3
-mul-result-3 c = omega (arith, lanes-product _ _ (c .before .before .before .before .before .before .pre) (c .before .unserved-in .ensures .1))
+mul-result-3 c =
+    let at-unserved-in = c .before in
+    let start = at-unserved-in .before .before .before .before .before in
+    omega (arith, lanes-product _ _ (start .pre) (at-unserved-in .unserved-in .ensures .1))
 
 add-result-4 : tie.Need-add-result-4
 add-result-4 c =
-    omega (arith, lanes-product _ _ (c .before .before .before .before .before .before .pre) (c .before .unserved-in .ensures .1))
+    let at-unserved-in = c .before in
+    let start = at-unserved-in .before .before .before .before .before in
+    omega (arith, lanes-product _ _ (start .pre) (at-unserved-in .unserved-in .ensures .1))
 
 returns : tie.Need-returns
 unfolding boundOf

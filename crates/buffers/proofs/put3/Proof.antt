@@ -18,7 +18,11 @@ same-length : tie.Need-same-length
 same-length c = search needs
 
 returns : tie.Need-returns
-returns c = wrote-then _ _ _ _ (c .before .before .before .before .before .before .before .before .before .before .put .ensures) (wrote-then _ _ _ _ (c .before .before .before .before .before .before .put2 .ensures) (c .before .before .put3 .ensures) (omega arith)) (omega arith)
+returns c =
+    let at-put3 = c .before .before in
+    let at-put2 = at-put3 .before .before .before .before in
+    let at-put = at-put2 .before .before .before .before in
+    wrote-then _ _ _ _ (at-put .put .ensures) (wrote-then _ _ _ _ (at-put2 .put2 .ensures) (at-put3 .put3 .ensures) (omega arith)) (omega arith)
 
 pub put3-spec : {M : Type 1} → statement M
 put3-spec = tie.close (tie.spec put-requires put-requires-2 put-requires-3 same-length returns)

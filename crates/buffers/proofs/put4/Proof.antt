@@ -15,7 +15,10 @@ same-length : tie.Need-same-length
 same-length c = search needs
 
 returns : tie.Need-returns
-returns c = wrote-then _ _ _ _ (c .before .before .before .before .before .before .put .ensures) (c .before .before .put3 .ensures) (omega arith)
+returns c =
+    let at-put3 = c .before .before in
+    let at-put = at-put3 .before .before .before .before in
+    wrote-then _ _ _ _ (at-put .put .ensures) (at-put3 .put3 .ensures) (omega arith)
 
 pub put4-spec : {M : Type 1} → statement M
 put4-spec = tie.close (tie.spec put-requires put3-requires same-length returns)

@@ -72,7 +72,17 @@ loop-less : tie.Need-loop-less Inv-loop μ-loop
 loop-less c = omega arith
 
 loop-again : tie.Need-loop-again Inv-loop μ-loop
-loop-again c = (omega arith, ⊎-elim (λ w. w .3 ∙ turn-posts (c .before .before .before .before .before .before .before .before .before .before .before .before .before .args .v .to) (c .before .before .before .before .before .before .before .before .before .before .before .before .before .args .v .message) _ (c .before .before .loop .t) (c .before .before .loop .h) (c .before .before .loop .inv .1) (w .0 .taken) (w .2 .ensures)) (λ w. w .1 ∙ turn-passes (c .before .before .before .before .before .before .before .before .before .before .before .before .before .args .v .to) (c .before .before .before .before .before .before .before .before .before .before .before .before .before .args .v .message) _ (c .before .before .loop .t) (c .before .before .loop .h) (c .before .before .loop .inv .1) (w .0 .left)) (c .if2 .came))
+loop-again c =
+    let at-loop = c .before .before in
+    let at-l = at-loop .before .before .before .before .before in
+    let at-move-answer = at-l .before .before .before .before in
+    let args = at-move-answer .before .before .args in (
+      omega arith,
+      ⊎-elim
+          (λ w. w .3 ∙ turn-posts (args .v .to) (args .v .message) _ (at-loop .loop .t) (at-loop .loop .h) (at-loop .loop .inv .1) (w .0 .taken) (w .2 .ensures))
+          (λ w. w .1 ∙ turn-passes (args .v .to) (args .v .message) _ (at-loop .loop .t) (at-loop .loop .h) (at-loop .loop .inv .1) (w .0 .left))
+          (c .if2 .came),
+    )
 
 returns-2 : tie.Need-returns-2 Inv-loop μ-loop
 returns-2 c =

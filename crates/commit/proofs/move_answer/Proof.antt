@@ -33,18 +33,32 @@ some-full-requires c κs = search needs
 returns-2 : tie.Need-returns-2
 unfolding moveAnswer
 returns-2 c =
-    let h : length (c .before .before .before .before .before .before .before .before .args .ls) ≡ 8 = c .before .before .before .before .before .before .before .before .good .0 .1 .0 .1 in
-    let f : someFull (c .before .before .before .before .before .before .before .before .args .v .to) (set (c .before .before .before .before .before .before .before .before .args .ls) (c .before .before .before .before .before .before .before .before .args .k .0) (c .before .before .before .before .before .before .before .before .args .v .lane)) ≡ true =
-    sym (full-is (c .before .before .before .before .before .before .before .before .args .v .to) (c .before .before .before .before .before .before .before .before .args .ls) (c .before .before .before .before .before .before .before .before .args .k .0) (c .before .before .before .before .before .before .before .before .args .v .lane) (c .before .before .before .before .before .before .before .before .pre) h) ∙ (sym (c .before .some-full .ensures ∙ ap (λ (ns : List ℕ). fullBy (c .before .before .before .before .before .before .before .before .args .v .to) (set ns (c .before .before .before .before .before .before .before .before .args .k .0) (c .before .before .before .before .before .before .before .before .args .v .lane .downs .len))) (c .before .before .before .lengths .ensures)) ∙ c .if2 .taken) in
-    rw (moveAnswer, ← c .before .before .before .before .before .before .before .refused .ensures, c .before .before .before .before .before .before .if1 .left, f)
+    let at-lengths = c .before .before .before in
+    let at-if1 = at-lengths .before .before .before in
+    let at-refused = at-if1 .before in
+    let start = at-refused .before in
+    let h : length (start .args .ls) ≡ 8 = start .good .0 .1 .0 .1 in
+    let full = c .before .some-full .ensures ∙ ap (λ (ns : List ℕ). fullBy (start .args .v .to) (set ns (start .args .k .0) (start .args .v .lane .downs .len)))
+    (at-lengths .lengths .ensures) in
+    let f : someFull (start .args .v .to) (set (start .args .ls) (start .args .k .0) (start .args .v .lane)) ≡ true =
+    sym (full-is (start .args .v .to) (start .args .ls) (start .args .k .0) (start .args .v .lane) (start .pre) h) ∙
+    (sym full ∙ c .if2 .taken) in
+    rw (moveAnswer, ← at-refused .refused .ensures, at-if1 .if1 .left, f)
 
 returns-3 : tie.Need-returns-3
 unfolding moveAnswer
 returns-3 c =
-    let h : length (c .before .before .before .before .before .before .before .before .args .ls) ≡ 8 = c .before .before .before .before .before .before .before .before .good .0 .1 .0 .1 in
-    let f : someFull (c .before .before .before .before .before .before .before .before .args .v .to) (set (c .before .before .before .before .before .before .before .before .args .ls) (c .before .before .before .before .before .before .before .before .args .k .0) (c .before .before .before .before .before .before .before .before .args .v .lane)) ≡ false =
-    sym (full-is (c .before .before .before .before .before .before .before .before .args .v .to) (c .before .before .before .before .before .before .before .before .args .ls) (c .before .before .before .before .before .before .before .before .args .k .0) (c .before .before .before .before .before .before .before .before .args .v .lane) (c .before .before .before .before .before .before .before .before .pre) h) ∙ (sym (c .before .some-full .ensures ∙ ap (λ (ns : List ℕ). fullBy (c .before .before .before .before .before .before .before .before .args .v .to) (set ns (c .before .before .before .before .before .before .before .before .args .k .0) (c .before .before .before .before .before .before .before .before .args .v .lane .downs .len))) (c .before .before .before .lengths .ensures)) ∙ c .if2 .left) in
-    rw (moveAnswer, ← c .before .before .before .before .before .before .before .refused .ensures, c .before .before .before .before .before .before .if1 .left, f)
+    let at-lengths = c .before .before .before in
+    let at-if1 = at-lengths .before .before .before in
+    let at-refused = at-if1 .before in
+    let start = at-refused .before in
+    let h : length (start .args .ls) ≡ 8 = start .good .0 .1 .0 .1 in
+    let full = c .before .some-full .ensures ∙ ap (λ (ns : List ℕ). fullBy (start .args .v .to) (set ns (start .args .k .0) (start .args .v .lane .downs .len)))
+    (at-lengths .lengths .ensures) in
+    let f : someFull (start .args .v .to) (set (start .args .ls) (start .args .k .0) (start .args .v .lane)) ≡ false =
+    sym (full-is (start .args .v .to) (start .args .ls) (start .args .k .0) (start .args .v .lane) (start .pre) h) ∙
+    (sym full ∙ c .if2 .left) in
+    rw (moveAnswer, ← at-refused .refused .ensures, at-if1 .if1 .left, f)
 
 pub move-answer-spec : {M : Type 1} → statement M
 move-answer-spec = tie.close (tie.spec refused-requires returns cast-i lengths-requires array-write-lens some-full-requires returns-2 returns-3)

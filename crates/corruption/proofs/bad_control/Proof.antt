@@ -20,7 +20,10 @@ returns-3 : tie.Need-returns-3
 returns-3 c = search needs
 
 returns-4 : tie.Need-returns-4
-returns-4 c = rw (c .before .before .before .before .before .before .x .given .1, lt-leb _ _ (c .before .before .before .if1 .left), lt-leb _ _ (c .before .if2 .left))
+returns-4 c =
+    let at-if1 = c .before .before .before in
+    let at-x = at-if1 .before .before .before in
+    rw (at-x .x .given .1, lt-leb _ _ (at-if1 .if1 .left), lt-leb _ _ (c .before .if2 .left))
 
 pub bad-control-spec : {M : Type 1} → statement M
 bad-control-spec =

@@ -33,7 +33,22 @@ bad-blocks-requires c κs = let b = shape-bounds _ (sym (c .before .before .befo
 
 returns-4 : tie.Need-returns-4
 unfolding corruptOf anyOf
-returns-4 c = rw (corruptOf, anyOf, ← c .before .before .before .before .before .before .bad-shape .ensures, c .before .before .before .before .before .if1 .left, ← c .before .before .before .before .bad-control .ensures, c .before .before .before .if2 .left, ← c .before .before .bad-lanes .ensures, c .before .if3 .left, c .bad-blocks .ensures)
+returns-4 c =
+    let at-if2 = c .before .before .before in
+    let at-bad-control = at-if2 .before in
+    let at-if1 = at-bad-control .before in
+    let at-bad-shape = at-if1 .before in
+    rw (
+      corruptOf,
+      anyOf,
+      ← at-bad-shape .bad-shape .ensures,
+      at-if1 .if1 .left,
+      ← at-bad-control .bad-control .ensures,
+      at-if2 .if2 .left,
+      ← c .before .before .bad-lanes .ensures,
+      c .before .if3 .left,
+      c .bad-blocks .ensures,
+    )
 
 pub corrupt-spec : {M : Type 1} → statement M
 corrupt-spec =

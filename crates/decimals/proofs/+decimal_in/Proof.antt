@@ -71,7 +71,11 @@ decimal-in-returns-2 : (t : ℕ) → decimal-in-lts.Need-returns-2 (
   decimal-in-below t,
   decimal-in.Post,
 ) (decimal-in-at t) decimal-in.Post
-decimal-in-returns-2 t c = let h : 0 < c .before .before .before .before .before .before .before .args .more = omega arith in rw (decimal-one _ _ h (c .before .before .before .before .if2 .taken)) (c .before .before .put .ensures)
+decimal-in-returns-2 t c =
+    let at-if2 = c .before .before .before .before in
+    let start = at-if2 .before .before .before in
+    let h : 0 < start .args .more = omega arith in
+    rw (decimal-one _ _ h (at-if2 .if2 .taken)) (c .before .before .put .ensures)
 
 decimal-in-sub-decimal-in : (t : ℕ) → decimal-in-lts.Need-sub-decimal-in (
   put-reads.Asked,
@@ -111,7 +115,10 @@ decimal-in-put-requires-2 : (t : ℕ) → decimal-in-lts.Need-put-requires-2 (
   decimal-in-below t,
   decimal-in.Post,
 ) (decimal-in-at t) decimal-in.Post
-decimal-in-put-requires-2 t c κs = omega (arith, decimal-fits (c .before .before .before .before .before .before .before .before .args .more - 1) (c .before .before .before .before .before .before .before .before .args .n / 10))
+decimal-in-put-requires-2 t c κs =
+    let at-decimal-in = c .before .before .before in
+    let start = at-decimal-in .before .before .before .before .before in
+    omega (arith, decimal-fits (start .args .more - 1) (start .args .n / 10))
 
 decimal-in-same-length-2 : (t : ℕ) → decimal-in-lts.Need-same-length-2 (
   put-reads.Asked,
@@ -127,8 +134,15 @@ decimal-in-returns-3 : (t : ℕ) → decimal-in-lts.Need-returns-3 (
   decimal-in-below t,
   decimal-in.Post,
 ) (decimal-in-at t) decimal-in.Post
-decimal-in-returns-3 t c = let h : 0 < c .before .before .before .before .before .before .before .before .before .before .before .args .more = omega arith in
-    rw (decimal-more _ _ h (c .before .before .before .before .before .before .before .before .if2 .left)) (wrote-then _ _ _ _ (c .before .before .before .before .before .before .decimal-in .ensures) (c .before .before .put2 .ensures) (omega (arith, decimal-fits (c .before .before .before .before .before .before .before .before .before .before .before .args .more - 1) (c .before .before .before .before .before .before .before .before .before .before .before .args .n / 10))))
+decimal-in-returns-3 t c =
+    let at-put2 = c .before .before in
+    let at-decimal-in = at-put2 .before .before .before .before in
+    let at-if2 = at-decimal-in .before .before in
+    let start = at-if2 .before .before .before in
+    let h : 0 < start .args .more = omega arith in
+    rw (decimal-more _ _ h (at-if2 .if2 .left))
+    (wrote-then _ _ _ _ (at-decimal-in .decimal-in .ensures) (at-put2 .put2 .ensures)
+    (omega (arith, decimal-fits (start .args .more - 1) (start .args .n / 10))))
 
 pub +decimal-in-spec : {M : Type 1} → statement M
 +decimal-in-spec = close μ-decimal-in λ t. decimal-in-lts.spec (

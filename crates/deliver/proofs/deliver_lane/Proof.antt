@@ -23,13 +23,19 @@ refused-requires c κs = search needs
 
 returns-2 : tie.Need-returns-2
 unfolding deliverLane
-returns-2 c = let e = rw (c .before .before .before .before .before .take .ensures, ne-eqb _ _ (c .before .before .before .before .before .before .if1 .left)) at (c .before .before .receive .ensures) in
-    rw (deliverLane, ne-eqb _ _ (c .before .before .before .before .before .before .if1 .left), ← e, ← c .before .refused .ensures, c .if2 .taken)
+returns-2 c =
+    let at-take = c .before .before .before .before .before in
+    let at-if1 = at-take .before in
+    let e = rw (at-take .take .ensures, ne-eqb _ _ (at-if1 .if1 .left)) at (c .before .before .receive .ensures) in
+    rw (deliverLane, ne-eqb _ _ (at-if1 .if1 .left), ← e, ← c .before .refused .ensures, c .if2 .taken)
 
 returns-3 : tie.Need-returns-3
 unfolding deliverLane
-returns-3 c = let e = rw (c .before .before .before .before .before .take .ensures, ne-eqb _ _ (c .before .before .before .before .before .before .if1 .left)) at (c .before .before .receive .ensures) in
-    rw (deliverLane, ne-eqb _ _ (c .before .before .before .before .before .before .if1 .left), ← e, ← c .before .refused .ensures, c .if2 .left)
+returns-3 c =
+    let at-take = c .before .before .before .before .before in
+    let at-if1 = at-take .before in
+    let e = rw (at-take .take .ensures, ne-eqb _ _ (at-if1 .if1 .left)) at (c .before .before .receive .ensures) in
+    rw (deliverLane, ne-eqb _ _ (at-if1 .if1 .left), ← e, ← c .before .refused .ensures, c .if2 .left)
 
 pub deliver-lane-spec : {M : Type 1} → statement M
 deliver-lane-spec =

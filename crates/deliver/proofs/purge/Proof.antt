@@ -43,13 +43,20 @@ mul-y : tie.Need-mul-y
 mul-y c = search needs
 
 element-set-from-y : tie.Need-element-set-from-y
-element-set-from-y c = omega (arith, first-bound _ _ _ _ _ (sym (c .before .before .before .before .before .before .before .search .ensures) ∙ c .before .before .before .before .before .i .given .1))
+element-set-from-y c =
+    let at-i = c .before .before .before .before .before in
+    let at-search = at-i .before .before in
+    omega (arith, first-bound _ _ _ _ _ (sym (at-search .search .ensures) ∙ at-i .i .given .1))
 
 reply-requires-2 : tie.Need-reply-requires-2
 reply-requires-2 c κs = search needs
 
 returns-2 : tie.Need-returns-2
-returns-2 c = rw (← c .before .before .before .before .before .before .before .before .search .ensures, c .before .before .before .before .before .before .i .given .1, c .reply2 .ensures, c .before .before .purged .ensures, c .before .invalidated .ensures)
+returns-2 c =
+    let at-purged = c .before .before in
+    let at-i = at-purged .before .before .before .before in
+    let at-search = at-i .before .before in
+    rw (← at-search .search .ensures, at-i .i .given .1, c .reply2 .ensures, at-purged .purged .ensures, c .before .invalidated .ensures)
 
 pub purge-spec : {M : Type 1} → statement M
 purge-spec =

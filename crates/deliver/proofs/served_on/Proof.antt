@@ -17,7 +17,10 @@ block-requires : tie.Need-block-requires
 block-requires c κs = search needs
 
 returns : tie.Need-returns
-returns c = rw (c .before .before .before .before .before .before .x .given .1, eq-eqb _ _ (rw (c .before .before .before .block .ensures) at (c .if1 .taken)))
+returns c =
+    let at-block = c .before .before .before in
+    let at-x = at-block .before .before .before in
+    rw (at-x .x .given .1, eq-eqb _ _ (rw (at-block .block .ensures) at (c .if1 .taken)))
 
 returns-2 : tie.Need-returns-2
 returns-2 c = rw (c .enum-told .given .1)
@@ -26,7 +29,10 @@ returns-3 : tie.Need-returns-3
 returns-3 c = rw (c .enum-told2 .given .1)
 
 returns-4 : tie.Need-returns-4
-returns-4 c = rw (c .before .before .before .before .before .before .x .given .1, ne-eqb _ _ (rw (c .before .before .before .block .ensures) at (c .if1 .left)))
+returns-4 c =
+    let at-block = c .before .before .before in
+    let at-x = at-block .before .before .before in
+    rw (at-x .x .given .1, ne-eqb _ _ (rw (at-block .block .ensures) at (c .if1 .left)))
 
 pub served-on-spec : {M : Type 1} → statement M
 served-on-spec =

@@ -40,13 +40,20 @@ mul-x-2 : tie.Need-mul-x-2
 mul-x-2 c = search needs
 
 element-set-from-x : tie.Need-element-set-from-x
-element-set-from-x c = omega (arith, first-bound _ _ _ _ _ (sym (c .before .before .before .before .before .before .before .search .ensures) ∙ c .before .before .before .before .before .i .given .1))
+element-set-from-x c =
+    let at-i = c .before .before .before .before .before in
+    let at-search = at-i .before .before in
+    omega (arith, first-bound _ _ _ _ _ (sym (at-search .search .ensures) ∙ at-i .i .given .1))
 
 reply-requires-2 : tie.Need-reply-requires-2
 reply-requires-2 c κs = search needs
 
 returns-2 : tie.Need-returns-2
-returns-2 c = rw (← c .before .before .before .before .before .before .before .before .search .ensures, c .before .before .before .before .before .before .i .given .1, c .reply2 .ensures, c .before .words-return .ensures)
+returns-2 c =
+    let at-words-return = c .before in
+    let at-i = at-words-return .before .before .before .before .before in
+    let at-search = at-i .before .before in
+    rw (← at-search .search .ensures, at-i .i .given .1, c .reply2 .ensures, at-words-return .words-return .ensures)
 
 pub update-spec : {M : Type 1} → statement M
 update-spec =

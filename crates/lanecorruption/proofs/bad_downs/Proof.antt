@@ -23,7 +23,11 @@ bad-place-requires-2 : tie.Need-bad-place-requires-2
 bad-place-requires-2 c κs = search needs
 
 returns-3 : tie.Need-returns-3
-returns-3 c = simp (le-ltb _ _ (c .before .before .before .before .before .before .before .if1 .left), ← c .before .before .before .before .bad-place .ensures, c .before .before .before .if2 .left, c .bad-place2 .ensures)
+returns-3 c =
+    let at-if2 = c .before .before .before in
+    let at-bad-place = at-if2 .before in
+    let at-if1 = at-bad-place .before .before .before in
+    simp (le-ltb _ _ (at-if1 .if1 .left), ← at-bad-place .bad-place .ensures, at-if2 .if2 .left, c .bad-place2 .ensures)
 
 pub bad-downs-spec : {M : Type 1} → statement M
 bad-downs-spec =

@@ -24,21 +24,72 @@ bad-returns-requires c κs = search needs
 
 returns-3 : tie.Need-returns-3
 unfolding badLane anyOf
-returns-3 c = rw (badLane, anyOf, ← c .before .before .before .before .before .before .before .bad-lines .ensures, c .before .before .before .before .before .before .if1 .left, ← c .before .before .before .before .bad-order .ensures, c .before .before .before .if2 .left, ← c .before .bad-returns .ensures, c .if3 .taken)
+returns-3 c =
+    let at-if2 = c .before .before .before in
+    let at-bad-order = at-if2 .before in
+    let at-if1 = at-bad-order .before .before in
+    let at-bad-lines = at-if1 .before in
+    rw (
+      badLane,
+      anyOf,
+      ← at-bad-lines .bad-lines .ensures,
+      at-if1 .if1 .left,
+      ← at-bad-order .bad-order .ensures,
+      at-if2 .if2 .left,
+      ← c .before .bad-returns .ensures,
+      c .if3 .taken,
+    )
 
 bad-downs-requires : tie.Need-bad-downs-requires
 bad-downs-requires c κs = search needs
 
 returns-4 : tie.Need-returns-4
 unfolding badLane anyOf
-returns-4 c = rw (badLane, anyOf, ← c .before .before .before .before .before .before .before .before .before .before .bad-lines .ensures, c .before .before .before .before .before .before .before .before .before .if1 .left, ← c .before .before .before .before .before .before .before .bad-order .ensures, c .before .before .before .before .before .before .if2 .left, ← c .before .before .before .before .bad-returns .ensures, c .before .before .before .if3 .left, ← c .before .bad-downs .ensures, c .if4 .taken)
+returns-4 c =
+    let at-if3 = c .before .before .before in
+    let at-bad-returns = at-if3 .before in
+    let at-if2 = at-bad-returns .before .before in
+    let at-bad-order = at-if2 .before in
+    let at-if1 = at-bad-order .before .before in
+    let at-bad-lines = at-if1 .before in
+    rw (
+      badLane,
+      anyOf,
+      ← at-bad-lines .bad-lines .ensures,
+      at-if1 .if1 .left,
+      ← at-bad-order .bad-order .ensures,
+      at-if2 .if2 .left,
+      ← at-bad-returns .bad-returns .ensures,
+      at-if3 .if3 .left,
+      ← c .before .bad-downs .ensures,
+      c .if4 .taken,
+    )
 
 bad-waiting-requires : tie.Need-bad-waiting-requires
 bad-waiting-requires c κs = search needs
 
 returns-5 : tie.Need-returns-5
 unfolding badLane anyOf
-returns-5 c = rw (badLane, anyOf, ← c .before .before .before .before .before .before .before .before .before .before .before .bad-lines .ensures, c .before .before .before .before .before .before .before .before .before .before .if1 .left, ← c .before .before .before .before .before .before .before .before .bad-order .ensures, c .before .before .before .before .before .before .before .if2 .left, ← c .before .before .before .before .before .bad-returns .ensures, c .before .before .before .before .if3 .left, ← c .before .before .bad-downs .ensures, c .before .if4 .left, c .bad-waiting .ensures)
+returns-5 c =
+    let at-if3 = c .before .before .before .before in
+    let at-bad-returns = at-if3 .before in
+    let at-if2 = at-bad-returns .before .before in
+    let at-bad-order = at-if2 .before in
+    let at-if1 = at-bad-order .before .before in
+    let at-bad-lines = at-if1 .before in
+    rw (
+      badLane,
+      anyOf,
+      ← at-bad-lines .bad-lines .ensures,
+      at-if1 .if1 .left,
+      ← at-bad-order .bad-order .ensures,
+      at-if2 .if2 .left,
+      ← at-bad-returns .bad-returns .ensures,
+      at-if3 .if3 .left,
+      ← c .before .before .bad-downs .ensures,
+      c .before .if4 .left,
+      c .bad-waiting .ensures,
+    )
 
 pub bad-lane-spec : {M : Type 1} → statement M
 bad-lane-spec =

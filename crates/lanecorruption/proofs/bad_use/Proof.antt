@@ -31,7 +31,10 @@ array-copy-out-y : tie.Need-array-copy-out-y Inv-loop μ-loop
 array-copy-out-y c = search needs
 
 returns-2 : tie.Need-returns-2 Inv-loop μ-loop
-returns-2 c = simp (lt-leb _ _ (c .before .before .before .before .before .before .if1 .left)) (sym (any-true _ _ (c .before .before .before .before .before .loop .j) (eq-eqb _ _ (c .if2 .taken)) (omega arith)))
+returns-2 c =
+    let at-loop = c .before .before .before .before .before in
+    let at-if1 = at-loop .before in
+    simp (lt-leb _ _ (at-if1 .if1 .left)) (sym (any-true _ _ (at-loop .loop .j) (eq-eqb _ _ (c .if2 .taken)) (omega arith)))
 
 add-j : tie.Need-add-j Inv-loop μ-loop
 add-j c = search needs

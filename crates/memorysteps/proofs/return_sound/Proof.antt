@@ -28,7 +28,10 @@ refused-requires-2 c κs = search needs
 
 returns-2 : tie.Need-returns-2
 unfolding returnOf
-returns-2 c = rw (returnOf, c .before .before .before .before .before .before .before .pre, lt-leb _ _ (c .before .before .before .before .before .if1 .left), eq-eqb _ _ (c .before .if2 .taken), c .refused2 .ensures)
+returns-2 c =
+    let at-if1 = c .before .before .before .before .before in
+    let start = at-if1 .before .before in
+    rw (returnOf, start .pre, lt-leb _ _ (at-if1 .if1 .left), eq-eqb _ _ (c .before .if2 .taken), c .refused2 .ensures)
 
 element-copy-out-y : tie.Need-element-copy-out-y
 element-copy-out-y c = search needs
@@ -40,17 +43,41 @@ mul-b : tie.Need-mul-b
 mul-b c = search needs
 
 element-copy-out-b : tie.Need-element-copy-out-b
-element-copy-out-b c = head-bound _ _ (c .before .before .before .before .before .before .before .before .before .pre) (c .before .before .before .before .before .before .before .if1 .left) (c .before .before .before .if2 .left)
+element-copy-out-b c =
+    let at-if2 = c .before .before .before in
+    let at-if1 = at-if2 .before .before .before .before in
+    let start = at-if1 .before .before in
+    head-bound _ _ (start .pre) (at-if1 .if1 .left) (at-if2 .if2 .left)
 
 return-move-requires : tie.Need-return-move-requires
-return-move-requires c κs = (lane-bound _ _ (c .before .before .before .before .before .before .before .before .before .before .pre) (c .before .before .before .before .before .before .before .before .if1 .left), service-bound _ _ (c .before .before .before .before .before .before .before .before .before .before .pre) (c .before .before .before .before .before .before .before .before .if1 .left))
+return-move-requires c κs =
+    let at-if2 = c .before .before .before .before in
+    let at-if1 = at-if2 .before .before .before .before in
+    let start = at-if1 .before .before in
+    (lane-bound _ _ (start .pre) (at-if1 .if1 .left), service-bound _ _ (start .pre) (at-if1 .if1 .left))
 
 commit-move-requires : tie.Need-commit-move-requires
-commit-move-requires c κs = (lane-bound _ _ (c .before .before .before .before .before .before .before .before .before .before .before .pre) (c .before .before .before .before .before .before .before .before .before .if1 .left), head-bound _ _ (c .before .before .before .before .before .before .before .before .before .before .before .pre) (c .before .before .before .before .before .before .before .before .before .if1 .left) (c .before .before .before .before .before .if2 .left))
+commit-move-requires c κs =
+    let at-if2 = c .before .before .before .before .before in
+    let at-if1 = at-if2 .before .before .before .before in
+    let start = at-if1 .before .before in
+    (lane-bound _ _ (start .pre) (at-if1 .if1 .left), head-bound _ _ (start .pre) (at-if1 .if1 .left) (at-if2 .if2 .left))
 
 returns-3 : tie.Need-returns-3
 unfolding returnOf
-returns-3 c = rw (returnOf, c .before .before .before .before .before .before .before .before .before .before .before .before .pre, lt-leb _ _ (c .before .before .before .before .before .before .before .before .before .before .if1 .left), ne-eqb _ _ (c .before .before .before .before .before .before .if2 .left), ← c .before .return-move .ensures, c .commit-move .ensures)
+returns-3 c =
+    let at-return-move = c .before in
+    let at-if2 = at-return-move .before .before .before .before .before in
+    let at-if1 = at-if2 .before .before .before .before in
+    let start = at-if1 .before .before in
+    rw (
+      returnOf,
+      start .pre,
+      lt-leb _ _ (at-if1 .if1 .left),
+      ne-eqb _ _ (at-if2 .if2 .left),
+      ← at-return-move .return-move .ensures,
+      c .commit-move .ensures,
+    )
 
 pub return-sound-spec : {M : Type 1} → statement M
 return-sound-spec =

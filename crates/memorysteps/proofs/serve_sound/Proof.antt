@@ -48,21 +48,64 @@ mul-b : tie.Need-mul-b
 mul-b c = search needs
 
 element-copy-out-b : tie.Need-element-copy-out-b
-element-copy-out-b c = omega (arith, ready-bound _ _ (c .before .before .before .before .before .before .before .before .before .before .pre) (c .before .before .before .before .before .before .before .before .if1 .left) _ (sym (c .before .before .before .before .before .check-ready .ensures) ∙ c .before .before .before .o .given .1), ap (λ (x : BlockNo). x .0) (c .before .block .ensures))
+element-copy-out-b c =
+    let at-o = c .before .before .before in
+    let at-check-ready = at-o .before .before in
+    let at-if1 = at-check-ready .before .before .before in
+    let start = at-if1 .before .before in
+    let ready = ready-bound _ _ (start .pre) (at-if1 .if1 .left) _ (sym (at-check-ready .check-ready .ensures) ∙ at-o .o .given .1) in
+    omega (arith, ready, ap (λ (x : BlockNo). x .0) (c .before .block .ensures))
 
 serve-move-requires : tie.Need-serve-move-requires
-serve-move-requires c κs = lane-bound _ _ (c .before .before .before .before .before .before .before .before .before .before .before .pre) (c .before .before .before .before .before .before .before .before .before .if1 .left)
+serve-move-requires c κs =
+    let at-o = c .before .before .before .before in
+    let at-if1 = at-o .before .before .before .before .before in
+    let start = at-if1 .before .before in
+    lane-bound _ _ (start .pre) (at-if1 .if1 .left)
 
 commit-move-requires : tie.Need-commit-move-requires
-commit-move-requires c κs = (lane-bound _ _ (c .before .before .before .before .before .before .before .before .before .before .before .before .pre) (c .before .before .before .before .before .before .before .before .before .before .if1 .left), omega (arith, ready-bound _ _ (c .before .before .before .before .before .before .before .before .before .before .before .before .pre) (c .before .before .before .before .before .before .before .before .before .before .if1 .left) _ (sym (c .before .before .before .before .before .before .before .check-ready .ensures) ∙ c .before .before .before .before .before .o .given .1), ap (λ (x : BlockNo). x .0) (c .before .before .before .block .ensures)))
+commit-move-requires c κs =
+    let at-block = c .before .before .before in
+    let at-o = at-block .before .before in
+    let at-check-ready = at-o .before .before in
+    let at-if1 = at-check-ready .before .before .before in
+    let start = at-if1 .before .before in
+    let ready = ready-bound _ _ (start .pre) (at-if1 .if1 .left) _ (sym (at-check-ready .check-ready .ensures) ∙ at-o .o .given .1) in
+    (lane-bound _ _ (start .pre) (at-if1 .if1 .left), omega (arith, ready, ap (λ (x : BlockNo). x .0) (at-block .block .ensures)))
 
 returns-2 : tie.Need-returns-2
 unfolding serveOf
-returns-2 c = rw (serveOf, c .before .before .before .before .before .before .before .before .before .pre, lt-leb _ _ (c .before .before .before .before .before .before .before .if1 .left), ← c .before .before .before .before .check-ready .ensures, c .before .before .r .given .1, c .refused2 .ensures)
+returns-2 c =
+    let at-check-ready = c .before .before .before .before in
+    let at-if1 = at-check-ready .before .before .before in
+    let start = at-if1 .before .before in
+    rw (
+      serveOf,
+      start .pre,
+      lt-leb _ _ (at-if1 .if1 .left),
+      ← at-check-ready .check-ready .ensures,
+      c .before .before .r .given .1,
+      c .refused2 .ensures,
+    )
 
 returns-3 : tie.Need-returns-3
 unfolding serveOf
-returns-3 c = rw (serveOf, c .before .before .before .before .before .before .before .before .before .before .before .before .before .pre, lt-leb _ _ (c .before .before .before .before .before .before .before .before .before .before .before .if1 .left), ← c .before .before .before .before .before .before .before .before .check-ready .ensures, c .before .before .before .before .before .before .o .given .1, c .commit-move .ensures, c .before .serve-move .ensures, c .before .before .before .before .block .ensures)
+returns-3 c =
+    let at-block = c .before .before .before .before in
+    let at-o = at-block .before .before in
+    let at-check-ready = at-o .before .before in
+    let at-if1 = at-check-ready .before .before .before in
+    let start = at-if1 .before .before in
+    rw (
+      serveOf,
+      start .pre,
+      lt-leb _ _ (at-if1 .if1 .left),
+      ← at-check-ready .check-ready .ensures,
+      at-o .o .given .1,
+      c .commit-move .ensures,
+      c .before .serve-move .ensures,
+      at-block .block .ensures,
+    )
 
 pub serve-sound-spec : {M : Type 1} → statement M
 serve-sound-spec =

@@ -27,15 +27,25 @@ returns-2 c = let l = picture-length (c .before .before .before .before .before 
     rw (picture-short (c .before .before .before .before .before .args .s) (c .before .before .before .before .before .args .buffer .now) (sym (c .before .before .before .corrupt .ensures) ∙ c .before .before .if1 .left) (omega arith)) (refl, refl)
 
 write-lanes-requires : tie.Need-write-lanes-requires
-write-lanes-requires c κs = let s = sound (c .before .before .before .before .before .before .args .s) (sym (c .before .before .before .before .corrupt .ensures) ∙ c .before .before .before .if1 .left) in
-    let l = picture-length (c .before .before .before .before .before .before .args .s) in (s .n-high, s .c-high, omega arith)
+write-lanes-requires c κs =
+    let at-if1 = c .before .before .before in
+    let at-corrupt = at-if1 .before in
+    let start = at-corrupt .before .before in
+    let s = sound (start .args .s) (sym (at-corrupt .corrupt .ensures) ∙ at-if1 .if1 .left) in
+    let l = picture-length (start .args .s) in (s .n-high, s .c-high, omega arith)
 
 same-length : tie.Need-same-length
 same-length c = search needs
 
 returns-3 : tie.Need-returns-3
-returns-3 c = let l = picture-length (c .before .before .before .before .before .before .before .before .before .args .s) in
-    rw (picture-fits (c .before .before .before .before .before .before .before .before .before .args .s) (c .before .before .before .before .before .before .before .before .before .args .buffer .now) (sym (c .before .before .before .before .before .before .before .corrupt .ensures) ∙ c .before .before .before .before .before .before .if1 .left) (omega arith)) (rw (c .before .before .write-lanes .ensures .0), c .before .before .write-lanes .ensures .1)
+returns-3 c =
+    let at-write-lanes = c .before .before in
+    let at-if1 = at-write-lanes .before .before .before .before in
+    let at-corrupt = at-if1 .before in
+    let start = at-corrupt .before .before in
+    let l = picture-length (start .args .s) in
+    rw (picture-fits (start .args .s) (start .args .buffer .now) (sym (at-corrupt .corrupt .ensures) ∙ at-if1 .if1 .left) (omega arith))
+    (rw (at-write-lanes .write-lanes .ensures .0), at-write-lanes .write-lanes .ensures .1)
 
 pub picture-spec : {M : Type 1} → statement M
 picture-spec =

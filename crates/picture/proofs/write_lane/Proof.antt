@@ -41,7 +41,11 @@ loop-less : tie.Need-loop-less Inv-loop μ-loop
 loop-less c = search needs
 
 loop-again : tie.Need-loop-again Inv-loop μ-loop
-loop-again c = (omega arith, wrote-more _ _ (c .before .before .before .before .before .before .before .before .args .c) _ _ (c .before .before .before .before .before .before .loop .inv .1) (c .before .before .write-line .ensures) (omega arith) (c .before .before .before .before .before .before .before .before .pre .1))
+loop-again c =
+    let at-write-line = c .before .before in
+    let at-loop = at-write-line .before .before .before .before in
+    let start = at-loop .before .before in
+    (omega arith, wrote-more _ _ (start .args .c) _ _ (at-loop .loop .inv .1) (at-write-line .write-line .ensures) (omega arith) (start .pre .1))
 
 same-length : tie.Need-same-length Inv-loop μ-loop
 same-length c = wrote-kept (λ i. lineRecord (c .before .before .before .args .k .0) (getD (c .before .before .before .args .t4 .lines) i noLine)) (c .before .loop .i) (c .before .before .before .args .c) (c .before .before .before .args .buffer .now) (c .before .before .before .args .at) (c .before .loop .inv .1) (c .before .loop .inv .0) (c .before .before .before .pre .1)

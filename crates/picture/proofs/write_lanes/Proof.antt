@@ -41,7 +41,15 @@ loop-less : tie.Need-loop-less Inv-loop μ-loop
 loop-less c = search needs
 
 loop-again : tie.Need-loop-again Inv-loop μ-loop
-loop-again c = (omega arith, wrote-more (recordsAt (c .before .before .before .before .before .before .before .before .args .t2)) _ (c .before .before .before .before .before .before .before .before .args .t2 .shape .n) _ _ (c .before .before .before .before .before .before .loop .inv .1) (c .before .before .write-lane .ensures) (omega arith) (omega (arith, ap length (picture-lanes (c .before .before .before .before .before .before .before .before .args .t2)))))
+loop-again c =
+    let at-write-lane = c .before .before in
+    let at-loop = at-write-lane .before .before .before .before in
+    let start = at-loop .before .before in
+    let l = ap length (picture-lanes (start .args .t2)) in (
+      omega arith,
+      wrote-more (recordsAt (start .args .t2)) _ (start .args .t2 .shape .n) _ _ (at-loop .loop .inv .1)
+          (at-write-lane .write-lane .ensures) (omega arith) (omega arith),
+    )
 
 same-length : tie.Need-same-length Inv-loop μ-loop
 same-length c = wrote-kept (recordsAt (c .before .before .before .args .t2)) (c .before .loop .k) (c .before .before .before .args .t2 .shape .n) (c .before .before .before .args .buffer .now) 0 (c .before .loop .inv .1) (c .before .loop .inv .0) (omega (arith, ap length (picture-lanes (c .before .before .before .args .t2))))

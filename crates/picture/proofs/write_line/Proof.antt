@@ -29,9 +29,13 @@ same-length : tie.Need-same-length
 same-length c = search needs
 
 returns : tie.Need-returns
-returns c = let l = valid-length (c .before .before .before .before .before .before .args .k .0) (c .before .before .before .before .before .before .args .x) (c .before .before .before .before .if1 .taken) in
-    let e : c .before .before .before .before .before .before .args .at + 19 ≤ length (c .before .before .before .before .before .before .args .buffer .now) = omega arith in
-    rw (line-valid (c .before .before .before .before .before .before .args .k .0) (c .before .before .before .before .before .before .args .x) (c .before .before .before .before .if1 .taken)) (omega (arith, record-length (c .before .before .before .before .before .before .args .k .0) (c .before .before .before .before .before .before .args .x)), part-written _ _ _ (omega arith) (c .before .before .write-record .ensures))
+returns c =
+    let at-if1 = c .before .before .before .before in
+    let start = at-if1 .before .before in
+    let l = valid-length (start .args .k .0) (start .args .x) (at-if1 .if1 .taken) in
+    let e : start .args .at + 19 ≤ length (start .args .buffer .now) = omega arith in
+    rw (line-valid (start .args .k .0) (start .args .x) (at-if1 .if1 .taken))
+    (omega (arith, record-length (start .args .k .0) (start .args .x)), part-written _ _ _ (omega arith) (c .before .before .write-record .ensures))
 
 returns-2 : tie.Need-returns-2
 returns-2 c = rw (line-invalid (c .before .before .args .k .0) (c .before .before .args .x) (c .if1 .left)) (omega arith, written-none _ _)

@@ -38,7 +38,16 @@ same-length c = search needs
 
 returns : tie.Need-returns
 unfolding recordBytes
-returns c = (wrote-then _ _ _ _ (c .before .before .before .before .before .before .before .before .before .before .before .before .before .before .before .before .before .before .before .before .before .before .put3 .ensures) (wrote-then _ _ _ _ (c .before .before .before .before .before .before .before .before .before .before .before .before .before .before .before .before .before .write-word .ensures) (wrote-then _ _ _ _ (c .before .before .before .before .before .before .before .before .before .before .before .before .write-word2 .ensures) (wrote-then _ _ _ _ (c .before .before .before .before .before .before .before .write-word3 .ensures) (c .before .before .write-word4 .ensures) (omega arith)) (omega arith)) (omega arith)) (omega arith)) .1
+returns c =
+    let at-write-word4 = c .before .before in
+    let at-write-word3 = at-write-word4 .before .before .before .before .before in
+    let at-write-word2 = at-write-word3 .before .before .before .before .before in
+    let at-write-word = at-write-word2 .before .before .before .before .before in
+    let at-put3 = at-write-word .before .before .before .before .before in
+    let from-3 = wrote-then _ _ _ _ (at-write-word3 .write-word3 .ensures) (at-write-word4 .write-word4 .ensures) (omega arith) in
+    let from-2 = wrote-then _ _ _ _ (at-write-word2 .write-word2 .ensures) from-3 (omega arith) in
+    let from-1 = wrote-then _ _ _ _ (at-write-word .write-word .ensures) from-2 (omega arith) in
+    (wrote-then _ _ _ _ (at-put3 .put3 .ensures) from-1 (omega arith)) .1
 
 pub write-record-spec : {M : Type 1} → statement M
 write-record-spec =

@@ -49,8 +49,14 @@ active-requires c κs = search needs
 
 returns-3 : tie.Need-returns-3 Inv-loop μ-loop
 unfolding quietOf
-returns-3 c = let h = any-true (λ i. activeOf (laneAt (c .before .before .before .before .before .before .before .before .args .t1) i)) (c .before .before .before .before .before .before .before .before .args .t1 .shape .n) (c .before .before .before .before .before .loop .k) (sym (c .before .active .ensures) ∙ c .if3 .taken) (omega arith) in
-    rw (quietOf, ← c .before .before .before .before .before .before .before .busy .ensures, c .before .before .before .before .before .before .if1 .left, h)
+returns-3 c =
+    let at-loop = c .before .before .before .before .before in
+    let at-if1 = at-loop .before in
+    let at-busy = at-if1 .before in
+    let start = at-busy .before in
+    let h = any-true (λ i. activeOf (laneAt (start .args .t1) i)) (start .args .t1 .shape .n) (at-loop .loop .k)
+    (sym (c .before .active .ensures) ∙ c .if3 .taken) (omega arith) in
+    rw (quietOf, ← at-busy .busy .ensures, at-if1 .if1 .left, h)
 
 add-k : tie.Need-add-k Inv-loop μ-loop
 add-k c = search needs

@@ -34,7 +34,13 @@ last-requires-2 : tie.Need-last-requires-2
 last-requires-2 c κs = search needs
 
 returns-2 : tie.Need-returns-2
-returns-2 c = c .last2 .ensures ∙ parse-truncated (c .before .before .before .before .before .before .before .before .before .args .tape .now) (c .before .before .before .before .before .form-of .ensures) (sym (c .before .before .before .before .known .ensures) ∙ c .before .before .before .if2 .taken) (rw (rest-length 1 (c .before .before .before .before .before .before .before .before .before .args .tape .now)) at (c .before .if3 .taken))
+returns-2 c =
+    let at-if2 = c .before .before .before in
+    let at-known = at-if2 .before in
+    let at-form-of = at-known .before in
+    let start = at-form-of .before .before .before .before in
+    c .last2 .ensures ∙ parse-truncated (start .args .tape .now) (at-form-of .form-of .ensures)
+    (sym (at-known .known .ensures) ∙ at-if2 .if2 .taken) (rw (rest-length 1 (start .args .tape .now)) at (c .before .if3 .taken))
 
 fields-requires : tie.Need-fields-requires
 fields-requires c κs = rw (c .before .before .before .before .form-of .ensures) (rw (c .before .before .before .before .form-of .ensures) at (c .if3 .left))
@@ -43,13 +49,24 @@ add-t14 : tie.Need-add-t14
 add-t14 c = search needs
 
 returns-3 : tie.Need-returns-3
-returns-3 c = parse-whole (c .before .before .before .before .before .before .before .before .before .args .tape .now) (c .before .before .before .before .before .form-of .ensures) (sym (c .before .before .before .before .known .ensures) ∙ c .before .before .before .if2 .taken) (rw (rest-length 1 (c .before .before .before .before .before .before .before .before .before .args .tape .now)) at (c .before .if3 .left)) (c .fields .ensures ∙ rw (rest-is 1 (c .before .before .before .before .before .before .before .before .before .args .tape .now)))
+returns-3 c =
+    let at-if2 = c .before .before .before in
+    let at-known = at-if2 .before in
+    let at-form-of = at-known .before in
+    let start = at-form-of .before .before .before .before in
+    parse-whole (start .args .tape .now) (at-form-of .form-of .ensures) (sym (at-known .known .ensures) ∙ at-if2 .if2 .taken)
+    (rw (rest-length 1 (start .args .tape .now)) at (c .before .if3 .left))
+    (c .fields .ensures ∙ rw (rest-is 1 (start .args .tape .now)))
 
 last-requires-3 : tie.Need-last-requires-3
 last-requires-3 c κs = search needs
 
 returns-4 : tie.Need-returns-4
-returns-4 c = c .last3 .ensures ∙ parse-unknown (c .before .before .before .before .before .before .before .args .tape .now) (c .before .before .before .form-of .ensures) (sym (c .before .before .known .ensures) ∙ c .before .if2 .left)
+returns-4 c =
+    let at-form-of = c .before .before .before in
+    let start = at-form-of .before .before .before .before in
+    c .last3 .ensures ∙ parse-unknown (start .args .tape .now) (at-form-of .form-of .ensures)
+    (sym (c .before .before .known .ensures) ∙ c .before .if2 .left)
 
 pub parse-spec : {M : Type 1} → statement M
 parse-spec =

@@ -17,7 +17,13 @@ same-length : tie.Need-same-length
 same-length c = search needs
 
 returns-2 : tie.Need-returns-2
-returns-2 c = rw (print-fits (c .before .before .before .before .before .before .before .before .args .tape .now) (c .before .before .before .before .before .before .before .before .args .out .now) (c .before .before .before .before .before .if1 .left), printed-long (c .before .before .before .before .before .before .before .before .args .tape .now) (c .before .before .before .before .before .before .before .before .args .out .now) (c .before .before .before .before .if2 .taken)) (ap Length (c .before .before .too-long-into .ensures .0 ∙ zero-add _), c .before .before .too-long-into .ensures .1)
+returns-2 c =
+    let at-if2 = c .before .before .before .before in
+    let at-if1 = at-if2 .before in
+    let start = at-if1 .before .before .before in
+    let fits = print-fits (start .args .tape .now) (start .args .out .now) (at-if1 .if1 .left) in
+    rw (fits, printed-long (start .args .tape .now) (start .args .out .now) (at-if2 .if2 .taken))
+    (ap Length (c .before .before .too-long-into .ensures .0 ∙ zero-add _), c .before .before .too-long-into .ensures .1)
 
 print-records-requires : tie.Need-print-records-requires
 print-records-requires c κs = search needs
@@ -26,7 +32,11 @@ same-length-2 : tie.Need-same-length-2
 same-length-2 c = search needs
 
 returns-3 : tie.Need-returns-3
-returns-3 c = rw (print-fits (c .before .before .before .before .before .before .before .before .args .tape .now) (c .before .before .before .before .before .before .before .before .args .out .now) (c .before .before .before .before .before .if1 .left)) (rw (c .before .before .print-records .ensures .0), c .before .before .print-records .ensures .1)
+returns-3 c =
+    let at-if1 = c .before .before .before .before .before in
+    let start = at-if1 .before .before .before in
+    rw (print-fits (start .args .tape .now) (start .args .out .now) (at-if1 .if1 .left))
+    (rw (c .before .before .print-records .ensures .0), c .before .before .print-records .ensures .1)
 
 pub print-spec : {M : Type 1} → statement M
 print-spec =

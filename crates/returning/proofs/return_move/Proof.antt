@@ -21,14 +21,39 @@ count-answer-requires c κs = search needs
 
 returns : tie.Need-returns
 unfolding returnMove
-returns c = rw (returnMove, ← c .before .before .before .is-answer .ensures, c .before .before .if1 .taken, c .count-answer .ensures, c .before .before .before .before .taken-block .ensures, c .before .before .before .before .before .with-returns .ensures, c .before .before .before .before .before .before .before .take .ensures)
+returns c =
+    let at-is-answer = c .before .before .before in
+    let at-taken-block = at-is-answer .before in
+    let at-with-returns = at-taken-block .before in
+    let at-take = at-with-returns .before .before in
+    rw (
+      returnMove,
+      ← at-is-answer .is-answer .ensures,
+      c .before .before .if1 .taken,
+      c .count-answer .ensures,
+      at-taken-block .taken-block .ensures,
+      at-with-returns .with-returns .ensures,
+      at-take .take .ensures,
+    )
 
 send-nothing-requires : tie.Need-send-nothing-requires
 send-nothing-requires c κs = search needs
 
 returns-2 : tie.Need-returns-2
 unfolding returnMove
-returns-2 c = rw (returnMove, ← c .before .before .is-answer .ensures, c .before .if1 .left, c .send-nothing .ensures, c .before .before .before .taken-block .ensures, c .before .before .before .before .with-returns .ensures, c .before .before .before .before .before .before .take .ensures)
+returns-2 c =
+    let at-taken-block = c .before .before .before in
+    let at-with-returns = at-taken-block .before in
+    let at-take = at-with-returns .before .before in
+    rw (
+      returnMove,
+      ← c .before .before .is-answer .ensures,
+      c .before .if1 .left,
+      c .send-nothing .ensures,
+      at-taken-block .taken-block .ensures,
+      at-with-returns .with-returns .ensures,
+      at-take .take .ensures,
+    )
 
 pub return-move-spec : {M : Type 1} → statement M
 return-move-spec =

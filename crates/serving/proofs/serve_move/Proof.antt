@@ -38,7 +38,24 @@ bare-down-requires c κs = search needs
 
 returns-2 : tie.Need-returns-2
 unfolding serveMove
-returns-2 c = rw (serveMove, ← c .before .before .before .before .before .before .before .before .ordered-lanes .ensures, ← c .before .before .before .before .before .before .before .count .ensures, ne-eqb _ _ (c .before .before .before .before .if1 .left), c .bare-down .ensures, c .before .block .ensures, c .before .before .before .order-kind .ensures, c .before .before .before .before .before .with-waiting .ensures, c .before .before .before .before .before .before .service-for .ensures)
+returns-2 c =
+    let at-order-kind = c .before .before .before in
+    let at-if1 = at-order-kind .before in
+    let at-with-waiting = at-if1 .before in
+    let at-service-for = at-with-waiting .before in
+    let at-count = at-service-for .before in
+    let at-ordered-lanes = at-count .before in
+    rw (
+      serveMove,
+      ← at-ordered-lanes .ordered-lanes .ensures,
+      ← at-count .count .ensures,
+      ne-eqb _ _ (at-if1 .if1 .left),
+      c .bare-down .ensures,
+      c .before .block .ensures,
+      at-order-kind .order-kind .ensures,
+      at-with-waiting .with-waiting .ensures,
+      at-service-for .service-for .ensures,
+    )
 
 pub serve-move-spec : {M : Type 1} → statement M
 serve-move-spec =

@@ -40,23 +40,53 @@ refuse-requires : tie.Need-refuse-requires Inv-loop μ-loop
 refuse-requires c κs = search needs
 
 returns : tie.Need-returns Inv-loop μ-loop
-returns c = let g = going-refused _ _ _ _ (c .before .before .before .before .before .before .before .loop .inv) (sym (c .before .before .before .before .before .before .quiet .ensures) ∙ not-true (c .before .before .before .before .before .before .quiet .result) (c .before .before .before .before .before .if1 .taken)) (ap (λ (x : Outcome). refusedOf (x .answer)) (sym (c .before .before .before .before .step .ensures)) ∙ (sym (c .before .before .before .refused .ensures) ∙ c .before .before .if2 .taken)) in
-    (c .refuse .ensures .0 ∙ rw (c .before .refusal .ensures, c .before .before .before .before .step .ensures, g), c .refuse .ensures .1)
+returns c =
+    let at-refused = c .before .before .before in
+    let at-step = at-refused .before in
+    let at-if1 = at-step .before in
+    let at-quiet = at-if1 .before in
+    let at-loop = at-quiet .before in
+    let busy = sym (at-quiet .quiet .ensures) ∙ not-true (at-quiet .quiet .result) (at-if1 .if1 .taken) in
+    let answer = ap (λ (x : Outcome). refusedOf (x .answer)) (sym (at-step .step .ensures)) ∙ (sym (at-refused .refused .ensures) ∙ c .before .before .if2 .taken) in
+    let g = going-refused _ _ _ _ (at-loop .loop .inv) busy answer in
+    (c .refuse .ensures .0 ∙ rw (c .before .refusal .ensures, at-step .step .ensures, g), c .refuse .ensures .1)
 
 list-requires : tie.Need-list-requires Inv-loop μ-loop
 list-requires c κs = rw (c .before .before .step .ensures) (going-fits _ _ _ _ (c .before .before .before .before .before .loop .inv) (ap (λ (x : Outcome). refusedOf (x .answer)) (sym (c .before .before .step .ensures)) ∙ (sym (c .before .refused .ensures) ∙ c .if2 .left)))
 
 add-count : tie.Need-add-count Inv-loop μ-loop
-add-count c = let n = going-next _ _ _ _ (c .before .before .before .before .before .before .before .loop .inv) (sym (c .before .before .before .before .before .before .quiet .ensures) ∙ not-true (c .before .before .before .before .before .before .quiet .result) (c .before .before .before .before .before .if1 .taken)) (ap (λ (x : Outcome). refusedOf (x .answer)) (sym (c .before .before .before .before .step .ensures)) ∙ (sym (c .before .before .before .refused .ensures) ∙ c .before .before .if2 .left)) in
+add-count c =
+    let at-refused = c .before .before .before in
+    let at-step = at-refused .before in
+    let at-if1 = at-step .before in
+    let at-quiet = at-if1 .before in
+    let at-loop = at-quiet .before in
+    let start = at-loop .before .before in
+    let busy = sym (at-quiet .quiet .ensures) ∙ not-true (at-quiet .quiet .result) (at-if1 .if1 .taken) in
+    let answer = ap (λ (x : Outcome). refusedOf (x .answer)) (sym (at-step .step .ensures)) ∙ (sym (at-refused .refused .ensures) ∙ c .before .before .if2 .left) in
+    let n = going-next _ _ _ _ (at-loop .loop .inv) busy answer in
     let b = n .bounded in
-    let m = bound-most _ (c .before .before .before .before .before .before .before .before .before .pre) in
+    let m = bound-most _ (start .pre) in
     omega arith
 
 loop-less : tie.Need-loop-less Inv-loop μ-loop
-loop-less c = rw (c .before .before .before .before .step .ensures) (settle-falls _ (c .before .before .before .before .before .before .before .loop .inv .sound) (c .before .before .before .before .before .before .before .loop .inv .sized) (ap (λ (x : Outcome). refusedOf (x .answer)) (sym (c .before .before .before .before .step .ensures)) ∙ (sym (c .before .before .before .refused .ensures) ∙ c .before .before .if2 .left)))
+loop-less c =
+    let at-refused = c .before .before .before in
+    let at-step = at-refused .before in
+    let at-loop = at-step .before .before .before in
+    let answer = ap (λ (x : Outcome). refusedOf (x .answer)) (sym (at-step .step .ensures)) ∙ (sym (at-refused .refused .ensures) ∙ c .before .before .if2 .left) in
+    rw (at-step .step .ensures) (settle-falls _ (at-loop .loop .inv .sound) (at-loop .loop .inv .sized) answer)
 
 loop-again : tie.Need-loop-again Inv-loop μ-loop
-loop-again c = rw (c .before .list .ensures, c .before .before .before .before .step .ensures) (going-next _ _ _ _ (c .before .before .before .before .before .before .before .loop .inv) (sym (c .before .before .before .before .before .before .quiet .ensures) ∙ not-true (c .before .before .before .before .before .before .quiet .result) (c .before .before .before .before .before .if1 .taken)) (ap (λ (x : Outcome). refusedOf (x .answer)) (sym (c .before .before .before .before .step .ensures)) ∙ (sym (c .before .before .before .refused .ensures) ∙ c .before .before .if2 .left)))
+loop-again c =
+    let at-refused = c .before .before .before in
+    let at-step = at-refused .before in
+    let at-if1 = at-step .before in
+    let at-quiet = at-if1 .before in
+    let at-loop = at-quiet .before in
+    let busy = sym (at-quiet .quiet .ensures) ∙ not-true (at-quiet .quiet .result) (at-if1 .if1 .taken) in
+    let answer = ap (λ (x : Outcome). refusedOf (x .answer)) (sym (at-step .step .ensures)) ∙ (sym (at-refused .refused .ensures) ∙ c .before .before .if2 .left) in
+    rw (c .before .list .ensures, at-step .step .ensures) (going-next _ _ _ _ (at-loop .loop .inv) busy answer)
 
 returns-2 : tie.Need-returns-2 Inv-loop μ-loop
 returns-2 c = (going-quiet _ _ _ _ (c .before .before .loop .inv) (sym (c .before .quiet .ensures) ∙ not-false (c .before .quiet .result) (c .if1 .left)), omega (arith, c .before .before .loop .inv .bounded))

@@ -34,14 +34,42 @@ take-step-requires-3 c κs = search needs
 
 returns-3 : tie.Need-returns-3
 unfolding settleStep
-returns-3 c = rw (settleStep, ← c .before .before .before .before .before .before .lowest .ensures, le-ltb _ _ (c .before .before .before .before .before .if1 .left), ← c .before .before .before .before .lowest2 .ensures, le-ltb _ _ (c .before .before .before .if2 .left), ← c .before .before .lowest3 .ensures, lt-ltb _ _ (c .before .if3 .taken), c .take-step3 .ensures)
+returns-3 c =
+    let at-if2 = c .before .before .before in
+    let at-lowest2 = at-if2 .before in
+    let at-if1 = at-lowest2 .before in
+    let at-lowest = at-if1 .before in
+    rw (
+      settleStep,
+      ← at-lowest .lowest .ensures,
+      le-ltb _ _ (at-if1 .if1 .left),
+      ← at-lowest2 .lowest2 .ensures,
+      le-ltb _ _ (at-if2 .if2 .left),
+      ← c .before .before .lowest3 .ensures,
+      lt-ltb _ _ (c .before .if3 .taken),
+      c .take-step3 .ensures,
+    )
 
 refused-requires : tie.Need-refused-requires
 refused-requires c κs = search needs
 
 returns-4 : tie.Need-returns-4
 unfolding settleStep
-returns-4 c = rw (settleStep, ← c .before .before .before .before .before .before .lowest .ensures, le-ltb _ _ (c .before .before .before .before .before .if1 .left), ← c .before .before .before .before .lowest2 .ensures, le-ltb _ _ (c .before .before .before .if2 .left), ← c .before .before .lowest3 .ensures, le-ltb _ _ (c .before .if3 .left), c .refused .ensures)
+returns-4 c =
+    let at-if2 = c .before .before .before in
+    let at-lowest2 = at-if2 .before in
+    let at-if1 = at-lowest2 .before in
+    let at-lowest = at-if1 .before in
+    rw (
+      settleStep,
+      ← at-lowest .lowest .ensures,
+      le-ltb _ _ (at-if1 .if1 .left),
+      ← at-lowest2 .lowest2 .ensures,
+      le-ltb _ _ (at-if2 .if2 .left),
+      ← c .before .before .lowest3 .ensures,
+      le-ltb _ _ (c .before .if3 .left),
+      c .refused .ensures,
+    )
 
 pub step-spec : {M : Type 1} → statement M
 step-spec =

@@ -18,16 +18,27 @@ spaced-into-requires : tie.Need-spaced-into-requires
 spaced-into-requires c κs = search needs
 
 spaced-into-requires-2 : tie.Need-spaced-into-requires-2
-spaced-into-requires-2 c κs = omega (arith, decimal-fits 10 (c .before .before .before .before .before .before .before .before .before .before .before .args .x .lane .0))
+spaced-into-requires-2 c κs =
+    let at-spaced-into = c .before .before .before in
+    let at-put4 = at-spaced-into .before .before .before .before .before in
+    let start = at-put4 .before .before .before in
+    omega (arith, decimal-fits 10 (start .args .x .lane .0))
 
 same-length : tie.Need-same-length
 same-length c = search needs
 
 returns : tie.Need-returns
 unfolding answerText
-returns c = let k = decimal-fits 10 (c .before .before .before .before .before .before .before .before .before .before .before .before .before .before .args .x .lane .0) in
-    let v = decimal-fits 10 (c .before .before .before .before .before .before .before .before .before .before .before .before .before .before .args .x .value) in
-    wrote-then _ _ _ _ (c .before .before .before .before .before .before .before .before .before .before .before .put4 .ensures) (wrote-then _ _ _ _ (c .before .before .before .before .before .before .spaced-into .ensures) (c .before .before .spaced-into2 .ensures) (omega arith)) (simp length-append (omega arith))
+returns c =
+    let at-spaced-into2 = c .before .before in
+    let at-spaced-into = at-spaced-into2 .before .before .before .before in
+    let at-put4 = at-spaced-into .before .before .before .before .before in
+    let start = at-put4 .before .before .before in
+    let k = decimal-fits 10 (start .args .x .lane .0) in
+    let v = decimal-fits 10 (start .args .x .value) in
+    wrote-then _ _ _ _ (at-put4 .put4 .ensures)
+    (wrote-then _ _ _ _ (at-spaced-into .spaced-into .ensures) (at-spaced-into2 .spaced-into2 .ensures) (omega arith))
+    (simp length-append (omega arith))
 
 pub done-into-spec : {M : Type 1} → statement M
 done-into-spec =

@@ -15,15 +15,26 @@ spaced-into-requires : tie.Need-spaced-into-requires
 spaced-into-requires c κs = search needs
 
 put-requires : tie.Need-put-requires
-put-requires c κs = omega (arith, decimal-fits 10 (c .before .before .before .before .before .before .before .before .before .before .args .count))
+put-requires c κs =
+    let at-spaced-into = c .before .before .before in
+    let at-put3 = at-spaced-into .before .before .before .before in
+    let start = at-put3 .before .before .before in
+    omega (arith, decimal-fits 10 (start .args .count))
 
 same-length : tie.Need-same-length
 same-length c = search needs
 
 returns : tie.Need-returns
 unfolding endText
-returns c = let n = decimal-fits 10 (c .before .before .before .before .before .before .before .before .before .before .before .before .before .args .count) in
-    wrote-then _ _ _ _ (c .before .before .before .before .before .before .before .before .before .before .put3 .ensures) (wrote-then _ _ _ _ (c .before .before .before .before .before .before .spaced-into .ensures) (c .before .before .put .ensures) (omega arith)) (simp length-append (omega arith))
+returns c =
+    let at-put = c .before .before in
+    let at-spaced-into = at-put .before .before .before .before in
+    let at-put3 = at-spaced-into .before .before .before .before in
+    let start = at-put3 .before .before .before in
+    let n = decimal-fits 10 (start .args .count) in
+    wrote-then _ _ _ _ (at-put3 .put3 .ensures)
+    (wrote-then _ _ _ _ (at-spaced-into .spaced-into .ensures) (at-put .put .ensures) (omega arith))
+    (simp length-append (omega arith))
 
 pub end-into-spec : {M : Type 1} → statement M
 end-into-spec =

@@ -26,9 +26,14 @@ same-length : tie.Need-same-length
 same-length c = search needs
 
 returns : tie.Need-returns
-returns c = let n = decimal-fits 10 (numberOf (c .before .before .before .before .before .before .before .before .before .before .before .before .before .before .args .x)) in
-    let number = rw (c .before .before .before .before .number .ensures) at (c .before .before .spaced-into .ensures) in
-    wrote-then _ _ _ _ (c .before .before .before .before .before .before .before .before .before .before .before .put4 .ensures) (wrote-then _ _ _ _ (c .before .before .before .before .before .before .before .put3 .ensures) number (omega arith)) (omega arith)
+returns c =
+    let at-number = c .before .before .before .before in
+    let at-put3 = at-number .before .before .before in
+    let at-put4 = at-put3 .before .before .before .before in
+    let start = at-put4 .before .before .before in
+    let n = decimal-fits 10 (numberOf (start .args .x)) in
+    let number = rw (at-number .number .ensures) at (c .before .before .spaced-into .ensures) in
+    wrote-then _ _ _ _ (at-put4 .put4 .ensures) (wrote-then _ _ _ _ (at-put3 .put3 .ensures) number (omega arith)) (omega arith)
 
 pub refused-into-spec : {M : Type 1} → statement M
 refused-into-spec =

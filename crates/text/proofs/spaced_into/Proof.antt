@@ -16,7 +16,11 @@ same-length : tie.Need-same-length
 same-length c = search needs
 
 returns : tie.Need-returns
-returns c = wrote-then _ _ _ _ (c .before .before .before .before .before .before .put .ensures) (c .before .before .decimal-in .ensures) (omega (arith, decimal-fits 10 (c .before .before .before .before .before .before .before .before .before .args .n)))
+returns c =
+    let at-decimal-in = c .before .before in
+    let at-put = at-decimal-in .before .before .before .before in
+    let start = at-put .before .before .before in
+    wrote-then _ _ _ _ (at-put .put .ensures) (at-decimal-in .decimal-in .ensures) (omega (arith, decimal-fits 10 (start .args .n)))
 
 pub spaced-into-spec : {M : Type 1} → statement M
 spaced-into-spec = tie.close (tie.spec put-requires decimal-in-requires same-length returns)

@@ -16,7 +16,10 @@ same-length : tie.Need-same-length
 same-length c = search needs
 
 returns : tie.Need-returns
-returns c = wrote-then _ _ _ _ (c .before .before .before .before .before .before .refused-into .ensures) (c .before .before .put .ensures) (omega (arith, decimal-fits 10 13))
+returns c =
+    let at-put = c .before .before in
+    let at-refused-into = at-put .before .before .before .before in
+    wrote-then _ _ _ _ (at-refused-into .refused-into .ensures) (at-put .put .ensures) (omega (arith, decimal-fits 10 13))
 
 pub too-long-into-spec : {M : Type 1} → statement M
 too-long-into-spec = tie.close (tie.spec refused-into-requires put-requires same-length returns)
