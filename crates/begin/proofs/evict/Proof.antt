@@ -1,4 +1,4 @@
--- `begin::evict` meets its contract. Assumes nothing.
+-- `begin::evict` meets its contract: the line goes out as a return, if there is room for one; then the lane waits for its read. Assumes nothing.
 use Rattle.machine.specs.Begin.{evict}
 use borrow.Author.Needs.{needs}
 use Rattle.begin.proofs.evict.Statement.{statement}

@@ -1,4 +1,4 @@
--- `benchtape::text_of` meets its contract. Assumes nothing.
+-- `benchtape::text_of` meets its contract: the printed length; a refusal cannot be, the room is enough. Assumes nothing.
 use Rattle.benchtape.proofs.Told.{told-length, told-refused}
 use borrow.Author.Needs.{needs}
 use Rattle.benchtape.proofs.text_of.Statement.{statement}

@@ -1,4 +1,4 @@
--- `bounds::bound` meets its contract. Assumes nothing.
+-- `bounds::bound` meets its contract: five counts of the store, added with their weights. Assumes nothing.
 use native.Mathlib.Omega.{arith}
 use borrow.Author.Needs.{needs}
 use Rattle.machine.specs.Settle.{boundOf}

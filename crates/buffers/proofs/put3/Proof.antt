@@ -1,4 +1,4 @@
--- `buffers::put3` meets its contract. Assumes nothing.
+-- `buffers::put3` meets its contract: three bytes, each put after the one before. Assumes nothing.
 use native.Mathlib.Omega.{arith}
 use Rattle.buffers.proofs.Writing.{wrote-then}
 use borrow.Author.Needs.{needs}

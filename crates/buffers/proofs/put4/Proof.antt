@@ -1,4 +1,4 @@
--- `buffers::put4` meets its contract. Assumes nothing.
+-- `buffers::put4` meets its contract: a byte, then three by `put3`. Assumes nothing.
 use native.Mathlib.Omega.{arith}
 use Rattle.buffers.proofs.Writing.{wrote-then}
 use borrow.Author.Needs.{needs}

@@ -1,4 +1,4 @@
--- `commit::commit_move` meets its contract. Assumes nothing.
+-- `commit::commit_move` meets its contract: a refusal leaves the store; else lane and block are put in, and the loop posts to each lane named. Assumes nothing.
 use borrow.Author.Needs.{needs}
 use Prim.Native.Nat.{_≤_, _-_}
 use native.Mathlib.Omega.{arith}

@@ -1,4 +1,4 @@
--- `commit::move_answer` meets its contract. Assumes nothing.
+-- `commit::move_answer` meets its contract: the move's own refusal, then a full queue among the lanes it posts to. Assumes nothing.
 use borrow.Author.Needs.{needs}
 use mathlib.Core.Bool.{true, false}
 use mathlib.Core.Path.{_≡_, sym, ap, _∙_}

@@ -1,4 +1,4 @@
--- `corruption::bad_control` meets its contract. Assumes nothing.
+-- `corruption::bad_control` meets its contract: free is good; a service names a lane, a block and a count that the shape has. Assumes nothing.
 use borrow.Author.Tests.{le-leb, lt-leb}
 use borrow.Author.Needs.{needs}
 use Rattle.corruption.proofs.bad_control.Statement.{statement}

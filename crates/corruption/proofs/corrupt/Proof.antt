@@ -1,4 +1,4 @@
--- `corruption::corrupt` meets its contract. Assumes nothing.
+-- `corruption::corrupt` meets its contract: shape, control, lanes, blocks, in this order; the first bad one tells. Assumes nothing.
 use mathlib.Core.Path.{sym, _∙_}
 use Rattle.words.specs.Folds.{anyOf}
 use Rattle.machine.specs.Corruption.{corruptOf}

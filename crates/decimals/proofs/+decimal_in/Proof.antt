@@ -1,4 +1,4 @@
--- `decimals::decimal_in` meets its contract. Assumes nothing.
+-- `decimals::decimal_in` meets its contract: nothing where no room is left, a digit, or the digits of a tenth and then the last one. Assumes nothing.
 use native.Mathlib.Omega.{arith}
 use borrow.Author.Needs.{needs}
 use Rattle.machine.proofs.Lengths.{decimal-fits}

@@ -1,4 +1,4 @@
--- `deliver::bare_grant` meets its contract. Assumes nothing.
+-- `deliver::bare_grant` meets its contract: the line is found and claimed, and the operation is completed on it; not found, it is refused. Assumes nothing.
 use mathlib.Core.Path.{sym, _∙_}
 use native.Mathlib.Omega.{arith}
 use Rattle.lanes.proofs.Firsts.{first-bound}

@@ -1,4 +1,4 @@
--- `deliver::deliver_lane` meets its contract. Assumes nothing.
+-- `deliver::deliver_lane` meets its contract: the head is taken and received; a refusal gives the lane back as it was. Assumes nothing.
 use borrow.Author.Tests.{eq-eqb, ne-eqb}
 use Rattle.machine.specs.Deliver.{deliverLane}
 use borrow.Author.Needs.{needs}

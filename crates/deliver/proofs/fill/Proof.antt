@@ -1,4 +1,4 @@
--- `deliver::fill` meets its contract. Assumes nothing.
+-- `deliver::fill` meets its contract: a vacant line takes the message's words and is claimed, and the operation is completed on it. Assumes nothing.
 use mathlib.Core.Path.{sym, _∙_}
 use native.Mathlib.Omega.{arith}
 use Rattle.lanes.proofs.Firsts.{first-bound}

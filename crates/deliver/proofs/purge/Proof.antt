@@ -1,4 +1,4 @@
--- `deliver::purge` meets its contract. Assumes nothing.
+-- `deliver::purge` meets its contract: a line not there is answered gone; one there is invalidated, and answered purged. Assumes nothing.
 use mathlib.Core.Path.{sym, _∙_}
 use native.Mathlib.Omega.{arith}
 use Rattle.lanes.proofs.Firsts.{first-bound}

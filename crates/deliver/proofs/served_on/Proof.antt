@@ -1,4 +1,4 @@
--- `deliver::served_on` meets its contract. Assumes nothing.
+-- `deliver::served_on` meets its contract: only a served operation on this very block goes. Assumes nothing.
 use borrow.Author.Tests.{eq-eqb, ne-eqb}
 use borrow.Author.Needs.{needs}
 use Rattle.deliver.proofs.served_on.Statement.{statement}

@@ -1,4 +1,4 @@
--- `deliver::update` meets its contract. Assumes nothing.
+-- `deliver::update` meets its contract: a line not there is answered gone; one there is shared from now on, and its words go back. Assumes nothing.
 use mathlib.Core.Path.{sym, _∙_}
 use native.Mathlib.Omega.{arith}
 use Rattle.lanes.proofs.Firsts.{first-bound}

@@ -1,4 +1,4 @@
--- `lanecorruption::bad_lane` meets its contract. Assumes nothing.
+-- `lanecorruption::bad_lane` meets its contract: lines, order, returns, downs, waiting, in this order; the first bad one tells. Assumes nothing.
 use Rattle.words.specs.Folds.{anyOf}
 use Rattle.machine.specs.Corruption.{badLane}
 use borrow.Author.Needs.{needs}

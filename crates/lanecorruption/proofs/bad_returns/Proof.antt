@@ -1,4 +1,4 @@
--- `lanecorruption::bad_returns` meets its contract. Assumes nothing.
+-- `lanecorruption::bad_returns` meets its contract: at most two, and each that is in the queue names a block of the shape. Assumes nothing.
 use borrow.Author.Tests.{lt-ltb, le-ltb}
 use borrow.Author.Needs.{needs}
 use Rattle.lanecorruption.proofs.bad_returns.Statement.{statement}

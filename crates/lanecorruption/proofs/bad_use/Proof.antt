@@ -1,4 +1,4 @@
--- `lanecorruption::bad_use` meets its contract. Assumes nothing.
+-- `lanecorruption::bad_use` meets its contract: a line number out of range, or one that an earlier place has too. Assumes nothing.
 use borrow.Author.Needs.{needs}
 use Prim.Native.Nat.{_≤_, _-_}
 use native.Mathlib.Omega.{arith}

@@ -1,4 +1,4 @@
--- `picture::picture` meets its contract. Assumes nothing.
+-- `picture::picture` meets its contract: corrupt, then too short; else all lanes are written. Assumes nothing.
 use native.Mathlib.Omega.{arith}
 use mathlib.Core.Path.{refl, sym, _∙_}
 use Rattle.machine.proofs.bounds.Sound.{sound}

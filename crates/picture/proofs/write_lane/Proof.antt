@@ -1,4 +1,4 @@
--- `picture::write_lane` meets its contract. Assumes nothing.
+-- `picture::write_lane` meets its contract: a turn of the loop writes one line. Assumes nothing.
 use Rattle.picture.proofs.Records.{gather-none, gather-next, wrote-more, wrote-kept}
 use native.Mathlib.Omega.{arith}
 use Prim.Native.Nat.{_-_, _≤_}

@@ -1,4 +1,4 @@
--- `picture::write_lanes` meets its contract. Assumes nothing.
+-- `picture::write_lanes` meets its contract: a turn of the loop writes one lane. Assumes nothing.
 use native.Mathlib.Omega.{arith}
 use borrow.Author.Needs.{needs}
 use Prim.Native.Nat.{_-_, _≤_}

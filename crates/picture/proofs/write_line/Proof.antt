@@ -1,4 +1,4 @@
--- `picture::write_line` meets its contract. Assumes nothing.
+-- `picture::write_line` meets its contract: a valid line is one record, another nothing. Assumes nothing.
 use Prim.Native.Nat.{_+_, _≤_}
 use lib.ListN.{length, length-take, length-drop}
 use Rattle.picture.proofs.Records.{part-written, line-valid, line-invalid, valid-length}

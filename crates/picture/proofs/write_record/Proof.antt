@@ -1,4 +1,4 @@
--- `picture::write_record` meets its contract. Assumes nothing.
+-- `picture::write_record` meets its contract: three bytes, then four words, each after the one before. Assumes nothing.
 use native.Mathlib.Omega.{arith}
 use Rattle.buffers.proofs.Writing.{wrote-then}
 use Rattle.machine.specs.Picture.{recordBytes}

@@ -1,4 +1,4 @@
--- `quiet::quiet` meets its contract. Assumes nothing.
+-- `quiet::quiet` meets its contract: memory is free, and the loop meets no active lane. Assumes nothing.
 use borrow.Author.Needs.{needs}
 use Prim.Native.Nat.{_≤_, _-_}
 use native.Mathlib.Omega.{arith}

@@ -1,4 +1,4 @@
--- `replay::print` meets its contract. Assumes nothing.
+-- `replay::print` meets its contract: too little room is refused, a tape too long is told; else its records are printed. Assumes nothing.
 use native.Mathlib.Nat.{zero-add}
 use mathlib.Core.Path.{refl, ap, _∙_}
 use Rattle.machine.specs.declared.Filled.the-variants.{Length}

@@ -1,4 +1,4 @@
--- `returning::return_move` meets its contract. Assumes nothing.
+-- `returning::return_move` meets its contract: the message is taken and put to its block; an answer is counted, an ejection sends nothing. Assumes nothing.
 use Rattle.machine.specs.Return.{returnMove}
 use borrow.Author.Needs.{needs}
 use Rattle.returning.proofs.return_move.Statement.{statement}

@@ -1,4 +1,4 @@
--- `serving::serve_move` meets its contract. Assumes nothing.
+-- `serving::serve_move` meets its contract: the service closes at once where no lane is ordered, else the orders go out. Assumes nothing.
 use borrow.Author.Tests.{eq-eqb, ne-eqb}
 use native.Mathlib.Omega.{arith}
 use mathlib.Core.Path.{ap}

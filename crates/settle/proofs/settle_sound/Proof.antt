@@ -1,4 +1,4 @@
--- `settle::settle_sound` meets its contract. Assumes nothing.
+-- `settle::settle_sound` meets its contract: a turn of the loop is one step, listed and counted; a refused one gives the first store back. Assumes nothing.
 use borrow.Author.Needs.{needs}
 use borrow.Author.Tests.{not-true, not-false}
 use native.Mathlib.Omega.{arith}

@@ -1,4 +1,4 @@
--- `settlestep::step` meets its contract. Assumes nothing.
+-- `settlestep::step` meets its contract: the lowest lane that can deliver, then return, then be served; none is unexpected. Assumes nothing.
 use borrow.Author.Tests.{lt-ltb, le-ltb}
 use Rattle.machine.specs.Settle.{settleStep}
 use Rattle.machine.proofs.bounds.Sound.{sound}

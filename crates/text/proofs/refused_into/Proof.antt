@@ -1,4 +1,4 @@
--- `text::refused_into` meets its contract. Assumes nothing.
+-- `text::refused_into` meets its contract: seven letters in two puts, then the number. Assumes nothing.
 use native.Mathlib.Omega.{arith}
 use Rattle.machine.proofs.Lengths.{decimal-fits}
 use Rattle.buffers.proofs.Writing.{wrote-then}
