@@ -4,11 +4,7 @@
 ghost use mathlib.Core.Path.{_≡_};
 ghost use Prim.Native.Nat.{_≤_, _<_};
 ghost use Rattle.lanes.specs.UseOrder.{placeAt};
-ghost use Rattle.lanes.specs.Lanes.{withWaiting};
 ghost use Rattle.machine.specs.Change.{refuseLane, refusedIn};
-ghost use Rattle.words.specs.Operations.{isLoad};
-ghost use Rattle.words.specs.Lines.{invalid};
-ghost use Rattle.queues.specs.Messages.{bareReturn, wordsReturn};
 ghost use Rattle.machine.specs.Begin.{complete, waits, hit, readOf, ejectOf, evict, miss, beginLane};
 use answers::Refusal;
 use lanes::Command;

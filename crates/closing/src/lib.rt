@@ -1,18 +1,16 @@
-// What serve and return share: Close, a lane, a block and a Move put together anew.
+// Close, which serve and return share; and what return needs beside it: a lane with another return queue, a refusal, a Move that sends nothing.
 // Functions with a requires are for the crates above and not for others.
 ghost use mathlib.Core.Path.{_≡_};
 ghost use Prim.Native.Nat.{_<_};
-ghost use Rattle.lanes.specs.Lanes.{withWaiting, withReturns};
+ghost use Rattle.lanes.specs.Lanes.{withReturns};
 ghost use Rattle.store.specs.LaneSets.{only};
 ghost use Rattle.machine.specs.Change.{refuseMove};
-ghost use Rattle.queues.specs.Messages.{bareDown};
 ghost use Rattle.machine.specs.Serve.{exclusively, closedBlock, grantOf, close};
 ghost use Rattle.machine.specs.Return.{sendNothing};
 use answers::Answer;
 use answers::Refusal;
 use lanes::Command;
 use lanes::Lane;
-use lanes::Waiting;
 use machine::Move;
 use queues::DownKind;
 use queues::DownMessage;
@@ -111,11 +109,7 @@ fn grant(b: Block, v: Service) -> DownMessage
         return queues::bare_down(DownKind::BareGrant, a);
     }
     let ws = b.words;
-    DownMessage {
-        kind: DownKind::Grant,
-        block: a,
-        words: ws,
-    }
+    queues::words_down(DownKind::Grant, a, ws)
 }
 
 // A service closes; x is the control without it.

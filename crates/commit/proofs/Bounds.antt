@@ -1,4 +1,4 @@
--- The bounds that a lane's part of a call asks for, from a store that is not corrupt. Assumes nothing.
+-- The bounds that a call on lane k asks for, from a store that is not corrupt: for lanesteps and memorysteps. Assumes nothing.
 use Prim.Native.Nat.{_<_, _≤_}
 use native.Mathlib.Omega.{arith}
 use mathlib.Core.Bool.{false}

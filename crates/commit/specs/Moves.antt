@@ -13,7 +13,7 @@ use Rattle.answers.specs.declared.Refusal.the-variants.{QueueFull}
 use Rattle.answers.specs.Refusals.{refusedOf}
 use Rattle.store.specs.Stores.{noLane}
 use Rattle.machine.specs.declared.Move.{Move}
-use Rattle.store.specs.LaneSets.{goesTo}
+use Rattle.store.specs.LaneSets.{LaneSet, goesTo}
 use Rattle.machine.specs.Change.{someFull}
 
 -- the length of lane j's down queue
@@ -25,7 +25,7 @@ abbrev pub lengthsOf : List Lane → List ℕ
 lengthsOf ls = lengthAt ls 0 ∷ lengthAt ls 1 ∷ lengthAt ls 2 ∷ lengthAt ls 3 ∷ lengthAt ls 4 ∷ lengthAt ls 5 ∷ lengthAt ls 6 ∷ lengthAt ls 7 ∷ []
 
 -- whether a message goes to a lane whose down queue is full
-unfoldable pub fullBy : List Bool → List ℕ → Bool
+unfoldable pub fullBy : LaneSet → List ℕ → Bool
 fullBy to lens = anyTo (λ j. goesTo to j && fullAt (getD lens j 0)) 8
 
 -- the refusal of memory's part, 12, or its answer

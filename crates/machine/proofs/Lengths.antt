@@ -81,6 +81,6 @@ unfolding printed replayOf
 text-fits tape =
     pick (λ (l : List ℕ). length l + 64 ≤ textMost) (ltb tapeMost (length tape)) _ _ (λ _. omega (arith, too-long-fits))
     (λ short. let h = ltb-false tapeMost (length tape) short in
-    let l = lines-fit (length tape) 0 (blankStore) tape in
-    let e = end-fits (length (replayFrom (length tape) (blankStore) tape)) in
+    let l = lines-fit (length tape) 0 blankStore tape in
+    let e = end-fits (length (replayFrom (length tape) blankStore tape)) in
     simp length-append (omega arith))

@@ -1,4 +1,4 @@
--- Laws that know nothing of the machine: tests, lists, sums, updates.
+-- Laws of tests, lists, sums and updates, and of a use order.
 pub mod Tests
 pub mod Sets
 pub mod Counts

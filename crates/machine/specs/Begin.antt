@@ -80,7 +80,7 @@ missWith Nothing op w l = evict (placeAt (l .order) 0) op w l
 unfoldable pub miss : ℕ → Op → WordNo → Lane → LaneStep
 miss c op w l = missWith (vacantOf l c) op w l
 
--- the lane's part of begin, by what Search finds
+-- the lane's part of begin, of a lane that waits for nothing, by what Search finds
 abbrev pub beginAt : Found → ℕ → Op → WordNo → Lane → LaneStep
 beginAt (At i) c op w l = hit c i op w l
 beginAt Nothing c op w l = miss c op w l

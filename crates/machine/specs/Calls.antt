@@ -27,7 +27,7 @@ pub data Call : Type 0 where
   Deliver : LaneNo → Call
   Settle : Call
 
--- what a call is answeredCall with
+-- what a call is answered with
 pub data Reply : Type 0 where
   Answers : Answer → Reply
   SettledWith : Settled → List Completion → Reply
@@ -37,6 +37,7 @@ pub record Called : Type 0 where
   pub reply : Reply
   pub store : Store
 
+-- .. of a call on a lane, and of settle
 abbrev pub answeredCall : Outcome → Called
 answeredCall r = record { reply = Answers (r .answer); store = r .store }
 
@@ -75,7 +76,7 @@ completionsOf (Answers a) = doneIn a
 completionsOf (SettledWith (Steps count) cs) = cs
 completionsOf (SettledWith (Settled.Refused r) cs) = []
 
--- the call was answeredCall with a wait
+-- the call was answered with a wait
 abbrev pub isWait : Reply → Bool
 isWait (Answers Opened) = false
 isWait (Answers (Done x)) = false

@@ -91,6 +91,7 @@ abbrev pub movedStore : Store → LaneNo → BlockNo → Move → Store
 movedStore s k a v =
     withBlock (withLanes (withControl s (v .control)) (postAll (v .to) (v .message) (set (s .lanes) (k .0) (v .lane)))) (a .0) (v .block)
 
+-- memory's part of a call put back: its own refusal, then 12, each with the store as it was; else the store moved
 unfoldable pub commitMove : Store → LaneNo → BlockNo → Move → Outcome
 commitMove s k a v =
     let ls = set (s .lanes) (k .0) (v .lane) in

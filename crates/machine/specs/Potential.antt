@@ -24,6 +24,7 @@ use Rattle.machine.specs.Settle.{returnsIn, grantsIn, ordersIn, services
 unfoldable pub tallyOf : ℕ → Store → ℕ
 tallyOf u s = returnsIn s + grantsIn s + 2 * ordersIn s + servicesIn s + u * unservedIn s
 
+-- R + G + 2 × Q + S + 2 × U
 abbrev pub potentialOf : Store → ℕ
 potentialOf s = tallyOf 2 s
 
@@ -33,6 +34,7 @@ ordersFor s k Idle = 0
 ordersFor s k (Unserved o) = countOf (ordered (blockAt s (blockOf (o .word) .0)) k (o .command))
 ordersFor s k (Served o) = 0
 
+-- the answers that the control awaits
 abbrev awaitedIn : Control → ℕ
 awaitedIn Free = 0
 awaitedIn (Busy v) = v .awaited

@@ -3,7 +3,7 @@
 use Prim.Native.Nat.{ℕ}
 use mathlib.Core.Bool.{Bool, true, false}
 use mathlib.Core.List.{List, [], _∷_, _++_, map}
-use lib.ListN.{replicate, drop, set}
+use lib.ListN.{replicate, drop}
 use Rattle.words.specs.declared.WordNo.{WordNo}
 use Rattle.words.specs.declared.BlockNo.{BlockNo}
 use Rattle.words.specs.declared.Op.the-variants as Op
@@ -43,6 +43,7 @@ use Rattle.machine.specs.Fill.{Filling}
 use Rattle.machine.specs.Picture.{pictureOf}
 use Rattle.machine.specs.Tape.{replayOf}
 use Rattle.machine.specs.Text.{printed, textMost, printOf}
+use Rattle.store.specs.LaneSets.{including}
 
 -- an answer in 01's words: open; done with lane and value; wait; step; refused with the number; a settle with its count and its completions
 pub data Said : Type 0 where
@@ -537,8 +538,8 @@ serving k a awaited s = withControl s (Busy (record { lane = lane k; block = blo
 abbrev pub filled : ℕ → ℕ → Store → Store
 filled k a s = withLane s k (withLine (line 0) (filledLine (block a) zeros) (laneAt s k))
 
--- lane k with an operation on word w, unserved or served; with as many messages in its queues as the number says; with a use order; a block
--- with PRESENT for lane k
+-- an operation on word w; lane 0 with something that waits, with as many messages in a queue as the number says, with lines i and j first in its
+-- use order; block 0 with PRESENT for lane k
 abbrev pub operation : ℕ → Operation
 operation w = record { command = ReadShared; op = Op.Load; word = record { 0 = w } }
 
@@ -557,7 +558,7 @@ ordered i j s =
     withLane s 0 (withOrder (line i ∷ line j ∷ drop 2 (l .order)) l)
 
 abbrev pub flagged : ℕ → Store → Store
-flagged k s = let b = blockAt s 0 in withBlock s 0 (withPresent (set (b .present) k true) b)
+flagged k s = let b = blockAt s 0 in withBlock s 0 (withPresent (including (lane k) (b .present)) b)
 
 -- a row of 14: serve finds the store corrupt, or finds nothing to serve
 abbrev pub corrupt : Store → Row

@@ -56,4 +56,4 @@ replayFrom (suc more) s tape =
 
 -- a whole tape, from the blank store; a record takes a byte or more, so its length is number enough
 unfoldable pub replayOf : List ℕ → List Answer
-replayOf tape = replayFrom (length tape) (blankStore) tape
+replayOf tape = replayFrom (length tape) blankStore tape

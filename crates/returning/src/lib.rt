@@ -27,7 +27,7 @@ fn absent_block(k: LaneNo, b: Block) -> Block
     u
 }
 
-// The block with words writtenBack and MODIFIED reset.
+// The block with words written back and MODIFIED reset.
 fn written_block(ws: [u32; 4], b: Block) -> Block
     ensures { λ r. ⌜ r ≡ writtenBack ws b ⌝ }
 {

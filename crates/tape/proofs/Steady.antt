@@ -1,5 +1,4 @@
 -- A record leaves a store that a tape can have such a store, so that the check of 14 is never wanted on a tape. Assumes nothing.
-use Prim.Native.Nat.{ℕ}
 use native.Mathlib.Omega.{arith}
 use mathlib.Core.Logic.{inl, inr}
 use mathlib.Core.Bool.{true, false, not, true≢false}

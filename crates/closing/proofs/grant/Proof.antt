@@ -9,8 +9,11 @@ bare-down-requires c κs = search needs
 returns : tie.Need-returns
 returns c = rw (c .bare-down .ensures, c .before .if1 .taken)
 
+words-down-requires : tie.Need-words-down-requires
+words-down-requires c κs = search needs
+
 returns-2 : tie.Need-returns-2
-returns-2 c = rw (c .before .if1 .left)
+returns-2 c = rw (c .words-down .ensures, c .before .before .if1 .left)
 
 pub grant-spec : {M : Type 1} → statement M
-grant-spec = tie.close (tie.spec bare-down-requires returns returns-2)
+grant-spec = tie.close (tie.spec bare-down-requires returns words-down-requires returns-2)

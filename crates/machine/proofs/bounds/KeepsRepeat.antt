@@ -1,4 +1,4 @@
--- .. and so does settle's step, which is one of the four. Assumes nothing.
+-- A step of settle, which is a deliver, a return or a serve, keeps a store that is not corrupt so. Assumes nothing.
 use mathlib.Core.Path.{_≡_}
 use mathlib.Core.Bool.{false}
 use Rattle.store.specs.declared.Store.{Store}

@@ -1,5 +1,5 @@
 -- What memory's flags owe to the protocol, said of the view v that they stand for: serve's orders, return, close and the opening.
--- No other file of the protocol looks at the flags. Assumes nothing.
+-- Beside Invariant's `Directory` and the blank block in BlockQuiet no other file of the protocol looks at the flags. Assumes nothing.
 use Prim.Native.Nat.{ℕ, _<_, _≤_}
 use mathlib.Core.Logic.{_⊎_, inl, inr, _≢_}
 use mathlib.Core.Path.{_≡_, refl, sym, _∙_}

@@ -1,5 +1,5 @@
 -- A rule for each call, by which the proofs go: what holds of every refusal, and of the step where nothing refuses it, holds of the call.
--- The calls' own definitions are looked into here alone. Assumes nothing.
+-- Most proofs go by these and not by the calls' text. Assumes nothing.
 use Prim.Native.Nat.{_<_, _*_}
 use mathlib.Core.Path.{_≡_, refl, _∙_}
 use mathlib.Core.Bool.{true, false, cond}

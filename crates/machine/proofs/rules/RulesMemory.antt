@@ -1,4 +1,4 @@
--- A rule for memory's part of serve and one for its part of return, by which the proofs go: an answer that is counted is looked at here alone.
+-- A rule for memory's part of serve and one for its part of return, by which the proofs go: return's three cases of a counted answer stand here.
 -- Assumes nothing.
 use mathlib.Core.Path.{_≡_, refl}
 use mathlib.Core.Bool.{Bool, true, false}

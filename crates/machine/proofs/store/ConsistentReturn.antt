@@ -2,11 +2,10 @@
 use Prim.Native.Nat.{ℕ, _-_, _<_}
 use mathlib.Core.Logic.{_≢_}
 use mathlib.Core.Path.{_≡_, refl, sym, ap, _∙_}
-use mathlib.Core.Bool.{Bool, true, false, cond}
+use mathlib.Core.Bool.{true, false}
 use mathlib.Core.List.{List, _∷_}
-use lib.Dec.{eqb}
 use lib.ListN.{length-set}
-use borrow.Author.Tests.{eq-eqb, ne-eqb, eqb-true}
+use borrow.Author.Tests.{eq-eqb, ne-eqb}
 use native.Mathlib.Omega.{arith}
 use Rattle.words.specs.declared.LaneNo.{LaneNo}
 use Rattle.words.specs.declared.BlockNo.{BlockNo}
@@ -20,7 +19,7 @@ use Rattle.store.specs.declared.Block.{Block}
 use Rattle.store.specs.declared.Service.{Service}
 use Rattle.store.specs.declared.Control.{Control}
 use Rattle.store.specs.declared.Control.the-variants.{Free, Busy}
-use Rattle.store.specs.declared.Lookup.the-variants.{Of, Nothing}
+use Rattle.store.specs.declared.Lookup.the-variants.{Of}
 use Rattle.store.specs.Control.{serviceOf, lowered}
 use Rattle.store.specs.Stores.{laneAt, blockAt}
 use Rattle.store.specs.LaneSets.{nobody}
@@ -46,15 +45,6 @@ use Rattle.machine.proofs.store.ConsistentMove.{Shows, commit-consisten
 use Rattle.machine.proofs.store.ConsistentServe.{send-none, grant-block, only-length}
 use Rattle.machine.proofs.rules.Rules.{return-rule}
 use Rattle.machine.proofs.rules.RulesMemory.{Awaited, return-move-rule}
-
--- a service looked up is the control's
-pub looked-up : (y : Control) (a : BlockNo) (v : Service) → serviceOf y a ≡ Of v → (y ≡ Busy v) × (v .block .0 ≡ a .0)
-looked-up Free a v e = clash (cc)
-looked-up (Busy u) a v e = go (eqb (u .block .0) (a .0)) refl e
-  where
-    go : (b : Bool) → eqb (u .block .0) (a .0) ≡ b → cond b (Of u) Nothing ≡ Of v → (Busy u ≡ Busy v) × (v .block .0 ≡ a .0)
-    go true q d = let z : u ≡ v = cc in (rw z, rw (← z) (eqb-true _ _ q))
-    go false q d = clash (cc)
 
 module _ (s : Store) (f : List ℕ) (i : Consistent s f) (k : LaneNo) (h : k .0 < s .shape .n) (filled : laneAt s (k .0) .returns .len ≢ 0) where
   abbrev l : Lane
