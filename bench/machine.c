@@ -1,4 +1,4 @@
-/* The lane store of document 01 in plain C, changed in place, and the replay of a tape (program `ctape`).
+/* The lane store of document 01, with document 02's W1, in plain C, changed in place, and the replay of a tape (program `ctape`).
  * The yardstick of bench/run: not proved, and without settle and picture.
  * A store opened here is never corrupt (refusal 14), so no step looks for that. */
 
@@ -8,11 +8,12 @@
 #include <string.h>
 
 enum { MAX_LANES = 8, MAX_LINES = 8, MAX_BLOCKS = 64, WORDS = 4, PLACES = 2 };
-enum { MAX_TAPE = 65536, TEXT_SIZE = 65536, MAX_ROW = 32 };
+enum { MAX_TAPE = 65536, TEXT_SIZE = 65536, MAX_ROW = 48 };
 
 enum Refusal {
     TRUNCATED = 1, UNKNOWN_KIND, NOT_OPEN, ALREADY_OPEN, INVALID_SHAPE, NO_SUCH_LANE, NO_SUCH_WORD, LANE_BUSY,
-    NOTHING_PENDING, CONTROL_BUSY, RETURNS_PENDING, QUEUE_FULL, TAPE_TOO_LONG, CORRUPT, BUFFER_TOO_SHORT, UNEXPECTED
+    NOTHING_PENDING, CONTROL_BUSY, RETURNS_PENDING, QUEUE_FULL, TAPE_TOO_LONG, CORRUPT, BUFFER_TOO_SHORT, UNEXPECTED,
+    PLACES_EXHAUSTED
 };
 
 enum Kind { OPEN, LOAD, STORE, EXCHANGE, ADD, SERVE, RETURN, DELIVER }; /* of a tape's record */
@@ -66,6 +67,8 @@ typedef struct {
 
 typedef struct {
     uint8_t n, c, m; /* n is 0 until the store is open */
+    uint32_t begun;  /* operations since opening: completions so far plus operations waiting */
+    uint32_t completions;
     Control control;
     Lane lanes[MAX_LANES];
     Block blocks[MAX_BLOCKS];
@@ -74,11 +77,11 @@ typedef struct {
 typedef struct {
     enum { OPENED, DONE, WAIT, STEP, REFUSED } tag;
     uint8_t number; /* lane of DONE, number of REFUSED */
-    uint32_t value; /* of DONE */
+    uint32_t value, place; /* of DONE */
 } Answer;
 
-static Answer refused(enum Refusal number) { return (Answer){ REFUSED, number, 0 }; }
-static Answer stepped(void) { return (Answer){ STEP, 0, 0 }; }
+static Answer refused(enum Refusal number) { return (Answer){ REFUSED, number, 0, 0 }; }
+static Answer stepped(void) { return (Answer){ STEP, 0, 0, 0 }; }
 
 /* Queues: rings of two places */
 
@@ -134,7 +137,7 @@ static void use(Lane *lane, unsigned c, unsigned i)
 }
 
 /* does the operation on its word of the line, gives its value */
-static uint32_t complete(Lane *lane, unsigned c, Line *line, unsigned op, unsigned word, uint32_t v)
+static uint32_t perform(Lane *lane, unsigned c, Line *line, unsigned op, unsigned word, uint32_t v)
 {
     uint32_t *at = &line->words.at[word % WORDS];
     uint32_t former = *at;
@@ -145,6 +148,13 @@ static uint32_t complete(Lane *lane, unsigned c, Line *line, unsigned op, unsign
     case ADD: *at = former + v; return former;
     default: return former;
     }
+}
+
+/* lane k's operation completes on the line: it has the next place */
+static Answer complete(Store *s, unsigned k, Line *line, unsigned op, unsigned word, uint32_t v)
+{
+    uint32_t value = perform(&s->lanes[k], s->c, line, op, word, v);
+    return (Answer){ DONE, k, value, ++s->completions };
 }
 
 static void evict(Lane *lane)
@@ -166,11 +176,15 @@ static Answer begin(Store *s, unsigned k, unsigned op, unsigned word, uint32_t v
     Lane *lane = &s->lanes[k];
     if (lane->waiting.state != IDLE)
         return refused(LANE_BUSY);
+    if (s->begun == UINT32_MAX)
+        return refused(PLACES_EXHAUSTED);
     unsigned command = EXCLUDE;
     Line *line = search(lane, s->c, word / WORDS);
     if (line) {
-        if (op == LOAD || line->private)
-            return (Answer){ DONE, k, complete(lane, s->c, line, op, word, v) };
+        if (op == LOAD || line->private) {
+            s->begun++;
+            return complete(s, k, line, op, word, v);
+        }
     } else {
         command = op == LOAD ? READ_SHARED : READ_EXCLUSIVE;
         if (!free_line(lane, s->c)) {
@@ -179,8 +193,9 @@ static Answer begin(Store *s, unsigned k, unsigned op, unsigned word, uint32_t v
             evict(lane);
         }
     }
+    s->begun++;
     lane->waiting = (Waiting){ UNSERVED, command, op, word, v };
-    return (Answer){ WAIT, 0, 0 };
+    return (Answer){ WAIT, 0, 0, 0 };
 }
 
 /* an order: UPDATE or PURGE */
@@ -206,17 +221,18 @@ static Answer deliver_order(Lane *lane, unsigned c, const Message *order)
     return stepped();
 }
 
-static Answer deliver_grant(Lane *lane, unsigned c, unsigned k, const Message *grant)
+static Answer deliver_grant(Store *s, unsigned k, const Message *grant)
 {
+    Lane *lane = &s->lanes[k];
     Waiting *waiting = &lane->waiting;
     if (waiting->state != SERVED || waiting->word / WORDS != grant->block)
         return refused(UNEXPECTED);
-    Line *line = search(lane, c, grant->block);
+    Line *line = search(lane, s->c, grant->block);
     if (grant->kind == GRANT_BARE) {
         if (!line)
             return refused(UNEXPECTED);
     } else {
-        if (line || !(line = free_line(lane, c)))
+        if (line || !(line = free_line(lane, s->c)))
             return refused(UNEXPECTED);
         line->valid = true;
         line->block = grant->block;
@@ -225,7 +241,7 @@ static Answer deliver_grant(Lane *lane, unsigned c, unsigned k, const Message *g
     line->private = waiting->op != LOAD;
     pop(&lane->downs);
     waiting->state = IDLE;
-    return (Answer){ DONE, k, complete(lane, c, line, waiting->op, waiting->word, waiting->v) };
+    return complete(s, k, line, waiting->op, waiting->word, waiting->v);
 }
 
 static Answer deliver(Store *s, unsigned k)
@@ -238,7 +254,7 @@ static Answer deliver(Store *s, unsigned k)
     const Message *message = head(&lane->downs);
     if (message->kind == UPDATE || message->kind == PURGE)
         return deliver_order(lane, s->c, message);
-    return deliver_grant(lane, s->c, k, message);
+    return deliver_grant(s, k, message);
 }
 
 /* Memory and control */
@@ -342,7 +358,7 @@ static Answer open_store(Store *s, unsigned n, unsigned c, unsigned m)
     for (unsigned k = 0; k < n; k++)
         for (unsigned i = 0; i < c; i++)
             s->lanes[k].order[i] = i;
-    return (Answer){ OPENED, 0, 0 };
+    return (Answer){ OPENED, 0, 0, 0 };
 }
 
 /* Tape */
@@ -411,6 +427,8 @@ static char *put_row(char *p, uint32_t index, Answer answer)
         p = put_number(p, answer.number);
         p = put(p, " ");
         p = put_number(p, answer.value);
+        p = put(p, " ");
+        p = put_number(p, answer.place);
         break;
     }
     return put(p, "\n");

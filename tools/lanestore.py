@@ -97,6 +97,7 @@ class Bench:
         self.lines = lines
         self.blocks = [Block([0] * 4, set()) for _ in range(blocks)]
         self.service = None
+        self.completions = 0
         self.row = 0
         self.messages = []
 
@@ -118,7 +119,8 @@ class Bench:
         words[word % 4], value = apply(op, words[word % 4], v)
         lane.use(i)
         lane.waiting = None
-        return f'done {k} {value}'
+        self.completions += 1
+        return f'done {k} {value} {self.completions}'
 
     def begin(self, k, op, word, v=0):
         lane, block = self.lanes[k], word // 4

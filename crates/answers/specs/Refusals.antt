@@ -1,12 +1,12 @@
--- 01, "Numbers and trade words": the number of each refusal. Assumes nothing.
+-- 01, "Numbers and trade words", and 02: the number of each refusal. Assumes nothing.
 use Prim.Native.Nat.{ℕ}
 use mathlib.Core.Bool.{Bool, true, false}
 use Rattle.answers.specs.declared.Answer.{Answer}
 use Rattle.answers.specs.declared.Answer.the-variants.{Opened, Done, Wait, Step, Refused}
 use Rattle.answers.specs.declared.Refusal.{Refusal}
-use Rattle.answers.specs.declared.Refusal.the-variants.{Truncated, UnknownKind, NotOpen, AlreadyOpen, InvalidShape, NoSuchLane, NoSuchWord, LaneBusy, NothingPending, ControlBusy, ReturnsPending, QueueFull, TapeTooLong, Corrupt, BufferTooShort, Unexpected}
+use Rattle.answers.specs.declared.Refusal.the-variants.{Truncated, UnknownKind, NotOpen, AlreadyOpen, InvalidShape, NoSuchLane, NoSuchWord, LaneBusy, NothingPending, ControlBusy, ReturnsPending, QueueFull, TapeTooLong, Corrupt, BufferTooShort, Unexpected, PlacesExhausted}
 
--- 01's number of a refusal
+-- the number that 01 or 02 gives a refusal
 abbrev pub numberOf : Refusal → ℕ
 numberOf Truncated = 1
 numberOf UnknownKind = 2
@@ -24,6 +24,7 @@ numberOf TapeTooLong = 13
 numberOf Corrupt = 14
 numberOf BufferTooShort = 15
 numberOf Unexpected = 16
+numberOf PlacesExhausted = 17
 
 -- whether an answer is a refusal
 abbrev pub refusedOf : Answer → Bool

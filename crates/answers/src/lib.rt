@@ -22,6 +22,7 @@ pub enum Refusal {
     Corrupt, // 14, spoilt: the store breaks its own bounds
     BufferTooShort, // 15, sheet short: the picture, or a tape's text, may not fit
     Unexpected, // 16, stray: a message that nobody waits for, or a settle that is stuck
+    PlacesExhausted, // 17 (document 02, W1): no place is left for one completion more
 }
 
 impl Refusal {
@@ -46,21 +47,27 @@ impl Refusal {
             Refusal::Corrupt => 14,
             Refusal::BufferTooShort => 15,
             Refusal::Unexpected => 16,
+            Refusal::PlacesExhausted => 17,
         }
     }
 }
 
-// An operation that is done: its lane and the value it gives.
+// An operation that is done: its lane, the value it gives, and its place among the completions since opening, counting from 1.
 pub struct Completion {
     pub lane: LaneNo,
     pub value: u32,
+    pub place: u32,
 }
 
 // The one way to make a completion.
-pub fn completed(k: LaneNo, v: u32) -> Completion
-    ensures { λ r. ⌜ r ≡ completionOf k v ⌝ }
+pub fn completed(k: LaneNo, v: u32, p: u32) -> Completion
+    ensures { λ r. ⌜ r ≡ completionOf k v p ⌝ }
 {
-    Completion { lane: k, value: v }
+    Completion {
+        lane: k,
+        value: v,
+        place: p,
+    }
 }
 
 // What a call or a tape's record answers.

@@ -31,7 +31,7 @@ struct Turn {
 }
 
 fn write_reply(r: Reply) {
-    let mut out = [0u8; 8];
+    let mut out = [0u8; 12];
     replybytes::put_reply(&mut out, r);
     io::write_all(STDOUT_FILENO, &out);
 }
@@ -52,14 +52,14 @@ fn settled(s: Store) -> Store {
     let d = o.completions;
     let r = replybytes::settle_reply(a, d.len);
     write_reply(r);
-    let mut out = [0u8; 42];
+    let mut out = [0u8; 74];
     replybytes::put_settled(&mut out, d, bound);
     io::write_all(STDOUT_FILENO, &out);
     o.store
 }
 
 fn show(s: Store) {
-    let mut out = [0u8; 3545];
+    let mut out = [0u8; 3549];
     storebytes::put_store(&mut out, 0, s);
     io::write_all(STDOUT_FILENO, &out);
 }

@@ -105,5 +105,8 @@ pub fn corrupt(s: Store) -> bool
     if bad_lanes(s) {
         return true;
     }
-    bad_blocks(s)
+    if bad_blocks(s) {
+        return true;
+    }
+    places::overrun(s)
 }

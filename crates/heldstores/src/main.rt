@@ -11,7 +11,7 @@ use words::LaneNo;
 use words::WordNo;
 
 // A store and a call.
-const CASE_BYTES: usize = 3553;
+const CASE_BYTES: usize = 3557;
 
 // Picture's buffer: its bytes before the call, and how many there are; a call lends the first of them.
 const BUFFER_BYTES: usize = 1300;
@@ -35,16 +35,16 @@ fn picture_reply(p: Filled) -> Reply {
 
 // The answer and the store after.
 fn write_after(r: Reply, s: Store) {
-    let mut out = [0u8; 3553];
+    let mut out = [0u8; 3561];
     put_after(&mut out, r, s);
     io::write_all(STDOUT_FILENO, &out);
 }
 
 fn put_after(out: &mut [u8], r: Reply, s: Store)
-    requires { ⌜ 3553 ≤ length (now out) ⌝ }
+    requires { ⌜ 3561 ≤ length (now out) ⌝ }
 {
     replybytes::put_reply(out, r);
-    storebytes::put_store(out, 8, s);
+    storebytes::put_store(out, 12, s);
 }
 
 // A picture into the first bytes of the buffer.
@@ -71,20 +71,20 @@ fn answer_settle(s: Store) {
     let after = o.store;
     let r = replybytes::settle_reply(a, d.len);
     write_after(r, after);
-    let mut out = [0u8; 42];
+    let mut out = [0u8; 74];
     replybytes::put_settled(&mut out, d, bound);
     io::write_all(STDOUT_FILENO, &out);
 }
 
-// A case's answer: the call stands behind the store's 3,545 bytes.
+// A case's answer: the call stands behind the store's 3,549 bytes.
 fn answer(case: &[u8])
-    requires { ⌜ 3553 ≤ length (now case) ⌝ }
+    requires { ⌜ 3557 ≤ length (now case) ⌝ }
 {
     let s = storebytes::store_from(case);
-    let kind = case[3545];
-    let k = LaneNo(case[3546]);
-    let w = WordNo(case[3547]);
-    let v = storebytes::word_from(case, 3548);
+    let kind = case[3549];
+    let k = LaneNo(case[3550]);
+    let w = WordNo(case[3551]);
+    let v = storebytes::word_from(case, 3552);
     if kind == PICTURE {
         answer_picture(s, v as usize);
         return;

@@ -2,8 +2,10 @@
 // check before it, a tape and settle pay it once for many steps.
 ghost use mathlib.Core.Path.{_≡_};
 ghost use mathlib.Core.Bool.{false};
+ghost use Prim.Native.Nat.{_≤_};
+ghost use Rattle.store.specs.Places.{lastPlace};
 ghost use Rattle.machine.specs.Corruption.{corruptOf};
-ghost use Rattle.machine.specs.Change.{answerTo};
+ghost use Rattle.machine.specs.Change.{counted, answerTo};
 ghost use Rattle.machine.specs.Begin.{beginOf};
 ghost use Rattle.machine.specs.Deliver.{deliverOf};
 use answers::Answer;
@@ -15,12 +17,25 @@ use words::LaneNo;
 use words::Op;
 use words::WordNo;
 
-// The answer of a call on lane k by what its part came to: a completion is made here.
-fn answer_to(k: LaneNo, a: LaneAnswer) -> Answer
-    ensures { λ r. ⌜ r ≡ answerTo k a ⌝ }
+// Completions so far once a lane's part is counted: a completion is one more.
+fn count(a: LaneAnswer, done: u32) -> u32
+    requires { ⌜ counted a done ≤ lastPlace ⌝ }
+    ensures { λ r. ⌜ r ≡ counted a done ⌝ }
 {
     match a {
-        LaneAnswer::Value(v) => Answer::Done(answers::completed(k, v)),
+        LaneAnswer::Value(_) => done + 1,
+        LaneAnswer::Waits => done,
+        LaneAnswer::Stepped => done,
+        LaneAnswer::Refused(_) => done,
+    }
+}
+
+// The answer of a call on lane k by what its part came to: a completion is made here, and its place is the count with itself in it.
+fn answer_to(k: LaneNo, done: u32, a: LaneAnswer) -> Answer
+    ensures { λ r. ⌜ r ≡ answerTo k done a ⌝ }
+{
+    match a {
+        LaneAnswer::Value(v) => Answer::Done(answers::completed(k, v, done)),
         LaneAnswer::Waits => Answer::Wait,
         LaneAnswer::Stepped => Answer::Step,
         LaneAnswer::Refused(r) => Answer::Refused(r),
@@ -45,9 +60,13 @@ pub fn begin_sound(s: Store, k: LaneNo, op: Op, w: WordNo) -> Outcome
     let l = t.lanes[i];
     let waiting = l.waiting;
     if waiting.idle() {
+        if places::NEAR_END <= t.completions && places::exhausted(t) {
+            return commit::refused(Refusal::PlacesExhausted, t);
+        }
         let r = begin::begin_lane(l, t.shape.c, op, w);
         let x = r.answer;
-        let e = answer_to(k, x);
+        let done = count(x, t.completions);
+        let e = answer_to(k, done, x);
         if e.refused() {
             return Outcome {
                 answer: e,
@@ -56,6 +75,7 @@ pub fn begin_sound(s: Store, k: LaneNo, op: Op, w: WordNo) -> Outcome
         }
         let u = r.lane;
         t.lanes[i] = u;
+        t.completions = done;
         return Outcome {
             answer: e,
             store: t,
@@ -78,7 +98,8 @@ pub fn deliver_sound(s: Store, k: LaneNo) -> Outcome
     let l = t.lanes[i];
     let r = deliver::deliver_lane(l, t.shape.c);
     let x = r.answer;
-    let a = answer_to(k, x);
+    let done = count(x, t.completions);
+    let a = answer_to(k, done, x);
     if a.refused() {
         return Outcome {
             answer: a,
@@ -87,6 +108,7 @@ pub fn deliver_sound(s: Store, k: LaneNo) -> Outcome
     }
     let u = r.lane;
     t.lanes[i] = u;
+    t.completions = done;
     Outcome {
         answer: a,
         store: t,

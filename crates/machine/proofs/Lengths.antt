@@ -27,17 +27,21 @@ decimal-fits (suc more) n =
     let h = decimal-fits more (n / 10) in
     by-cond (λ (l : List ℕ). length l ≤ suc more) (ltb n 10) _ _ (omega arith) (simp length-append (omega arith))
 
--- an answer has at most 26 bytes, those of `done` with lane and value
-pub answer-fits : (a : Answer) → length (answerText a) ≤ 26
+-- an answer has at most 37 bytes, those of `done` with lane, value and place
+pub answer-fits : (a : Answer) → length (answerText a) ≤ 37
 unfolding answerText
 answer-fits Opened = omega arith
-answer-fits (Done x) = let k = decimal-fits 10 (x .lane .0) in let v = decimal-fits 10 (x .value) in simp length-append (omega arith)
+answer-fits (Done x) =
+    let k = decimal-fits 10 (x .lane .0) in
+    let v = decimal-fits 10 (x .value) in
+    let p = decimal-fits 10 (x .place) in
+    simp length-append (omega arith)
 answer-fits Wait = omega arith
 answer-fits Step = omega arith
 answer-fits (Refused r) = omega (arith, decimal-fits 10 (numberOf r))
 
 -- a record's line
-pub line-fits : (index : ℕ) (a : Answer) → length (lineText index a) ≤ 38
+pub line-fits : (index : ℕ) (a : Answer) → length (lineText index a) ≤ 49
 unfolding lineText
 line-fits index a = let i = decimal-fits 10 index in let t = answer-fits a in simp length-append (omega arith)
 
@@ -56,21 +60,21 @@ unfolding replayFrom
 replay-none zero s tape e = refl
 replay-none (suc more) s tape e = rw (eq-eqb (length tape) 0 e)
 
--- a record's line has at most 38 bytes and the record two bytes or more, but for the last, which may have one
+-- a record's line has at most 49 bytes and the record two bytes or more, but for the last, which may have one
 one-fits : (more index : ℕ) (a : Answer) (s : Store) (tape : List ℕ) → 0 < length tape → Takes tape (parseOf tape) →
-    length (linesText (suc index) (replayFrom more s (drop (parseOf tape .size) tape))) ≤ 19 * length (drop (parseOf tape .size) tape) + 19 →
-    length (lineText index a) + length (linesText (suc index) (replayFrom more s (drop (parseOf tape .size) tape))) ≤ 19 * length tape + 19
+    2 * length (linesText (suc index) (replayFrom more s (drop (parseOf tape .size) tape))) ≤ 49 * length (drop (parseOf tape .size) tape) + 49 →
+    2 * (length (lineText index a) + length (linesText (suc index) (replayFrom more s (drop (parseOf tape .size) tape)))) ≤ 49 * length tape + 49
 unfolding linesText
 one-fits more index a s tape some (inl all) h =
     let none : length (drop (parseOf tape .size) tape) ≡ 0 = length-drop (parseOf tape .size) tape ∙ omega arith in
     rw (replay-none more s (drop (parseOf tape .size) tape) none) (omega (arith, line-fits index a))
 one-fits more index a s tape some (inr t) h = omega (arith, length-drop (parseOf tape .size) tape, line-fits index a, t .0, t .1)
 
-lines-fit : (more index : ℕ) (s : Store) (tape : List ℕ) → length (linesText index (replayFrom more s tape)) ≤ 19 * length tape + 19
+lines-fit : (more index : ℕ) (s : Store) (tape : List ℕ) → 2 * length (linesText index (replayFrom more s tape)) ≤ 49 * length tape + 49
 unfolding replayFrom linesText
 lines-fit zero index s tape = omega arith
 lines-fit (suc more) index s tape =
-    pick (λ (l : List Answer). length (linesText index l) ≤ 19 * length tape + 19) (eqb (length tape) 0) _ _ (λ _. omega arith)
+    pick (λ (l : List Answer). 2 * length (linesText index l) ≤ 49 * length tape + 49) (eqb (length tape) 0) _ _ (λ _. omega arith)
     (λ e. let some : 0 < length tape = omega (arith, eqb-false (length tape) 0 e) in
     let after : Store = recordOf s (parseOf tape .rec) .store in
     simp length-append (one-fits more index _ after tape some (parse-takes tape some) (lines-fit more (suc index) after (drop (parseOf tape .size) tape))))

@@ -6,6 +6,7 @@ pub mod bounds
 pub mod list
 pub mod protocol
 pub mod projection
+pub mod places
 pub mod store
 pub mod settle
 pub mod Theorems

@@ -5,6 +5,7 @@ use Rattle.words.specs.Folds.{upTo, anyTo, countTo, sumTo, lowestTo, gatherTo, 
 use Rattle.records.specs.Records.{parseOf}
 use Rattle.lanes.specs.Search.{firstFrom}
 use Rattle.store.specs.Opening.{badShape, blankLane, blankBlock, freshOf, openOf}
+use Rattle.store.specs.Places.{waitingIn, begunIn}
 use Rattle.store.specs.Quiet.{activeOf, quietOf}
 use Rattle.machine.specs.Corruption.{badLane, badFlags, corruptOf}
 use Rattle.machine.specs.Change.{commitLane, someFull, postTo, postAll, commitMove}
@@ -21,5 +22,5 @@ use Rattle.machine.specs.Calls.{callOf, run}
 use Rattle.machine.specs.Table.{Row, rows, wholeTape, wholeText}
 
 pub cases : map (λ (r : Row). r .given) rows ≡ map (λ (r : Row). r .wanted) rows
-unfolding upTo anyTo countTo sumTo lowestTo gatherTo anyOf firstFrom badShape blankLane blankBlock freshOf openOf activeOf quietOf badLane badFlags corruptOf commitLane someFull postTo postAll commitMove complete hit evict miss beginLane beginOf ordered countOf close readyOf serveMove serveOf returnMove returnOf reply deliverLane deliverOf settleStep boundOf advance ended repeatStep settleOf recordBytes pictureBytes pictureOf parseOf openRecord recordOf replayFrom replayOf decimalIn answerText lineText linesText endText printed printOf callOf run rows wholeTape wholeText
+unfolding upTo anyTo countTo sumTo lowestTo gatherTo anyOf firstFrom badShape blankLane blankBlock freshOf openOf waitingIn begunIn activeOf quietOf badLane badFlags corruptOf commitLane someFull postTo postAll commitMove complete hit evict miss beginLane beginOf ordered countOf close readyOf serveMove serveOf returnMove returnOf reply deliverLane deliverOf settleStep boundOf advance ended repeatStep settleOf recordBytes pictureBytes pictureOf parseOf openRecord recordOf replayFrom replayOf decimalIn answerText lineText linesText endText printed printOf callOf run rows wholeTape wholeText
 cases = refl

@@ -16,6 +16,7 @@ use Rattle.machine.specs.Settle.{boundOf, ended, repeatStep}
 use Rattle.machine.specs.Calls.{Call, Settle, run}
 use Rattle.machine.specs.Attribution.{Begun}
 use Rattle.machine.specs.Demand3.{Demand3, begun, operations}
+use Rattle.machine.specs.Places.{PlacesKept}
 use Rattle.machine.specs.Completion.{AlwaysSettles, SettleBound}
 use Rattle.machine.specs.Sized.{Sized}
 pub use Rattle.machine.proofs.Table.{cases}
@@ -23,6 +24,7 @@ use Rattle.words.specs.declared.Shape.{Shape}
 use Rattle.machine.specs.Potential.{ExactSteps}
 use Rattle.machine.proofs.settle.Falls.{steps-exact}
 use Rattle.machine.proofs.settle.FallsSettle.{startAt, settle-count, repeat-ends, repeat-same}
+use Rattle.machine.proofs.places.CountsSettle.{places-kept}
 use Rattle.machine.proofs.store.OrderOfMemory.{order-of-memory}
 use Rattle.machine.proofs.settle.LiveSettle.{always-settles, all-complete}
 
@@ -41,11 +43,17 @@ use Rattle.machine.proofs.settle.LiveSettle.{always-settles, all-comple
 --   once        each operation completes at most once
 --   values      "each completion's value equals the one flat memory then gives", fed the operations in the order of the completions:
 --               so a load gives the last word stored
+--   places      the completions' places, in their order, are 1, 2, 3 .. without a gap
 --   when-quiet  where no operation waits, no service is open and the queues are empty: every operation begun has completed; the store
 --               shows flat memory's words in every block; the four properties of the flags (000, section III)
 --   same        the store still has the opening's shape: n, c and m
 pub demand-3 : Demand3
 demand-3 = order-of-memory
+
+-- 02, W1, call by call, on every store that 14 passes, be it one that no opening gives: completions have the next places, and completions so far
+-- plus operations waiting stay in 32 bits, so that no place wraps (`PlacesKept`, specs/Places.antt).
+pub places-never-wrap : (s : Store) → corruptOf s ≡ false → Sized s → (c : Call) → PlacesKept s c
+places-never-wrap = places-kept
 
 -- Beside demand 3: settle never fails. After any list of calls from any opening, settle is answered with its count (no 12, no 16), and
 -- nothing is under way after it (`Settles`, specs/Completion.antt).

@@ -3,6 +3,7 @@ pub mod Shape
 pub mod Sound
 pub mod Posts
 pub mod KeepsLane
+pub mod KeepsBegun
 pub mod KeepsStore
 pub mod KeepsServe
 pub mod KeepsReturn

@@ -1,4 +1,4 @@
--- 01, "Begin": load, store v, exchange v, add v. Assumes nothing.
+-- 01, "Begin": load, store v, exchange v, add v; 02, W1: 17. Assumes nothing.
 use Prim.Native.Nat.{ℕ, _*_}
 use mathlib.Core.Bool.{cond, _||_}
 use lib.Dec.{leb}
@@ -7,7 +7,6 @@ use Rattle.words.specs.declared.LineNo.{LineNo}
 use Rattle.words.specs.declared.WordNo.{WordNo}
 use Rattle.words.specs.declared.Line.{Line}
 use Rattle.words.specs.declared.Op.{Op}
-use Rattle.words.specs.declared.Op.the-variants as Op
 use Rattle.words.specs.Units.{blockOf}
 use Rattle.words.specs.Operations.{performOf, isLoad}
 use Rattle.words.specs.Lines.{invalid}
@@ -25,10 +24,11 @@ use Rattle.lanes.specs.Search.{lineAt, searchOf, vacantOf}
 use Rattle.lanes.specs.UseOrder.{placeAt, usedOf}
 use Rattle.lanes.specs.Waits.{idleOf}
 use Rattle.lanes.specs.Lanes.{withWaiting, withOrder, withLine, withReturns}
-use Rattle.answers.specs.declared.Refusal.the-variants.{NoSuchWord, LaneBusy, QueueFull}
+use Rattle.answers.specs.declared.Refusal.the-variants.{NoSuchWord, LaneBusy, QueueFull, PlacesExhausted}
 use Rattle.store.specs.declared.Store.{Store}
 use Rattle.store.specs.declared.Outcome.{Outcome}
 use Rattle.store.specs.Stores.{laneAt}
+use Rattle.store.specs.Places.{exhaustedOf}
 use Rattle.machine.specs.declared.LaneAnswer.the-variants.{Value, Waits}
 use Rattle.machine.specs.declared.LaneStep.{LaneStep}
 use Rattle.machine.specs.Change.{refuse, refuseLane, guarded, commitLane}
@@ -88,9 +88,12 @@ beginAt Nothing c op w l = miss c op w l
 unfoldable pub beginLane : ℕ → Op → WordNo → Lane → LaneStep
 beginLane c op w l = beginAt (searchOf l c (blockOf w)) c op w l
 
--- 14, 6, 7, 8, 12
+-- begin on a lane that waits for nothing: 17, then the lane's part, put back
+abbrev pub beginIdle : Store → LaneNo → Op → WordNo → Outcome
+beginIdle s k op w = cond (exhaustedOf s) (refuse PlacesExhausted s) (commitLane s k (beginLane (s .shape .c) op w (laneAt s (k .0))))
+
+-- 14, 6, 7, 8, 17, 12
 unfoldable pub beginOf : Store → LaneNo → Op → WordNo → Outcome
 beginOf s k op w =
     guarded s k
-    (cond (leb (4 * s .shape .m) (w .0)) (refuse NoSuchWord s)
-    (cond (idleOf (laneAt s (k .0) .waiting)) (commitLane s k (beginLane (s .shape .c) op w (laneAt s (k .0)))) (refuse LaneBusy s)))
+    (cond (leb (4 * s .shape .m) (w .0)) (refuse NoSuchWord s) (cond (idleOf (laneAt s (k .0) .waiting)) (beginIdle s k op w) (refuse LaneBusy s)))

@@ -1,6 +1,6 @@
 -- What every call shares: a refusal leaves the store as it was; what a call changes is put back in one place (a lane's part by
 -- commitLane, memory's part by commitMove). Assumes nothing.
-use Prim.Native.Nat.{ℕ}
+use Prim.Native.Nat.{ℕ, _+_}
 use mathlib.Core.Bool.{Bool, false, true, cond, _&&_}
 use mathlib.Core.List.{List}
 use lib.Dec.{leb}
@@ -24,7 +24,7 @@ use Rattle.store.specs.declared.Store.{Store}
 use Rattle.store.specs.declared.Block.{Block}
 use Rattle.store.specs.declared.Control.{Control}
 use Rattle.store.specs.declared.Outcome.{Outcome}
-use Rattle.store.specs.Stores.{noLane, withControl, withLanes, withLane, withBlock}
+use Rattle.store.specs.Stores.{noLane, withCompletions, withControl, withLanes, withLane, withBlock}
 use Rattle.store.specs.LaneSets.{LaneSet, nobody, goesTo}
 use Rattle.machine.specs.declared.LaneAnswer.{LaneAnswer}
 use Rattle.machine.specs.declared.LaneAnswer.the-variants.{Value, Waits, Stepped}
@@ -51,16 +51,28 @@ refusedIn Waits = false
 refusedIn Stepped = false
 refusedIn (LaneAnswer.Refused r) = true
 
--- the answer of a call on lane k, by what its part came to: the one place where a completion is made
-abbrev pub answerTo : LaneNo → LaneAnswer → Answer
-answerTo k (Value v) = Done (completionOf k v)
-answerTo k Waits = Wait
-answerTo k Stepped = Step
-answerTo k (LaneAnswer.Refused r) = Refused r
+-- completions so far once a lane's part is counted: a completion is one more
+abbrev pub counted : LaneAnswer → ℕ → ℕ
+counted (Value v) done = done + 1
+counted Waits done = done
+counted Stepped done = done
+counted (LaneAnswer.Refused r) done = done
 
--- lane k after its part of a call
+-- the answer of a call on lane k, by what its part came to, with that count: a completion's place is the count with itself in it. The one
+-- place where a completion is made
+abbrev pub answerTo : LaneNo → ℕ → LaneAnswer → Answer
+answerTo k done (Value v) = Done (completionOf k v done)
+answerTo k done Waits = Wait
+answerTo k done Stepped = Step
+answerTo k done (LaneAnswer.Refused r) = Refused r
+
+-- lane k and the count of completions, after the lane's part of a call
+abbrev pub laneStore : Store → LaneNo → LaneStep → Store
+laneStore s k r = withCompletions (withLane s (k .0) (r .lane)) (counted (r .answer) (s .completions))
+
+-- the lane's part of a call put back
 unfoldable pub commitLane : Store → LaneNo → LaneStep → Outcome
-commitLane s k r = record { answer = answerTo k (r .answer); store = cond (refusedIn (r .answer)) s (withLane s (k .0) (r .lane)) }
+commitLane s k r = record { answer = answerTo k (counted (r .answer) (s .completions)) (r .answer); store = cond (refusedIn (r .answer)) s (laneStore s k r) }
 
 -- what stands where nothing is sent
 abbrev pub noMessage : DownMessage

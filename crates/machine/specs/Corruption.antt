@@ -1,4 +1,4 @@
--- 01, number 14 (spoilt): the store breaks its own bounds. Looked at are the n lanes, their c lines, the m blocks and the messages
+-- 01, number 14 (spoilt), with 02, W1: the store breaks its own bounds. Looked at are the n lanes, their c lines, the m blocks and the messages
 -- in the queues; what stands past them in the arrays is no part of the store. Assumes nothing.
 use Prim.Native.Nat.{ℕ}
 use mathlib.Core.Bool.{Bool, false, _||_, _&&_}
@@ -24,6 +24,7 @@ use Rattle.store.specs.declared.Control.{Control}
 use Rattle.store.specs.declared.Control.the-variants.{Free, Busy}
 use Rattle.store.specs.Opening.{badShape}
 use Rattle.store.specs.Stores.{laneAt, blockAt}
+use Rattle.store.specs.Places.{overrunOf}
 use Rattle.store.specs.LaneSets.{goesTo}
 
 -- a block number out of range
@@ -89,4 +90,5 @@ corruptOf s =
     badControl (s .shape .n) (s .shape .m) (s .control) ∷
     anyTo (λ k. badLane (s .shape .c) (s .shape .m) (laneAt s k)) (s .shape .n) ∷
     anyTo (λ a. badFlags (s .shape .n) (blockAt s a)) (s .shape .m) ∷
+    overrunOf s ∷
     [])

@@ -6,6 +6,7 @@ use Prim.Native.Nat.{ℕ, _<_}
 use mathlib.Core.Path.{_≡_}
 use mathlib.Core.Bool.{true}
 use mathlib.Core.List.{List, [], _∷_, map, List·Memᴰ}
+use lib.ListN.{length}
 use Rattle.words.specs.declared.Shape.{Shape}
 use Rattle.answers.specs.declared.Answer.the-variants.{Opened}
 use Rattle.store.specs.declared.Store.{Store}
@@ -13,6 +14,7 @@ use Rattle.store.specs.Opening.{openOf}
 use Rattle.store.specs.Quiet.{quietOf}
 use Rattle.machine.specs.Calls.{Call, Entry, run}
 use Rattle.machine.specs.Attribution.{Begun, Of, Attributed, noWaits, attribute, begunFrom, operationsOf}
+use Rattle.machine.specs.Places.{numbersFrom}
 use Rattle.machine.specs.Flat.{flatOf, flatValues, flatEnd, flatBlock}
 use Rattle.machine.specs.Flags.{Flags, shownOf}
 
@@ -55,10 +57,12 @@ pub record Coherent (shape : Shape) (h : List Entry) (s : Store) : Type 0 where
   pub same : s .shape ≡ shape
   -- every completion is of an operation begun
   pub owned : (x : Attributed) → List·Memᴰ x (completed h) → Owned h x
-  -- no operation completes twice: its begin call's place in the list tells it from all others
-  pub once : Distinct (map (λ (b : Begun). b .place) (operations h))
+  -- no operation completes twice: its begin call's index in the list tells it from all others
+  pub once : Distinct (map (λ (b : Begun). b .index) (operations h))
   -- each completion's value equals the one flat memory then gives, fed the operations in the order of the completions
   pub values : map (λ (x : Attributed). x .completion .value) (completed h) ≡ flatValues (flatOf (shape .m)) (operations h)
+  -- the places run 1, 2, 3 without a gap, in the order of the completions (02, W1)
+  pub places : map (λ (x : Attributed). x .completion .place) (completed h) ≡ numbersFrom 1 (length (completed h))
   pub when-quiet : quietOf s ≡ true → WhenQuiet (shape .m) h s
 
 -- demand 3

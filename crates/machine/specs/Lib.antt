@@ -1,4 +1,4 @@
--- Document 01's machine, in 01's order.
+-- Document 01's machine with document 02's requests, in 01's order.
 pub mod Corruption
 pub mod Change
 pub mod Begin
@@ -13,6 +13,7 @@ pub mod Tape
 pub mod Text
 pub mod Calls
 pub mod Attribution
+pub mod Places
 pub mod Flat
 pub mod Flags
 pub mod Demand3

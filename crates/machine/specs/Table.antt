@@ -29,7 +29,7 @@ use Rattle.answers.specs.Refusals.{numberOf}
 use Rattle.store.specs.declared.Store.{Store}
 use Rattle.store.specs.declared.Control.the-variants.{Busy}
 use Rattle.store.specs.Opening.{freshOf, openOf, line}
-use Rattle.store.specs.Stores.{laneAt, blockAt, withLane, withControl, withBlock}
+use Rattle.store.specs.Stores.{laneAt, blockAt, withCompletions, withLane, withControl, withBlock}
 use Rattle.store.specs.Quiet.{quietOf}
 use Rattle.store.specs.Blocks.{withPresent}
 use Rattle.machine.specs.declared.Settled.{Settled}
@@ -45,10 +45,10 @@ use Rattle.machine.specs.Tape.{replayOf}
 use Rattle.machine.specs.Text.{printed, textMost, printOf}
 use Rattle.store.specs.LaneSets.{including}
 
--- an answer in 01's words: open; done with lane and value; wait; step; refused with the number; a settle with its count and its completions
+-- an answer in 01's words: open; done with lane, value and place; wait; step; refused with the number; a settle with its count and its completions
 pub data Said : Type 0 where
   opens : Said
-  done : ℕ → ℕ → Said
+  done : ℕ → ℕ → ℕ → Said
   wait : Said
   step : Said
   refused : ℕ → Said
@@ -71,7 +71,7 @@ pub record Row : Type 0 where
 -- an answer, and the reply of a call
 abbrev pub wordOf : Answer → Said
 wordOf Opened = opens
-wordOf (Done x) = done (x .lane .0) (x .value)
+wordOf (Done x) = done (x .lane .0) (x .value) (x .place)
 wordOf Wait = wait
 wordOf Step = step
 wordOf (Refused r) = refused (numberOf r)
@@ -119,9 +119,9 @@ return k = Return (lane k)
 abbrev pub deliver : ℕ → Call
 deliver k = Deliver (lane k)
 
--- lane k's completion with value v
-abbrev pub of : ℕ → ℕ → Completion
-of k v = completionOf (lane k) v
+-- lane k's completion with value v at place p
+abbrev pub of : ℕ → ℕ → ℕ → Completion
+of k v p = completionOf (lane k) v p
 
 -- the store after a list of calls
 abbrev pub after : Store → List Call → Store
@@ -173,12 +173,12 @@ wholeAnswers =
     opens ∷
     wait ∷
     step ∷
-    done 0 7 ∷
+    done 0 7 1 ∷
     wait ∷
     step ∷
     step ∷
     step ∷
-    done 1 7 ∷
+    done 1 7 2 ∷
     wait ∷
     wait ∷
     refused 11 ∷
@@ -186,9 +186,9 @@ wholeAnswers =
     step ∷
     step ∷
     step ∷
-    done 1 7 ∷
+    done 1 7 3 ∷
     step ∷
-    done 0 0 ∷
+    done 0 0 4 ∷
     []
 
 -- .. and its text, a line to a line
@@ -197,12 +197,12 @@ wholeText =
     48 ∷ 32 ∷ 111 ∷ 112 ∷ 101 ∷ 110 ∷ 10 ∷
     49 ∷ 32 ∷ 119 ∷ 97 ∷ 105 ∷ 116 ∷ 10 ∷
     50 ∷ 32 ∷ 115 ∷ 116 ∷ 101 ∷ 112 ∷ 10 ∷
-    51 ∷ 32 ∷ 100 ∷ 111 ∷ 110 ∷ 101 ∷ 32 ∷ 48 ∷ 32 ∷ 55 ∷ 10 ∷
+    51 ∷ 32 ∷ 100 ∷ 111 ∷ 110 ∷ 101 ∷ 32 ∷ 48 ∷ 32 ∷ 55 ∷ 32 ∷ 49 ∷ 10 ∷
     52 ∷ 32 ∷ 119 ∷ 97 ∷ 105 ∷ 116 ∷ 10 ∷
     53 ∷ 32 ∷ 115 ∷ 116 ∷ 101 ∷ 112 ∷ 10 ∷
     54 ∷ 32 ∷ 115 ∷ 116 ∷ 101 ∷ 112 ∷ 10 ∷
     55 ∷ 32 ∷ 115 ∷ 116 ∷ 101 ∷ 112 ∷ 10 ∷
-    56 ∷ 32 ∷ 100 ∷ 111 ∷ 110 ∷ 101 ∷ 32 ∷ 49 ∷ 32 ∷ 55 ∷ 10 ∷
+    56 ∷ 32 ∷ 100 ∷ 111 ∷ 110 ∷ 101 ∷ 32 ∷ 49 ∷ 32 ∷ 55 ∷ 32 ∷ 50 ∷ 10 ∷
     57 ∷ 32 ∷ 119 ∷ 97 ∷ 105 ∷ 116 ∷ 10 ∷
     49 ∷ 48 ∷ 32 ∷ 119 ∷ 97 ∷ 105 ∷ 116 ∷ 10 ∷
     49 ∷ 49 ∷ 32 ∷ 114 ∷ 101 ∷ 102 ∷ 117 ∷ 115 ∷ 101 ∷ 100 ∷ 32 ∷ 49 ∷ 49 ∷ 10 ∷
@@ -210,9 +210,9 @@ wholeText =
     49 ∷ 51 ∷ 32 ∷ 115 ∷ 116 ∷ 101 ∷ 112 ∷ 10 ∷
     49 ∷ 52 ∷ 32 ∷ 115 ∷ 116 ∷ 101 ∷ 112 ∷ 10 ∷
     49 ∷ 53 ∷ 32 ∷ 115 ∷ 116 ∷ 101 ∷ 112 ∷ 10 ∷
-    49 ∷ 54 ∷ 32 ∷ 100 ∷ 111 ∷ 110 ∷ 101 ∷ 32 ∷ 49 ∷ 32 ∷ 55 ∷ 10 ∷
+    49 ∷ 54 ∷ 32 ∷ 100 ∷ 111 ∷ 110 ∷ 101 ∷ 32 ∷ 49 ∷ 32 ∷ 55 ∷ 32 ∷ 51 ∷ 10 ∷
     49 ∷ 55 ∷ 32 ∷ 115 ∷ 116 ∷ 101 ∷ 112 ∷ 10 ∷
-    49 ∷ 56 ∷ 32 ∷ 100 ∷ 111 ∷ 110 ∷ 101 ∷ 32 ∷ 48 ∷ 32 ∷ 48 ∷ 10 ∷
+    49 ∷ 56 ∷ 32 ∷ 100 ∷ 111 ∷ 110 ∷ 101 ∷ 32 ∷ 48 ∷ 32 ∷ 48 ∷ 32 ∷ 52 ∷ 10 ∷
     101 ∷ 110 ∷ 100 ∷ 32 ∷ 49 ∷ 57 ∷ 10 ∷
     []
 
@@ -221,7 +221,7 @@ abbrev pub casesOf01 : List Row
 casesOf01 =
     record { given = opening 2 1 1; wanted = Opening opens 2 1 1 } ∷
     record { given = opening 8 8 64; wanted = Opening opens 8 8 64 } ∷
-    on (opened 8 8 64) (load 7 255 says wait ∷ serve 7 says step ∷ deliver 7 says done 7 0 ∷ load 7 256 says refused 7 ∷ load 8 0 says refused 6 ∷ []) ∷
+    on (opened 8 8 64) (load 7 255 says wait ∷ serve 7 says step ∷ deliver 7 says done 7 0 1 ∷ load 7 256 says refused 7 ∷ load 8 0 says refused 6 ∷ []) ∷
     record { given = opening 1 1 1; wanted = Opening (refused 5) 0 0 0 } ∷
     record { given = opening 9 1 1; wanted = Opening (refused 5) 0 0 0 } ∷
     record { given = opening 2 0 1; wanted = Opening (refused 5) 0 0 0 } ∷
@@ -235,13 +235,13 @@ casesOf01 =
     on (opened 2 1 1)
     (store 0 0 4294967295 says wait ∷
     add 1 0 1 says wait ∷
-    Settle says settled 6 (of 0 4294967295 ∷ of 1 4294967295 ∷ []) ∷
-    load 1 0 says done 1 0 ∷
+    Settle says settled 6 (of 0 4294967295 1 ∷ of 1 4294967295 2 ∷ []) ∷
+    load 1 0 says done 1 0 3 ∷
     []) ∷
     record { given = Word (applyOf (Op.Exchange 9) 7 .word); wanted = Word 9 } ∷
     record { given = Word (applyOf (Op.Exchange 9) 7 .value); wanted = Word 7 } ∷
     -- two lanes storing to one word
-    on (opened 2 1 1) (store 0 0 7 says wait ∷ store 1 0 9 says wait ∷ Settle says settled 6 (of 0 7 ∷ of 1 9 ∷ []) ∷ []) ∷
+    on (opened 2 1 1) (store 0 0 7 says wait ∷ store 1 0 9 says wait ∷ Settle says settled 6 (of 0 7 1 ∷ of 1 9 2 ∷ []) ∷ []) ∷
     []
 
 -- the races that lure
@@ -251,44 +251,44 @@ races =
     on (opened 2 1 2)
     (store 0 0 7 says wait ∷
     serve 0 says step ∷
-    deliver 0 says done 0 7 ∷
+    deliver 0 says done 0 7 1 ∷
     load 0 4 says wait ∷
     serve 0 says refused 11 ∷
     return 0 says step ∷
     serve 0 says step ∷
-    deliver 0 says done 0 0 ∷
+    deliver 0 says done 0 0 2 ∷
     load 0 0 says wait ∷
     return 0 says step ∷
     serve 0 says step ∷
-    deliver 0 says done 0 7 ∷
+    deliver 0 says done 0 7 3 ∷
     []) ∷
     -- a bare grant to a lane whose copy was purged while EXCLUDE waited
     on (opened 2 1 1)
     (load 0 0 says wait ∷
     serve 0 says step ∷
-    deliver 0 says done 0 0 ∷
+    deliver 0 says done 0 0 1 ∷
     load 1 0 says wait ∷
     serve 1 says step ∷
-    deliver 1 says done 1 0 ∷
+    deliver 1 says done 1 0 2 ∷
     exchange 0 0 7 says wait ∷
     store 1 0 9 says wait ∷
     serve 1 says step ∷
     deliver 0 says step ∷
     return 0 says step ∷
-    deliver 1 says done 1 9 ∷
+    deliver 1 says done 1 9 3 ∷
     serve 0 says step ∷
     deliver 1 says step ∷
     return 1 says step ∷
-    deliver 0 says done 0 9 ∷
+    deliver 0 says done 0 9 4 ∷
     []) ∷
     -- granting before the last answer
     on (opened 3 1 1)
     (load 1 0 says wait ∷
     serve 1 says step ∷
-    deliver 1 says done 1 0 ∷
+    deliver 1 says done 1 0 1 ∷
     load 2 0 says wait ∷
     serve 2 says step ∷
-    deliver 2 says done 2 0 ∷
+    deliver 2 says done 2 0 2 ∷
     store 0 0 7 says wait ∷
     serve 0 says step ∷
     deliver 1 says step ∷
@@ -296,54 +296,54 @@ races =
     deliver 0 says refused 9 ∷
     deliver 2 says step ∷
     return 2 says step ∷
-    deliver 0 says done 0 7 ∷
+    deliver 0 says done 0 7 3 ∷
     []) ∷
     -- dropping an order for a missing block without GONE: PURGE, then UPDATE
     on (opened 2 1 2)
     (load 0 0 says wait ∷
     serve 0 says step ∷
-    deliver 0 says done 0 0 ∷
+    deliver 0 says done 0 0 1 ∷
     load 0 4 says wait ∷
     store 1 0 7 says wait ∷
     serve 1 says step ∷
     deliver 0 says step ∷
     return 0 says step ∷
     return 0 says step ∷
-    deliver 1 says done 1 7 ∷
+    deliver 1 says done 1 7 2 ∷
     []) ∷
     on (opened 2 1 2)
     (store 0 0 7 says wait ∷
     serve 0 says step ∷
-    deliver 0 says done 0 7 ∷
+    deliver 0 says done 0 7 1 ∷
     load 0 4 says wait ∷
     load 1 0 says wait ∷
     serve 1 says step ∷
     deliver 0 says step ∷
     return 0 says step ∷
     return 0 says step ∷
-    deliver 1 says done 1 7 ∷
+    deliver 1 says done 1 7 2 ∷
     []) ∷
     -- completing an operation when its grant is queued rather than delivered
-    on (opened 2 1 1) (store 0 0 7 says wait ∷ serve 0 says step ∷ load 0 0 says refused 8 ∷ deliver 0 says done 0 7 ∷ load 0 0 says done 0 7 ∷ []) ∷
+    on (opened 2 1 1) (store 0 0 7 says wait ∷ serve 0 says step ∷ load 0 0 says refused 8 ∷ deliver 0 says done 0 7 1 ∷ load 0 0 says done 0 7 2 ∷ []) ∷
     []
 
 -- the stores that are shut out
 abbrev pub shutOut : List Row
 shutOut =
     -- operations that always wait; all calls refused
-    on (opened 2 1 1) (load 0 0 says wait ∷ serve 0 says step ∷ deliver 0 says done 0 0 ∷ load 0 1 says done 0 0 ∷ []) ∷
+    on (opened 2 1 1) (load 0 0 says wait ∷ serve 0 says step ∷ deliver 0 says done 0 0 1 ∷ load 0 1 says done 0 0 2 ∷ []) ∷
     -- words that stay 0
-    on (opened 2 1 1) (store 0 0 7 says wait ∷ serve 0 says step ∷ deliver 0 says done 0 7 ∷ load 0 0 says done 0 7 ∷ []) ∷
+    on (opened 2 1 1) (store 0 0 7 says wait ∷ serve 0 says step ∷ deliver 0 says done 0 7 1 ∷ load 0 0 says done 0 7 2 ∷ []) ∷
     -- the first operation honoured, and then only done reported
     on (opened 2 1 1)
     (store 0 0 7 says wait ∷
     serve 0 says step ∷
-    deliver 0 says done 0 7 ∷
-    store 0 0 9 says done 0 9 ∷
-    load 0 0 says done 0 9 ∷
-    exchange 0 0 3 says done 0 9 ∷
-    add 0 0 2 says done 0 3 ∷
-    load 0 0 says done 0 5 ∷
+    deliver 0 says done 0 7 1 ∷
+    store 0 0 9 says done 0 9 2 ∷
+    load 0 0 says done 0 9 3 ∷
+    exchange 0 0 3 says done 0 9 4 ∷
+    add 0 0 2 says done 0 3 5 ∷
+    load 0 0 says done 0 5 6 ∷
     []) ∷
     -- steps that move no message
     on (opened 2 1 2)
@@ -352,14 +352,14 @@ shutOut =
     deliver 0 says refused 9 ∷
     serve 0 says step ∷
     serve 0 says refused 9 ∷
-    deliver 0 says done 0 7 ∷
+    deliver 0 says done 0 7 1 ∷
     deliver 0 says refused 9 ∷
     load 0 4 says wait ∷
     return 0 says step ∷
     return 0 says refused 9 ∷
     []) ∷
     -- an invented settle count
-    on (opened 2 1 1) (Settle says settled 0 [] ∷ load 1 0 says wait ∷ Settle says settled 2 (of 1 0 ∷ []) ∷ Settle says settled 0 [] ∷ []) ∷
+    on (opened 2 1 1) (Settle says settled 0 [] ∷ load 1 0 says wait ∷ Settle says settled 2 (of 1 0 1 ∷ []) ∷ Settle says settled 0 [] ∷ []) ∷
     -- quiet with a lane waiting
     record { given = Flag (quietOf (opened 2 1 1)); wanted = Flag true } ∷
     record { given = Flag (quietOf (after (opened 2 1 1) (load 0 0 ∷ []))); wanted = Flag false } ∷
@@ -401,72 +401,72 @@ sentences =
     on (opened 2 1 1)
     (load 0 0 says wait ∷
     serve 0 says step ∷
-    deliver 0 says done 0 0 ∷
+    deliver 0 says done 0 0 1 ∷
     load 1 0 says wait ∷
     serve 1 says step ∷
     deliver 0 says refused 9 ∷
-    deliver 1 says done 1 0 ∷
+    deliver 1 says done 1 0 2 ∷
     []) ∷
     -- UPDATE: UPDATED with the words, PRIVATE reset; a hit with PRIVATE reset waits
     on (opened 2 1 1)
     (store 0 0 7 says wait ∷
     serve 0 says step ∷
-    deliver 0 says done 0 7 ∷
+    deliver 0 says done 0 7 1 ∷
     load 1 0 says wait ∷
     serve 1 says step ∷
     deliver 0 says step ∷
     return 0 says step ∷
-    deliver 1 says done 1 7 ∷
-    load 0 0 says done 0 7 ∷
+    deliver 1 says done 1 7 2 ∷
+    load 0 0 says done 0 7 3 ∷
     store 0 0 9 says wait ∷
     []) ∷
     -- PURGED has words only if PRIVATE was set; each other PRESENT is reset
     on (opened 2 1 1)
     (store 0 0 7 says wait ∷
     serve 0 says step ∷
-    deliver 0 says done 0 7 ∷
+    deliver 0 says done 0 7 1 ∷
     exchange 1 0 9 says wait ∷
     serve 1 says step ∷
     deliver 0 says step ∷
     return 0 says step ∷
-    deliver 1 says done 1 7 ∷
+    deliver 1 says done 1 7 2 ∷
     load 0 0 says wait ∷
     []) ∷
     -- EJECT resets PRESENT
     on (opened 2 1 2)
     (load 0 0 says wait ∷
     serve 0 says step ∷
-    deliver 0 says done 0 0 ∷
+    deliver 0 says done 0 0 1 ∷
     load 0 4 says wait ∷
     return 0 says step ∷
     store 1 0 7 says wait ∷
     serve 1 says step ∷
-    deliver 1 says done 1 7 ∷
+    deliver 1 says done 1 7 2 ∷
     []) ∷
     -- the oldest line is given up: block 1, since the load of block 0 is a use
     on (opened 2 2 3)
     (load 0 0 says wait ∷
-    Settle says settled 2 (of 0 0 ∷ []) ∷
+    Settle says settled 2 (of 0 0 1 ∷ []) ∷
     load 0 4 says wait ∷
-    Settle says settled 2 (of 0 0 ∷ []) ∷
-    load 0 0 says done 0 0 ∷
+    Settle says settled 2 (of 0 0 2 ∷ []) ∷
+    load 0 0 says done 0 0 3 ∷
     load 0 8 says wait ∷
-    Settle says settled 3 (of 0 0 ∷ []) ∷
-    load 0 0 says done 0 0 ∷
+    Settle says settled 3 (of 0 0 4 ∷ []) ∷
+    load 0 0 says done 0 0 5 ∷
     load 0 4 says wait ∷
     []) ∷
     -- a fill is a use too: the line of block 2 was filled last, so block 0 is given up
     on (opened 2 2 3)
     (load 0 0 says wait ∷
-    Settle says settled 2 (of 0 0 ∷ []) ∷
+    Settle says settled 2 (of 0 0 1 ∷ []) ∷
     load 0 4 says wait ∷
-    Settle says settled 2 (of 0 0 ∷ []) ∷
-    load 0 0 says done 0 0 ∷
+    Settle says settled 2 (of 0 0 2 ∷ []) ∷
+    load 0 0 says done 0 0 3 ∷
     load 0 8 says wait ∷
-    Settle says settled 3 (of 0 0 ∷ []) ∷
+    Settle says settled 3 (of 0 0 4 ∷ []) ∷
     load 0 4 says wait ∷
-    Settle says settled 3 (of 0 0 ∷ []) ∷
-    load 0 8 says done 0 0 ∷
+    Settle says settled 3 (of 0 0 5 ∷ []) ∷
+    load 0 8 says done 0 0 6 ∷
     load 0 0 says wait ∷
     []) ∷
     -- the lowest-numbered line that is not valid is filled
@@ -476,7 +476,7 @@ sentences =
     on (opened 2 1 2)
     (store 0 0 7 says wait ∷
     serve 0 says step ∷
-    deliver 0 says done 0 7 ∷
+    deliver 0 says done 0 7 1 ∷
     load 0 4 says wait ∷
     load 1 0 says wait ∷
     serve 1 says step ∷
@@ -487,7 +487,7 @@ sentences =
     (load 2 0 says wait ∷
     load 1 0 says wait ∷
     store 0 0 7 says wait ∷
-    Settle says settled 8 (of 0 7 ∷ of 1 7 ∷ of 2 7 ∷ []) ∷
+    Settle says settled 8 (of 0 7 1 ∷ of 1 7 2 ∷ of 2 7 3 ∷ []) ∷
     []) ∷
     -- after refusal 1 or 2 no more records are read
     reads (0 ∷ 2 ∷ 1 ∷ 1 ∷ 2 ∷ 0 ∷ []) (opens ∷ refused 1 ∷ []) ∷
@@ -507,17 +507,17 @@ sentences =
     1 ∷ 0 ∷ 0 ∷
     6 ∷ 0 ∷
     [])
-    (opens ∷ wait ∷ step ∷ done 0 4294967295 ∷ done 0 4294967295 ∷ done 0 67305985 ∷ done 0 84083456 ∷ refused 9 ∷ []) ∷
+    (opens ∷ wait ∷ step ∷ done 0 4294967295 1 ∷ done 0 4294967295 2 ∷ done 0 67305985 3 ∷ done 0 84083456 4 ∷ refused 9 ∷ []) ∷
     -- a number of ten digits, the empty tape, 65,536 bytes and one more
     record {
       given = Bytes (printed (0 ∷ 2 ∷ 1 ∷ 1 ∷ 2 ∷ 0 ∷ 0 ∷ 255 ∷ 255 ∷ 255 ∷ 255 ∷ 5 ∷ 0 ∷ 7 ∷ 0 ∷ []));
-      wanted = Bytes (48 ∷ 32 ∷ 111 ∷ 112 ∷ 101 ∷ 110 ∷ 10 ∷ 49 ∷ 32 ∷ 119 ∷ 97 ∷ 105 ∷ 116 ∷ 10 ∷ 50 ∷ 32 ∷ 115 ∷ 116 ∷ 101 ∷ 112 ∷ 10 ∷ 51 ∷ 32 ∷ 100 ∷ 111 ∷ 110 ∷ 101 ∷ 32 ∷ 48 ∷ 32 ∷ 52 ∷ 50 ∷ 57 ∷ 52 ∷ 57 ∷ 54 ∷ 55 ∷ 50 ∷ 57 ∷ 53 ∷ 10 ∷ 101 ∷ 110 ∷ 100 ∷ 32 ∷ 52 ∷ 10 ∷ []);
+      wanted = Bytes (48 ∷ 32 ∷ 111 ∷ 112 ∷ 101 ∷ 110 ∷ 10 ∷ 49 ∷ 32 ∷ 119 ∷ 97 ∷ 105 ∷ 116 ∷ 10 ∷ 50 ∷ 32 ∷ 115 ∷ 116 ∷ 101 ∷ 112 ∷ 10 ∷ 51 ∷ 32 ∷ 100 ∷ 111 ∷ 110 ∷ 101 ∷ 32 ∷ 48 ∷ 32 ∷ 52 ∷ 50 ∷ 57 ∷ 52 ∷ 57 ∷ 54 ∷ 55 ∷ 50 ∷ 57 ∷ 53 ∷ 32 ∷ 49 ∷ 10 ∷ 101 ∷ 110 ∷ 100 ∷ 32 ∷ 52 ∷ 10 ∷ []);
     } ∷
     record { given = Bytes (printed []); wanted = Bytes (101 ∷ 110 ∷ 100 ∷ 32 ∷ 48 ∷ 10 ∷ []) } ∷
     record { given = Bytes (printed (8 ∷ replicate 65535 0)); wanted = Bytes (48 ∷ 32 ∷ 114 ∷ 101 ∷ 102 ∷ 117 ∷ 115 ∷ 101 ∷ 100 ∷ 32 ∷ 50 ∷ 10 ∷ 101 ∷ 110 ∷ 100 ∷ 32 ∷ 49 ∷ 10 ∷ []) } ∷
     record { given = Bytes (printed (8 ∷ replicate 65536 0)); wanted = Bytes (114 ∷ 101 ∷ 102 ∷ 117 ∷ 115 ∷ 101 ∷ 100 ∷ 32 ∷ 49 ∷ 51 ∷ 10 ∷ []) } ∷
-    -- room for 20 bytes of text for each byte of a tape; a buffer without it is as it was
-    record { given = Number textMost; wanted = Number 1310720 } ∷
+    -- room for 25 bytes of text for each byte of a tape; a buffer without it is as it was
+    record { given = Number textMost; wanted = Number 1638400 } ∷
     record { given = Fills (printOf [] (replicate 6 255)); wanted = Fills (record { answer = Filled.Refused BufferTooShort; buffer = replicate 6 255 }) } ∷
     []
 
@@ -652,11 +652,49 @@ heldStores =
     -- 16: settle not yet quiet with queues empty and no operation unserved
     on (serving 0 0 1 (opened 2 1 2)) (Settle says refused 16 ∷ []) ∷
     -- 12, and what is refused changes nothing: the line is still there, the operation still waits; settle delivers before it returns
-    on (gone 0 0 (gone 0 0 (filled 0 0 (opened 2 1 2)))) (load 0 4 says refused 12 ∷ load 0 0 says done 0 0 ∷ []) ∷
-    on (sent Purge 0 0 (gone 0 0 (gone 0 0 (filled 0 0 (opened 2 1 2))))) (deliver 0 says refused 12 ∷ Settle says refused 12 ∷ load 0 0 says done 0 0 ∷ []) ∷
+    on (gone 0 0 (gone 0 0 (filled 0 0 (opened 2 1 2)))) (load 0 4 says refused 12 ∷ load 0 0 says done 0 0 1 ∷ []) ∷
+    on (sent Purge 0 0 (gone 0 0 (gone 0 0 (filled 0 0 (opened 2 1 2))))) (deliver 0 says refused 12 ∷ Settle says refused 12 ∷ load 0 0 says done 0 0 1 ∷ []) ∷
     on (sent Purge 0 0 (sent Purge 0 0 (opened 2 1 2))) (load 0 0 says wait ∷ serve 0 says refused 12 ∷ load 0 0 says refused 8 ∷ []) ∷
+    []
+
+-- a store that has completed so many operations
+abbrev pub completed : ℕ → Store → Store
+completed d s = withCompletions s d
+
+-- 02, W1: places at their end, 4,294,967,295. Below, the sum is completions so far plus operations waiting
+abbrev pub places : List Row
+places =
+    -- a sum of 4,294,967,294: a hit has the last place, and then 17 is given, also for one that would hit
+    on (completed 4294967294 (filled 0 0 (opened 2 1 1))) (load 0 0 says done 0 0 4294967295 ∷ load 0 0 says refused 17 ∷ []) ∷
+    -- .. so is an operation that waits, unserved or served, which has the last place; 6, 7 and 8 before 17
+    on (completed 4294967294 (opened 2 1 1))
+    (load 0 0 says wait ∷
+    load 1 0 says refused 17 ∷
+    load 0 0 says refused 8 ∷
+    load 1 4 says refused 7 ∷
+    load 2 0 says refused 6 ∷
+    serve 0 says step ∷
+    load 1 0 says refused 17 ∷
+    deliver 0 says done 0 0 4294967295 ∷
+    load 1 0 says refused 17 ∷
+    []) ∷
+    -- a sum of 4,294,967,295: 17 before 12; other calls are not refused by it
+    on (completed 4294967295 (gone 0 0 (gone 0 0 (filled 0 0 (opened 2 1 2))))) (load 0 4 says refused 17 ∷ serve 0 says refused 9 ∷ []) ∷
+    on (completed 4294967295 (opened 2 1 1)) (Settle says settled 0 [] ∷ store 0 0 7 says refused 17 ∷ exchange 1 0 7 says refused 17 ∷ add 1 0 7 says refused 17 ∷ []) ∷
+    -- a larger sum is 14, also where the operation that waits is served
+    on (completed 4294967295 (waits (Unserved (operation 0)) (opened 2 1 1)))
+    (load 1 0 says refused 14 ∷ serve 0 says refused 14 ∷ return 0 says refused 14 ∷ deliver 0 says refused 14 ∷ Settle says refused 14 ∷ []) ∷
+    corrupt (completed 4294967295 (waits (Served (operation 0)) (opened 2 1 1))) ∷
+    sound (completed 4294967294 (waits (Served (operation 0)) (opened 2 1 1))) ∷
+    record {
+      given = pictured (completed 4294967295 (waits (Unserved (operation 0)) (opened 2 1 1))) 20;
+      wanted = Fills (record { answer = Filled.Refused Corrupt; buffer = replicate 20 255 });
+    } ∷
+    -- settle's completions have the next places in the order listed; a refused settle that had completed one leaves the count
+    on (completed 4294967293 (opened 2 1 1)) (store 0 0 7 says wait ∷ store 1 0 9 says wait ∷ Settle says settled 6 (of 0 7 4294967294 ∷ of 1 9 4294967295 ∷ []) ∷ []) ∷
+    on (gone 1 0 (opened 2 1 2)) (load 0 0 says wait ∷ serve 0 says step ∷ Settle says refused 16 ∷ deliver 0 says done 0 0 1 ∷ []) ∷
     []
 
 -- the table
 unfoldable pub rows : List Row
-rows = casesOf01 ++ races ++ shutOut ++ bounds ++ sentences ++ pictures ++ corruptStores ++ heldStores
+rows = casesOf01 ++ races ++ shutOut ++ bounds ++ sentences ++ pictures ++ corruptStores ++ heldStores ++ places

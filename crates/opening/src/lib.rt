@@ -114,6 +114,7 @@ pub fn fresh(shape: Shape) -> Store
     Store {
         shape: shape,
         control: Control::Free,
+        completions: 0,
         lanes: [lane; 8],
         blocks: [block; 64],
     }

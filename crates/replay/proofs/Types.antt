@@ -88,7 +88,7 @@ machParsed p = LL.val P.the-type P′.the-laws p
 pub answer-at : fieldOf outcomeTy 0 ≡ some (answerTy, 0)
 answer-at = refl
 
-pub store-at : fieldOf outcomeTy 1 ≡ some (storeTy, 12)
+pub store-at : fieldOf outcomeTy 1 ≡ some (storeTy, 16)
 store-at = refl
 
 pub size-at : fieldOf parsedTy 0 ≡ some (tyInt w64, 0)

@@ -16,8 +16,8 @@ use store::Store;
 // A tape's length at most.
 const TAPE_MOST: usize = 65536;
 
-// Room for every tape's text: 20 bytes for each byte of the longest tape.
-pub const TEXT_MOST: usize = 1310720;
+// Room for every tape's text: 25 bytes for each byte of the longest tape.
+pub const TEXT_MOST: usize = 1638400;
 
 // The thin function: a record is done on the store that is lent to it.
 fn apply(store: &mut Store, rec: Record) -> Answer

@@ -27,21 +27,34 @@ const SERVE: u8 = 5;
 
 const RETURN: u8 = 6;
 
-// An answer's bytes: its tag, a lane or a refusal's number, a value, and how many completions there are.
+// An answer's bytes: its tag, a lane or a refusal's number, a value, how many completions there are, and a completion's place.
 pub struct Reply {
     pub tag: u8,
     pub small: u8,
     pub value: u32,
     pub listed: u8,
+    pub place: u32,
 }
 
-// A reply that lists no completion.
+// A reply that lists no completion and has none.
 pub fn reply_of(tag: u8, small: u8, value: u32) -> Reply {
     Reply {
         tag: tag,
         small: small,
         value: value,
         listed: 0,
+        place: 0,
+    }
+}
+
+// A completion's reply.
+fn done_reply(x: Completion) -> Reply {
+    Reply {
+        tag: 1,
+        small: x.lane.0,
+        value: x.value,
+        listed: 0,
+        place: x.place,
     }
 }
 
@@ -52,7 +65,7 @@ pub fn refused(r: Refusal) -> Reply {
 pub fn call_reply(a: Answer) -> Reply {
     match a {
         Answer::Opened => reply_of(0, 0, 0),
-        Answer::Done(x) => reply_of(1, x.lane.0, x.value),
+        Answer::Done(x) => done_reply(x),
         Answer::Wait => reply_of(2, 0, 0),
         Answer::Step => reply_of(3, 0, 0),
         Answer::Refused(r) => refused(r),
@@ -66,12 +79,14 @@ pub fn settle_reply(a: Settled, listed: u8) -> Reply {
             small: 0,
             value: n as u32,
             listed: listed,
+            place: 0,
         },
         Settled::Refused(r) => Reply {
             tag: 4,
             small: r.number(),
             value: 0,
             listed: listed,
+            place: 0,
         },
     }
 }
@@ -89,41 +104,43 @@ pub fn called(s: Store, kind: u8, k: LaneNo, w: WordNo, v: u32) -> Outcome {
     }
 }
 
-// An answer's 8 bytes; the last is left.
+// An answer's 12 bytes; the eighth is left.
 pub fn put_reply(out: &mut [u8], r: Reply)
-    requires { ⌜ 8 ≤ length (now out) ⌝ }
+    requires { ⌜ 12 ≤ length (now out) ⌝ }
 {
     put(out, 0, r.tag);
     put(out, 1, r.small);
     put_word(out, 2, r.value);
     put(out, 6, r.listed);
+    put_word(out, 8, r.place);
 }
 
 fn put_completion(out: &mut [u8], at: usize, x: Completion)
-    requires { ⌜ at + 5 ≤ length (now out) ⌝ }
+    requires { ⌜ at + 9 ≤ length (now out) ⌝ }
 {
     put(out, at, x.lane.0);
     put_word(out, at + 1, x.value);
+    put_word(out, at + 5, x.place);
 }
 
-// The completions that are listed, 5 bytes each; 40 bytes have room for all.
+// The completions that are listed, 9 bytes each; 72 bytes have room for all.
 fn put_completions(out: &mut [u8], at: usize, d: Completions)
-    requires { ⌜ at + 40 ≤ length (now out) ⌝ }
+    requires { ⌜ at + 72 ≤ length (now out) ⌝ }
 {
     let listed = d.len as usize;
     let mut i: usize = 0;
     while i < 8 && i < listed {
         let x = d.at[i];
-        put_completion(out, at + 5 * i, x);
+        put_completion(out, at + 9 * i, x);
         i += 1;
     }
 }
 
 // What stands behind a settle's reply: the completions, and the bound of the store before.
 pub fn put_settled(out: &mut [u8], d: Completions, bound: u16)
-    requires { ⌜ 42 ≤ length (now out) ⌝ }
+    requires { ⌜ 74 ≤ length (now out) ⌝ }
 {
     put_completions(out, 0, d);
-    put(out, 40, (bound % 256) as u8);
-    put(out, 41, (bound / 256 % 256) as u8);
+    put(out, 72, (bound % 256) as u8);
+    put(out, 73, (bound / 256 % 256) as u8);
 }

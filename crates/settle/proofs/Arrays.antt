@@ -1,5 +1,5 @@
 -- A store of the program has arrays of their declared lengths: what the check knows of a store by value gives `Sized`. Where the
--- store s is a function's first parameter that is `arrays-sized s _ _ (c .good .0 .1 .1 .1 .1 .0) (c .good .0 .1 .1 .1 .1 .1 .0)`.
+-- store s is a function's first parameter that is `arrays-sized s _ _ (c .good .0 .1 .1 .1 .1 .1 .0) (c .good .0 .1 .1 .1 .1 .1 .1 .0)`.
 -- Assumes nothing.
 use Prim.Native.Nat.{ℕ, zero, suc, _<_}
 use native.Mathlib.Omega.{arith}

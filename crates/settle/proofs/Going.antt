@@ -21,16 +21,17 @@ use Rattle.machine.proofs.bounds.Sound.{sound}
 use Rattle.machine.specs.Sized.{Sized}
 use Rattle.machine.proofs.bounds.SizedKeeps.{settle-step-sized, sized-whole}
 use Rattle.machine.proofs.bounds.KeepsRepeat.{settle-step-keeps}
-use Rattle.machine.proofs.settle.Falls.{waitingIn, settle-falls, settle-completes, waiting-most}
+use Rattle.store.specs.Places.{waitingIn}
+use Rattle.machine.proofs.settle.Falls.{settle-falls, settle-completes, waiting-most}
 use Rattle.machine.proofs.settle.FallsSettle.{repeat-ended, repeat-more}
 use Rattle.settle.specs.declared.Completions.{Completions}
 use Rattle.settle.specs.Settles.{padded, arrayOf, outcomeOf, listedOf, refusalOf}
 
--- ---- the completions in their places
--- the first place that is not used takes one completion more
+-- ---- the completions in their array
+-- the first element that is not used takes one completion more
 padded-more : (cs : List Completion) (x : Completion) → length cs < 8 → set (padded cs) (length cs) x ≡ padded (cs ++ (x ∷ []))
 padded-more cs x h =
-    let z = completionOf (record { 0 = 0 }) 0 in
+    let z = completionOf (record { 0 = 0 }) 0 0 in
     let l = length-append cs (x ∷ []) in
     let e : 8 - length cs ≡ suc (8 - length (cs ++ (x ∷ []))) = omega arith in
     let rest = replicate (8 - length (cs ++ (x ∷ []))) z in
@@ -98,9 +99,9 @@ module _ (first s : Store) (d : Completions) (count : ℕ) (g : Going first s d 
       rw (f, g .listed)
 
   -- there is room for the completion of a step
-  pub going-fits : refusedOf (settleStep s .answer) ≡ false → length (doneIn (settleStep s .answer)) + d .len ≤ 8
-  going-fits x =
-      let c = settle-completes s (g .sound) (g .sized) x in
+  pub going-fits : length (doneIn (settleStep s .answer)) + d .len ≤ 8
+  going-fits =
+      let c = settle-completes s (g .sized) in
       let f = g .fits in
       rw (g .listed) (omega arith)
 
@@ -125,7 +126,7 @@ module _ (first s : Store) (d : Completions) (count : ℕ) (g : Going first s d 
     pub going-next : refusedOf (settleStep s .answer) ≡ false → Going first (settleStep s .store) (listedOf d (settleStep s .answer)) (count + 1)
     unfolding advance
     going-next x =
-        let c = settle-completes s (g .sound) (g .sized) x in
+        let c = settle-completes s (g .sized) in
         let f = g .fits in
         let b = g .bounded in
         let m = settle-falls s (g .sound) (g .sized) x in

@@ -14,11 +14,11 @@ use Rattle.machine.specs.Settle.{Settlement}
 use Rattle.settle.specs.declared.Completions.{Completions}
 use Rattle.settle.specs.declared.SettleOutcome.{SettleOutcome}
 
--- the 8 places of the completions: the completions in order, then that of lane 0 with value 0 in each place that is not used
+-- the array of 8 completions: the completions in order, then that of lane 0 with value 0 and place 0 where there is none
 abbrev pub padded : List Completion → List Completion
-padded cs = cs ++ replicate (8 - length cs) (completionOf (record { 0 = 0 }) 0)
+padded cs = cs ++ replicate (8 - length cs) (completionOf (record { 0 = 0 }) 0 0)
 
--- the completions in order, counted and in their places
+-- the completions in order and their number
 abbrev pub arrayOf : List Completion → Completions
 arrayOf cs = record { len = length cs; at = padded cs }
 

@@ -34,7 +34,7 @@ pub struct SettleOutcome {
 fn none() -> Completions
     ensures { λ r. ⌜ r ≡ arrayOf [] ⌝ }
 {
-    let x = answers::completed(LaneNo(0), 0);
+    let x = answers::completed(LaneNo(0), 0, 0);
     Completions { len: 0, at: [x; 8] }
 }
 

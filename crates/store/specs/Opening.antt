@@ -47,9 +47,9 @@ blankLane = record {
 unfoldable pub blankBlock : Block
 blankBlock = record { words = zeros; present = nobody; modified = false }
 
--- the store of an opening
+-- the store of an opening; no operation has completed (02, W1: "counting from 1 since opening")
 unfoldable pub freshOf : Shape → Store
-freshOf shape = record { shape = shape; control = Free; lanes = replicate 8 blankLane; blocks = replicate 64 blankBlock }
+freshOf shape = record { shape = shape; control = Free; completions = 0; lanes = replicate 8 blankLane; blocks = replicate 64 blankBlock }
 
 -- the blank store, which a tape has before it is opened
 abbrev pub blankStore : Store

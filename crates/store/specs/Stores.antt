@@ -23,15 +23,18 @@ laneAt s k = getD (s .lanes) k noLane
 abbrev pub blockAt : Store → ℕ → Block
 blockAt s a = getD (s .blocks) a noBlock
 
--- a store with another control, other lanes, other blocks
+-- a store with another control, another count of completions, other lanes, other blocks
 abbrev pub withControl : Store → Control → Store
-withControl s x = record { shape = s .shape; control = x; lanes = s .lanes; blocks = s .blocks }
+withControl s x = record { shape = s .shape; control = x; completions = s .completions; lanes = s .lanes; blocks = s .blocks }
+
+abbrev pub withCompletions : Store → ℕ → Store
+withCompletions s done = record { shape = s .shape; control = s .control; completions = done; lanes = s .lanes; blocks = s .blocks }
 
 abbrev pub withLanes : Store → List Lane → Store
-withLanes s ls = record { shape = s .shape; control = s .control; lanes = ls; blocks = s .blocks }
+withLanes s ls = record { shape = s .shape; control = s .control; completions = s .completions; lanes = ls; blocks = s .blocks }
 
 abbrev pub withBlocks : Store → List Block → Store
-withBlocks s bs = record { shape = s .shape; control = s .control; lanes = s .lanes; blocks = bs }
+withBlocks s bs = record { shape = s .shape; control = s .control; completions = s .completions; lanes = s .lanes; blocks = bs }
 
 -- a store with another lane k, another block a
 abbrev pub withLane : Store → ℕ → Lane → Store

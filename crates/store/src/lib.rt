@@ -90,10 +90,11 @@ impl Control {
     }
 }
 
-// The whole store: n lanes of c lines and m blocks; what stands past n, c and m is no part of it.
+// The whole store: n lanes of c lines and m blocks; what stands past n, c and m is no part of it. It counts the completions since opening.
 pub struct Store {
     pub shape: Shape,
     pub control: Control,
+    pub completions: u32,
     pub lanes: [Lane; 8],
     pub blocks: [Block; 64],
 }

@@ -297,19 +297,21 @@ fn control_from(bytes: &[u8], at: usize) -> Control
 
 // The store in the first 3,545 bytes.
 pub fn store_from(bytes: &[u8]) -> Store
-    requires { ⌜ 3545 ≤ length (now bytes) ⌝ }
+    requires { ⌜ 3549 ≤ length (now bytes) ⌝ }
 {
     let shape = Shape {
         n: bytes[0],
         c: bytes[1],
         m: bytes[2],
     };
-    let control = control_from(bytes, 3);
-    let lanes = lanes_from(bytes, 9);
-    let blocks = blocks_from(bytes, 1945);
+    let completions = word_from(bytes, 3);
+    let control = control_from(bytes, 7);
+    let lanes = lanes_from(bytes, 13);
+    let blocks = blocks_from(bytes, 1949);
     Store {
         shape: shape,
         control: control,
+        completions: completions,
         lanes: lanes,
         blocks: blocks,
     }

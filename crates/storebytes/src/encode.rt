@@ -284,9 +284,9 @@ fn put_control(out: &mut [u8], at: usize, x: Control)
     }
 }
 
-// The store's 3,545 bytes.
+// The store's 3,549 bytes.
 pub fn put_store(out: &mut [u8], at: usize, s: Store)
-    requires { ⌜ at + 3545 ≤ length (now out) ⌝ }
+    requires { ⌜ at + 3549 ≤ length (now out) ⌝ }
 {
     let control = s.control;
     let lanes = s.lanes;
@@ -294,7 +294,8 @@ pub fn put_store(out: &mut [u8], at: usize, s: Store)
     put(out, at, s.shape.n);
     put(out, at + 1, s.shape.c);
     put(out, at + 2, s.shape.m);
-    put_control(out, at + 3, control);
-    put_lanes(out, at + 9, lanes);
-    put_blocks(out, at + 1945, blocks);
+    put_word(out, at + 3, s.completions);
+    put_control(out, at + 7, control);
+    put_lanes(out, at + 13, lanes);
+    put_blocks(out, at + 1949, blocks);
 }

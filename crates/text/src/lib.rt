@@ -32,21 +32,23 @@ fn refused_into(out: &mut [u8], at: usize, x: Refusal) -> usize
     spaced_into(out, number, n)
 }
 
-// `done` with lane and value.
+// `done` with lane, value and place.
 fn done_into(out: &mut [u8], at: usize, x: Completion) -> usize
-    requires { ⌜ at + 26 ≤ length (now out) ⌝ }
+    requires { ⌜ at + 37 ≤ length (now out) ⌝ }
     ensures { λ r. ⌜ (r ≡ at + length (answerText (Done x))) × (now (out .exit) ≡ written (now (out .entry)) at (answerText (Done x))) ⌝ }
 {
     let lane = buffers::put4(out, at, b'd', b'o', b'n', b'e');
     let k = x.lane.0 as u32;
     let value = spaced_into(out, lane, k);
     let v = x.value;
-    spaced_into(out, value, v)
+    let place = spaced_into(out, value, v);
+    let p = x.place;
+    spaced_into(out, place, p)
 }
 
 // What a record answers.
 fn answer_into(out: &mut [u8], at: usize, a: Answer) -> usize
-    requires { ⌜ at + 26 ≤ length (now out) ⌝ }
+    requires { ⌜ at + 37 ≤ length (now out) ⌝ }
     ensures { λ r. ⌜ (r ≡ at + length (answerText a)) × (now (out .exit) ≡ written (now (out .entry)) at (answerText a)) ⌝ }
 {
     match a {

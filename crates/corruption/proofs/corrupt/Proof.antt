@@ -1,4 +1,4 @@
--- `corruption::corrupt` meets its contract: shape, control, lanes, blocks, in this order; the first bad one tells. Assumes nothing.
+-- `corruption::corrupt` meets its contract: shape, control, lanes, blocks, places, in this order; the first bad one tells. Assumes nothing.
 use mathlib.Core.Path.{sym, _∙_}
 use Rattle.words.specs.Folds.{anyOf}
 use Rattle.machine.specs.Corruption.{corruptOf}
@@ -34,20 +34,45 @@ bad-blocks-requires c κs = let b = shape-bounds _ (sym (c .before .before .befo
 returns-4 : tie.Need-returns-4
 unfolding corruptOf anyOf
 returns-4 c =
-    let at-if2 = c .before .before .before in
-    let at-bad-control = at-if2 .before in
-    let at-if1 = at-bad-control .before in
-    let at-bad-shape = at-if1 .before in
+    let at-bad-lanes = c .before .before .before in
+    let at-bad-control = at-bad-lanes .before .before in
+    let at-bad-shape = at-bad-control .before .before in
     rw (
       corruptOf,
       anyOf,
       ← at-bad-shape .bad-shape .ensures,
-      at-if1 .if1 .left,
+      at-bad-control .before .if1 .left,
       ← at-bad-control .bad-control .ensures,
-      at-if2 .if2 .left,
-      ← c .before .before .bad-lanes .ensures,
-      c .before .if3 .left,
-      c .bad-blocks .ensures,
+      at-bad-lanes .before .if2 .left,
+      ← at-bad-lanes .bad-lanes .ensures,
+      c .before .before .if3 .left,
+      ← c .before .bad-blocks .ensures,
+      c .if4 .taken,
+    )
+
+overrun-requires : tie.Need-overrun-requires
+overrun-requires c κs =
+    let at-if1 = c .before .before .before .before .before .before in
+    shape-bounds _ (sym (at-if1 .before .bad-shape .ensures) ∙ at-if1 .if1 .left) .1
+
+returns-5 : tie.Need-returns-5
+unfolding corruptOf anyOf
+returns-5 c =
+    let at-bad-lanes = c .before .before .before .before in
+    let at-bad-control = at-bad-lanes .before .before in
+    let at-bad-shape = at-bad-control .before .before in
+    rw (
+      corruptOf,
+      anyOf,
+      ← at-bad-shape .bad-shape .ensures,
+      at-bad-control .before .if1 .left,
+      ← at-bad-control .bad-control .ensures,
+      at-bad-lanes .before .if2 .left,
+      ← at-bad-lanes .bad-lanes .ensures,
+      c .before .before .before .if3 .left,
+      ← c .before .before .bad-blocks .ensures,
+      c .before .if4 .left,
+      c .overrun .ensures,
     )
 
 pub corrupt-spec : {M : Type 1} → statement M
@@ -61,4 +86,6 @@ corrupt-spec =
     bad-lanes-requires
     returns-3
     bad-blocks-requires
-    returns-4)
+    returns-4
+    overrun-requires
+    returns-5)

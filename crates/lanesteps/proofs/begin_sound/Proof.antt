@@ -1,11 +1,16 @@
--- `lanesteps::begin_sound` meets its contract: 6, 7, 8, then the lane's part, refused or put back. Assumes nothing.
+-- `lanesteps::begin_sound` meets its contract: 6, 7, 8, 17, then the lane's part, refused or put back. Assumes nothing.
+use Prim.Native.Nat.{_*_}
+use mathlib.Core.Logic.{⊎-elim}
+use mathlib.Core.Path.{_≡_, sym, _∙_}
+use mathlib.Core.Bool.{false}
 use borrow.Author.Tests.{le-leb, lt-leb}
 use native.Mathlib.Omega.{arith}
-use Prim.Native.Nat.{_*_}
-use Rattle.commit.proofs.Bounds.{lane-bound, lines-bound, oldest-bound}
+use Rattle.store.specs.Places.{exhaustedOf}
+use Rattle.places.proofs.Far.{far-left}
+use Rattle.commit.proofs.Bounds.{lane-bound, lines-bound, oldest-bound, begin-counted, lanes-bound}
 use Rattle.machine.specs.Change.{commitLane}
 use Rattle.machine.specs.Begin.{beginOf}
-use Rattle.machine.proofs.rules.Rules.{answer-goes}
+use Rattle.machine.proofs.rules.Rules.{idle-waiting, answer-goes}
 use borrow.Author.Needs.{needs}
 use Rattle.lanesteps.proofs.begin_sound.Statement.{statement}
 use Rattle.lanesteps.proofs.begin_sound.Tie as tie
@@ -42,59 +47,138 @@ element-copy-out-l c =
 idle-requires : tie.Need-idle-requires
 idle-requires c κs = search needs
 
-begin-lane-requires : tie.Need-begin-lane-requires
-begin-lane-requires c κs =
-    let at-l = c .before .before in
-    let at-if1 = at-l .before .before .before .before in
+exhausted-requires : tie.Need-exhausted-requires
+exhausted-requires c κs =
+    let at-if1 = c .before .before .before .before .before .before .before in
     let start = at-if1 .before .before in
-    (lines-bound _ _ (start .pre) (at-if1 .if1 .left), oldest-bound _ _ (start .pre) (at-if1 .if1 .left))
-
-answer-to-requires : tie.Need-answer-to-requires
-answer-to-requires c κs = search needs
+    lanes-bound _ _ (start .pre) (at-if1 .if1 .left)
 
 refused-requires-3 : tie.Need-refused-requires-3
 refused-requires-3 c κs = search needs
 
 returns-3 : tie.Need-returns-3
-unfolding beginOf commitLane
+unfolding beginOf
 returns-3 c =
-    let at-begin = c .before .before .before in
-    let at-idle = at-begin .before .before in
+    let at-exhausted = c .before .before in
+    let at-idle = at-exhausted .before .before .before in
     let at-if1 = at-idle .before .before .before .before .before in
     let start = at-if1 .before .before in
-    rw (beginOf, start .pre, lt-leb _ _ (at-if1 .if1 .left), lt-leb (4 * start .args .s .shape .m) (start .args .w .0) (omega arith), ← at-idle .idle .ensures, at-begin .before .if3 .taken, ← at-begin .begin-lane .ensures, commitLane, ← answer-goes (start .args .k), ← c .before .before .answer-to .ensures, ← c .before .refused3 .ensures, c .if4 .taken)
+    rw (
+      beginOf,
+      start .pre,
+      lt-leb _ _ (at-if1 .if1 .left),
+      lt-leb (4 * start .args .s .shape .m) (start .args .w .0) (omega arith),
+      ← at-idle .idle .ensures,
+      at-exhausted .before .before .if3 .taken,
+      ← at-exhausted .exhausted .ensures,
+      c .before .if5 .taken,
+      c .refused3 .ensures,
+    )
+
+begin-lane-requires : tie.Need-begin-lane-requires
+begin-lane-requires c κs =
+    let at-if1 = c .before .before .before .before .before .before .before in
+    let start = at-if1 .before .before in
+    (lines-bound _ _ (start .pre) (at-if1 .if1 .left), oldest-bound _ _ (start .pre) (at-if1 .if1 .left))
+
+count-requires : tie.Need-count-requires
+count-requires c κs =
+    let at-left = c .before in
+    let at-idle = at-left .before .before in
+    let at-if1 = at-idle .before .before .before .before .before in
+    let start = at-if1 .before .before in
+    let left : exhaustedOf (start .args .s) ≡ false =
+    ⊎-elim (λ w. sym (w .1 .ensures) ∙ w .2 .left) (λ w. far-left _ (lanes-bound _ _ (start .pre) (at-if1 .if1 .left)) (w .left)) (at-left .if4 .came) in
+    rw (c .begin-lane .ensures) (begin-counted _ _ (start .pre) (at-if1 .if1 .left) _ _ (idle-waiting _ (sym (at-idle .idle .ensures) ∙ at-left .before .if3 .taken)) left)
+
+answer-to-requires : tie.Need-answer-to-requires
+answer-to-requires c κs = search needs
+
+refused-requires-4 : tie.Need-refused-requires-4
+refused-requires-4 c κs = search needs
+
+returns-4 : tie.Need-returns-4
+unfolding beginOf commitLane
+returns-4 c =
+    let at-count = c .before .before .before in
+    let at-left = at-count .before .before in
+    let at-idle = at-left .before .before in
+    let at-if1 = at-idle .before .before .before .before .before in
+    let start = at-if1 .before .before in
+    let left : exhaustedOf (start .args .s) ≡ false =
+    ⊎-elim (λ w. sym (w .1 .ensures) ∙ w .2 .left) (λ w. far-left _ (lanes-bound _ _ (start .pre) (at-if1 .if1 .left)) (w .left)) (at-left .if4 .came) in
+    rw (
+      beginOf,
+      start .pre,
+      lt-leb _ _ (at-if1 .if1 .left),
+      lt-leb (4 * start .args .s .shape .m) (start .args .w .0) (omega arith),
+      ← at-idle .idle .ensures,
+      at-left .before .if3 .taken,
+      left,
+      ← at-count .before .begin-lane .ensures,
+      commitLane,
+      ← at-count .count .ensures,
+      ← answer-goes (start .args .k) (at-count .count .result),
+      ← c .before .before .answer-to .ensures,
+      ← c .before .refused4 .ensures,
+      c .if6 .taken,
+    )
 
 mul-u : tie.Need-mul-u
 mul-u c = search needs
 
 element-set-from-u : tie.Need-element-set-from-u
 element-set-from-u c =
-    let at-begin = c .before .before .before .before in
-    let at-l = at-begin .before .before .before in
-    let at-if1 = at-l .before .before .before .before in
+    let at-left = c .before .before .before .before .before .before in
+    let at-if1 = at-left .before .before .before .before .before .before .before in
     let start = at-if1 .before .before in
     lane-bound _ _ (start .pre) (at-if1 .if1 .left)
 
-returns-4 : tie.Need-returns-4
+returns-5 : tie.Need-returns-5
 unfolding beginOf commitLane
-returns-4 c =
-    let at-answer = c .before .before .before in
-    let at-begin = at-answer .before in
-    let at-idle = at-begin .before .before in
+returns-5 c =
+    let at-count = c .before .before .before .before in
+    let at-left = at-count .before .before in
+    let at-idle = at-left .before .before in
     let at-if1 = at-idle .before .before .before .before .before in
     let start = at-if1 .before .before in
-    rw (beginOf, start .pre, lt-leb _ _ (at-if1 .if1 .left), lt-leb (4 * start .args .s .shape .m) (start .args .w .0) (omega arith), ← at-idle .idle .ensures, at-begin .before .if3 .taken, ← at-begin .begin-lane .ensures, commitLane, ← answer-goes (start .args .k), ← at-answer .answer-to .ensures, ← c .before .before .refused3 .ensures, c .before .if4 .left)
+    let left : exhaustedOf (start .args .s) ≡ false =
+    ⊎-elim (λ w. sym (w .1 .ensures) ∙ w .2 .left) (λ w. far-left _ (lanes-bound _ _ (start .pre) (at-if1 .if1 .left)) (w .left)) (at-left .if4 .came) in
+    rw (
+      beginOf,
+      start .pre,
+      lt-leb _ _ (at-if1 .if1 .left),
+      lt-leb (4 * start .args .s .shape .m) (start .args .w .0) (omega arith),
+      ← at-idle .idle .ensures,
+      at-left .before .if3 .taken,
+      left,
+      ← at-count .before .begin-lane .ensures,
+      commitLane,
+      ← at-count .count .ensures,
+      ← answer-goes (start .args .k) (at-count .count .result),
+      ← c .before .before .before .answer-to .ensures,
+      ← c .before .before .refused4 .ensures,
+      c .before .if6 .left,
+    )
 
-refused-requires-4 : tie.Need-refused-requires-4
-refused-requires-4 c κs = search needs
+refused-requires-5 : tie.Need-refused-requires-5
+refused-requires-5 c κs = search needs
 
-returns-5 : tie.Need-returns-5
+returns-6 : tie.Need-returns-6
 unfolding beginOf
-returns-5 c =
+returns-6 c =
     let at-idle = c .before .before in
     let at-if1 = at-idle .before .before .before .before .before in
     let start = at-if1 .before .before in
-    rw (beginOf, start .pre, lt-leb _ _ (at-if1 .if1 .left), lt-leb (4 * start .args .s .shape .m) (start .args .w .0) (omega arith), ← at-idle .idle .ensures, c .before .if3 .left, c .refused4 .ensures)
+    rw (
+      beginOf,
+      start .pre,
+      lt-leb _ _ (at-if1 .if1 .left),
+      lt-leb (4 * start .args .s .shape .m) (start .args .w .0) (omega arith),
+      ← at-idle .idle .ensures,
+      c .before .if3 .left,
+      c .refused5 .ensures,
+    )
 
 pub begin-sound-spec : {M : Type 1} → statement M
 begin-sound-spec =
@@ -108,12 +192,16 @@ begin-sound-spec =
     mul-l
     element-copy-out-l
     idle-requires
-    begin-lane-requires
-    answer-to-requires
+    exhausted-requires
     refused-requires-3
     returns-3
+    begin-lane-requires
+    count-requires
+    answer-to-requires
+    refused-requires-4
+    returns-4
     mul-u
     element-set-from-u
-    returns-4
-    refused-requires-4
-    returns-5)
+    returns-5
+    refused-requires-5
+    returns-6)

@@ -1,14 +1,17 @@
 -- Opening gives a store within bounds. Assumes nothing.
 use Prim.Native.Nat.{ℕ, zero, suc, _<_, _≤_}
-use mathlib.Core.Path.{_≡_, refl, sym, _∙_}
-use mathlib.Core.Bool.{false, true≢false}
+use mathlib.Core.Path.{_≡_, refl, sym, ap, _∙_}
+use mathlib.Core.Bool.{true, false, not, true≢false}
 use lib.ListN.{getD, getD-replicate}
 use native.Mathlib.Omega.{arith}
 use Rattle.words.specs.declared.Shape.{Shape}
 use Rattle.words.specs.Lines.{noLine}
 use Rattle.lanes.specs.UseOrder.{placeAt}
+use Rattle.lanes.specs.Waits.{idleOf}
 use Rattle.store.specs.Opening.{badShape, blankLine, blankLane, blankBlock, freshOf}
 use Rattle.store.specs.Stores.{noLane, noBlock, laneAt, blockAt}
+use Rattle.store.specs.Places.{waitingIn, begunIn}
+use Rattle.machine.proofs.laws.Sums.{count-zero}
 use Rattle.machine.proofs.bounds.Shape.{shape-bounds}
 use Rattle.machine.proofs.bounds.Sound.{Ordered, BlockSound}
 use Rattle.machine.proofs.bounds.KeepsLane.{clash, LaneFit}
@@ -66,6 +69,17 @@ fresh-block : (shape : Shape) (a : ℕ) → a < 64 → blockAt (freshOf shape) a
 unfolding freshOf
 fresh-block shape a h = getD-replicate 64 a blankBlock noBlock h
 
+-- no operation has begun
+fresh-idle : (shape : Shape) (k : ℕ) → k < 8 → idleOf (laneAt (freshOf shape) k .waiting) ≡ true
+unfolding blankLane
+fresh-idle shape k h = rw (fresh-lane shape k h) refl
+
+fresh-begun : (shape : Shape) → shape .n ≤ 8 → begunIn (freshOf shape) ≡ 0
+unfolding begunIn waitingIn freshOf
+fresh-begun shape h =
+    let z = count-zero (λ k. not (idleOf (laneAt (freshOf shape) k .waiting))) (shape .n) (λ k l. ap not (fresh-idle shape k (omega arith))) in
+    omega arith
+
 pub open-fit : (shape : Shape) → badShape shape ≡ false → Fit 8 (freshOf shape)
 unfolding freshOf
 open-fit shape e =
@@ -81,6 +95,7 @@ open-fit shape e =
         control = free-sound (shape .n) (shape .m);
         lane = λ k h. let p = b .1 in rw (fresh-lane shape k (omega arith)) (blank-fit (shape .c) (shape .m) (b .3) .sound);
         block = λ a h. let p = b .5 in rw (fresh-block shape a (omega arith)) (blank-block (shape .n));
+        begun = let z = fresh-begun shape (b .1) in omega arith;
       };
       long = λ k h. let p = b .1 in rw (fresh-lane shape k (omega arith)) (blank-fit (shape .c) (shape .m) (b .3) .long);
     }

@@ -20,6 +20,7 @@ use Rattle.store.specs.Stores.{laneAt, blockAt}
 use Rattle.machine.specs.Return.{takenBy, sendNothing, returnMove, returnOf}
 use Rattle.machine.proofs.bounds.Sound.{BlockSound, ControlSound}
 use Rattle.machine.proofs.bounds.KeepsLane.{LaneFit, returned-keeps, head-inside}
+use Rattle.machine.proofs.bounds.KeepsBegun.{return-move-waits}
 use Rattle.machine.proofs.bounds.KeepsStore.{Fit, lane-fit, MoveFit, commit-move-keeps}
 use Rattle.machine.proofs.bounds.KeepsServe.{busy-sound, free-sound, reset-absent, close-keeps}
 use Rattle.machine.proofs.rules.Rules.{return-rule}
@@ -57,4 +58,5 @@ return-fit h s k g =
     let x = headReturn (laneAt s (k .0) .returns) in
     let b = head-inside (s .shape .m) (laneAt s (k .0) .returns .len) (λ i. getD (laneAt s (k .0) .returns .at) i noReturn .block .0) (f .sound .returns) (ne-eqb _ _ (r .filled)) in
     commit-move-keeps h s k (x .block) _ g
-    (return-move-keeps h (s .shape .n) (s .shape .c) (s .shape .m) (g .sound .m-low) k x (laneAt s (k .0)) (blockAt s (x .block .0)) (s .control) f (g .sound .block (x .block .0) b) (g .sound .control)))
+    (return-move-keeps h (s .shape .n) (s .shape .c) (s .shape .m) (g .sound .m-low) k x (laneAt s (k .0)) (blockAt s (x .block .0)) (s .control) f (g .sound .block (x .block .0) b) (g .sound .control))
+    (return-move-waits k x (laneAt s (k .0)) (blockAt s (x .block .0)) (s .control)))

@@ -29,6 +29,7 @@ use Rattle.machine.proofs.laws.Sets.{set-cases, set-here}
 use Rattle.machine.proofs.laws.Counts.{count-less, count-past}
 use Rattle.machine.proofs.bounds.Sound.{BlockSound, ServiceSound, ControlSound, sound}
 use Rattle.machine.proofs.bounds.KeepsLane.{LaneFit, with-served, clash}
+use Rattle.machine.proofs.bounds.KeepsBegun.{serve-move-waits}
 use Rattle.machine.proofs.bounds.KeepsStore.{Fit, lane-fit, MoveFit, commit-move-keeps}
 use Rattle.machine.proofs.rules.Rules.{serve-rule}
 use Rattle.machine.proofs.rules.RulesMemory.{serve-move-rule}
@@ -119,4 +120,5 @@ serve-fit h s k g =
     let b = f .sound .unserved o (r .unserved) in
     commit-move-keeps h s k (blockOf (o .word)) _ g
     (serve-move-keeps h (s .shape .n) (s .shape .c) (s .shape .m) k o (laneAt s (k .0)) (blockAt s (blockOf (o .word) .0)) (s .control) (g .sound .n-high) (r .lane) b f
-    (g .sound .block (blockOf (o .word) .0) b) (g .sound .control)))
+    (g .sound .block (blockOf (o .word) .0) b) (g .sound .control))
+    (serve-move-waits k o (laneAt s (k .0)) (blockAt s (blockOf (o .word) .0)) (s .control) (r .unserved)))

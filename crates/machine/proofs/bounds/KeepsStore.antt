@@ -1,8 +1,10 @@
 -- A lane, or a lane with a block, the control and a message to some lanes, put back into a store keeps it within bounds. Assumes nothing.
 use Prim.Native.Nat.{ℕ, zero, suc, _<_, _≤_}
-use mathlib.Core.Bool.{Bool}
+use mathlib.Core.Path.{_≡_}
+use mathlib.Core.Bool.{Bool, false}
 use mathlib.Core.List.{List}
 use lib.ListN.{length, getD, set}
+use native.Mathlib.Omega.{arith}
 use Rattle.words.specs.declared.LaneNo.{LaneNo}
 use Rattle.words.specs.declared.BlockNo.{BlockNo}
 use Rattle.words.specs.Folds.{upTo}
@@ -11,14 +13,16 @@ use Rattle.queues.specs.declared.DownMessage.{DownMessage}
 use Rattle.lanes.specs.declared.Lane.{Lane}
 use Rattle.store.specs.declared.Store.{Store}
 use Rattle.store.specs.declared.Outcome.{Outcome}
-use Rattle.store.specs.Stores.{noLane, noBlock, laneAt, withLane}
+use Rattle.store.specs.Stores.{noLane, noBlock, laneAt}
+use Rattle.store.specs.Places.{begunIn, lastPlace}
 use Rattle.store.specs.LaneSets.{goesTo}
 use Rattle.machine.specs.declared.LaneStep.{LaneStep}
 use Rattle.machine.specs.declared.Move.{Move}
-use Rattle.machine.specs.Change.{commitLane, posted, postTo, postAll, commitMove}
+use Rattle.machine.specs.Change.{refusedIn, laneStore, commitLane, posted, postTo, postAll, commitMove}
 use Rattle.machine.proofs.laws.Sets.{set-cases}
 use Rattle.machine.proofs.bounds.Sound.{LaneSound, BlockSound, ControlSound, Sound, sound}
 use Rattle.machine.proofs.bounds.KeepsLane.{LaneFit, posted-keeps}
+use Rattle.machine.proofs.bounds.KeepsBegun.{waits, move-begun}
 use Rattle.machine.proofs.rules.Rules.{lane-rule, move-rule}
 
 -- a store within bounds whose lanes' use orders have at least h places
@@ -31,11 +35,11 @@ lane-fit h s g k l = record { sound = g .sound .lane k l; long = g .long k l }
 
 -- lane k after its part of a call
 pub commit-lane-keeps : (h : ℕ) (s : Store) (k : LaneNo) (r : LaneStep) → Fit h s → LaneFit h (s .shape .c) (s .shape .m) (r .lane) →
-    Fit h (commitLane s k r .store)
-commit-lane-keeps h s k r g f = lane-rule (λ (x : Outcome). Fit h (x .store)) s k r (λ _ _. g) (λ _. put)
+    (refusedIn (r .answer) ≡ false → begunIn (laneStore s k r) ≤ lastPlace) → Fit h (commitLane s k r .store)
+commit-lane-keeps h s k r g f d = lane-rule (λ (x : Outcome). Fit h (x .store)) s k r (λ _ _. g) put
   where
-    put : Fit h (withLane s (k .0) (r .lane))
-    put =
+    put : refusedIn (r .answer) ≡ false → Fit h (laneStore s k r)
+    put e =
         let a = g .sound in
         record {
           sound = record {
@@ -48,6 +52,7 @@ commit-lane-keeps h s k r g f = lane-rule (λ (x : Outcome). Fit h (x .store)) s
             control = a .control;
             lane = λ j l. set-cases (LaneSound (s .shape .c) (s .shape .m)) (s .lanes) (k .0) j (r .lane) noLane (λ _. f .sound) (a .lane j l);
             block = a .block;
+            begun = d e;
           };
           long = λ j l. set-cases (λ (x : Lane). h ≤ length (x .order)) (s .lanes) (k .0) j (r .lane) noLane (λ _. f .long) (g .long j l);
         }
@@ -87,8 +92,8 @@ pub record MoveFit (h n c m : ℕ) (v : Move) : Type 0 where
 
 -- the store after memory's part of a call
 pub commit-move-keeps : (h : ℕ) (s : Store) (k : LaneNo) (a : BlockNo) (v : Move) → Fit h s → MoveFit h (s .shape .n) (s .shape .c) (s .shape .m) v →
-    Fit h (commitMove s k a v .store)
-commit-move-keeps h s k a v g f =
+    waits (v .lane) ≡ waits (laneAt s (k .0)) → Fit h (commitMove s k a v .store)
+commit-move-keeps h s k a v g f d =
     move-rule (λ (r : Outcome). Fit h (r .store)) s k a v (λ _. g)
     (λ _ _. let b = g .sound in
     record {
@@ -102,6 +107,7 @@ commit-move-keeps h s k a v g f =
         control = f .control;
         lane = λ j l. after j l .sound;
         block = λ j l. set-cases (BlockSound (s .shape .n)) (s .blocks) (a .0) j (v .block) noBlock (λ _. f .block) (b .block j l);
+        begun = let e = move-begun s k a v d in let z = b .begun in omega arith;
       };
       long = λ j l. after j l .long;
     })

@@ -26,6 +26,7 @@ use Rattle.store.specs.declared.Service.{Service}
 use Rattle.store.specs.declared.Control.{Control}
 use Rattle.store.specs.declared.Control.the-variants.{Free, Busy}
 use Rattle.store.specs.Stores.{laneAt, blockAt}
+use Rattle.store.specs.Places.{begunIn, lastPlace}
 use Rattle.machine.specs.Corruption.{badLine, badLane, badWaiting, badUse, badOrder, badFlag, badFlags, badControl, corruptOf}
 use Rattle.machine.proofs.laws.Tests.{and-right, and-never, or-never, none-of}
 use Rattle.machine.proofs.bounds.Shape.{shape-bounds, bounds-shape}
@@ -73,6 +74,7 @@ pub record Sound (s : Store) : Type 0 where
   pub control : ControlSound (s .shape .n) (s .shape .m) (s .control)
   pub lane : (k : ℕ) → k < s .shape .n → LaneSound (s .shape .c) (s .shape .m) (laneAt s k)
   pub block : (a : ℕ) → a < s .shape .m → BlockSound (s .shape .n) (blockAt s a)
+  pub begun : begunIn s ≤ lastPlace
 
 -- the test of a place of a queue, and of a queue
 abbrev placeTest : ℕ → ℕ → (ℕ → ℕ) → ℕ → Bool
@@ -217,6 +219,7 @@ sound s e =
       control = control-sound (s .shape .n) (s .shape .m) (s .control) (a .1 .0);
       lane = λ k h. lane-sound (s .shape .c) (s .shape .m) (laneAt s k) (any-false (λ j. badLane (s .shape .c) (s .shape .m) (laneAt s j)) (s .shape .n) k (a .1 .1 .0) h);
       block = λ k h. block-sound (s .shape .n) (blockAt s k) (any-false (λ j. badFlags (s .shape .n) (blockAt s j)) (s .shape .m) k (a .1 .1 .1 .0) h);
+      begun = ltb-false _ _ (a .1 .1 .1 .1 .0);
     }
 
 -- .. and back
@@ -231,7 +234,10 @@ not-corrupt s g =
           any-never (λ k. badLane (s .shape .c) (s .shape .m) (laneAt s k)) (s .shape .n) (λ k h. sound-lane (s .shape .c) (s .shape .m) (laneAt s k) (g .lane k h)),
           (
             any-never (λ a. badFlags (s .shape .n) (blockAt s a)) (s .shape .m) (λ a h. sound-block (s .shape .n) (blockAt s a) (g .block a h)),
-            tt,
+            (
+              le-ltb _ _ (g .begun),
+              tt,
+            ),
           ),
         ),
       ),

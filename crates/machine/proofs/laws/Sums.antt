@@ -3,6 +3,9 @@ use Prim.Native.Nat.{ℕ, zero, suc, _+_, _*_, _<_, _≤_}
 use mathlib.Core.Logic.{_⊎_, inl, inr, _≢_}
 use mathlib.Core.Path.{_≡_, refl, sym, ap, _∙_}
 use mathlib.Core.Bool.{Bool, true, false, cond}
+use mathlib.Core.List.{List}
+use lib.ListN.{length, getD, set}
+use lib.Seq.{getD-set-same, getD-set-other}
 use native.Mathlib.Omega.{arith}
 use native.Mathlib.Nat.{add-zero, mul-add, mul-zero, mul-one, mul-suc}
 use Rattle.words.specs.Folds.{countTo, sumTo}
@@ -29,6 +32,24 @@ sum-change f g (suc n) k l e = go (same? k n) (λ m. sum-change f g n k m e)
     go : (k ≡ n) ⊎ (k ≢ n) → (k < n → sumTo g n + f k ≡ sumTo f n + g k) → sumTo g n + g n + f k ≡ sumTo f n + f n + g k
     go (inl q) r = let d = sum-same f g n (λ j m. e j (λ y. omega arith)) in rw q (omega arith)
     go (inr q) r = let d = r (omega (arith, q)) in let z = e n (λ y. q (sym y)) in omega arith
+
+-- .. of a list in which one element is replaced
+pub set-sum : {A : Type 0} (w : A → ℕ) (xs : List A) (none : A) (k n : ℕ) (x : A) → k < n → k < length xs →
+    sumTo (λ j. w (getD (set xs k x) j none)) n + w (getD xs k none) ≡ sumTo (λ j. w (getD xs j none)) n + w x
+set-sum w xs none k n x h g =
+    let a = sum-change (λ j. w (getD xs j none)) (λ j. w (getD (set xs k x) j none)) n k h (λ j m. ap w (getD-set-other xs k j x none m)) in
+    let b = ap w (getD-set-same xs k x none g) in
+    omega arith
+
+-- a term is at most the sum
+pub sum-part : (g : ℕ → ℕ) (n k : ℕ) → k < n → g k ≤ sumTo g n
+unfolding sumTo
+sum-part g zero k l = absurd (omega arith)
+sum-part g (suc n) k l = go (same? k n) (λ m. sum-part g n k m)
+  where
+    go : (k ≡ n) ⊎ (k ≢ n) → (k < n → g k ≤ sumTo g n) → g k ≤ sumTo g n + g n
+    go (inl q) r = rw q (omega arith)
+    go (inr q) r = let z = r (omega (arith, q)) in omega arith
 
 -- a sum of 0 has no other terms
 pub sum-zero : (g : ℕ → ℕ) (n : ℕ) → sumTo g n ≡ 0 → (k : ℕ) → k < n → g k ≡ 0

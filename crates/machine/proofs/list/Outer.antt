@@ -23,7 +23,7 @@ use Rattle.machine.proofs.list.OuterTie.{Outstanding, Tied, one-each, t
 -- what a list of calls that paid tells, with the operations that wait (q) and flat memory (g) after it
 pub record Told (m : ℕ) (h : List Entry) (q : ℕ → Pending) (g : List ℕ) : Type 0 where
   pub owned : (x : Attributed) → List·Memᴰ x (completed h) → Owned h x
-  pub once : Distinct (map (λ (b : Begun). b .place) (operations h))
+  pub once : Distinct (map (λ (b : Begun). b .index) (operations h))
   pub values : map (λ (x : Attributed). x .completion .value) (completed h) ≡ flatValues (flatOf m) (operations h)
   pub end : g ≡ flatEnd (flatOf m) (operations h)
   pub all-completed : ((k : ℕ) → q k ≡ Rests) → (b : Begun) → List·Memᴰ b (begun h) → List·Memᴰ b (operations h)
@@ -32,13 +32,13 @@ pub record Told (m : ℕ) (h : List Entry) (q : ℕ → Pending) (g : List ℕ) 
 abbrev In : List Entry → Begun → Type 0
 In h b = List·Memᴰ b (begun h)
 
--- the places of operations
-abbrev places : List Begun → List ℕ
-places bs = map (λ (b : Begun). b .place) bs
+-- the indices of operations
+abbrev indices : List Begun → List ℕ
+indices bs = map (λ (b : Begun). b .index) bs
 
--- a place that none of them has is not among them
-new-place : (i : ℕ) (bs : List Begun) → ((b : Begun) → List·Memᴰ b bs → b .place ≢ i) → List·Memᴰ i (places bs) → ⊥
-new-place i bs n m = let r = Memᴰ·of-map (λ (b : Begun). b .place) bs m in n (r .0) (r .1) (r .2)
+-- an index that none of them has is not among them
+new-index : (i : ℕ) (bs : List Begun) → ((b : Begun) → List·Memᴰ b bs → b .index ≢ i) → List·Memᴰ i (indices bs) → ⊥
+new-index i bs n m = let r = Memᴰ·of-map (λ (b : Begun). b .index) bs m in n (r .0) (r .1) (r .2)
 
 -- a completion of b
 abbrev attributed : Completion → Begun → Attributed
@@ -50,12 +50,12 @@ byLane last x = record { completion = x; origin = last (x .lane .0) }
 
 -- h is the whole history; q is what waits after it, and g flat memory
 module _ (h : List Entry) (q : ℕ → Pending) (g : List ℕ) where
-  -- from the call at place i on, where xs are the completions to come and bs the operations to be begun
+  -- from the call of index i on, where xs are the completions to come and bs the operations to be begun
   record Tells (p : ℕ → Pending) (last : LastWaits) (i : ℕ) (f : List ℕ) (xs : List Attributed) (bs : List Begun) : Type 0 where
     owned : (x : Attributed) → List·Memᴰ x xs → Owned h x
     -- what completes is outstanding, or is yet to begin
-    from : (b : Begun) → List·Memᴰ b (operationsOf xs) → Outstanding p last b ⊎ (i ≤ b .place)
-    once : Distinct (places (operationsOf xs))
+    from : (b : Begun) → List·Memᴰ b (operationsOf xs) → Outstanding p last b ⊎ (i ≤ b .index)
+    once : Distinct (indices (operationsOf xs))
     values : map (λ (x : Attributed). x .completion .value) xs ≡ flatValues f (operationsOf xs)
     end : g ≡ flatEnd f (operationsOf xs)
     all-completed : ((k : ℕ) → q k ≡ Rests) → (b : Begun) → Outstanding p last b ⊎ List·Memᴰ b bs → List·Memᴰ b (operationsOf xs)
@@ -88,7 +88,7 @@ module _ (h : List Entry) (q : ℕ → Pending) (g : List ℕ) where
     all-completed = r .all-completed;
   }
     where
-      from : (b : Begun) → Outstanding p last b ⊎ (suc i ≤ b .place) → Outstanding p last b ⊎ (i ≤ b .place)
+      from : (b : Begun) → Outstanding p last b ⊎ (suc i ≤ b .index) → Outstanding p last b ⊎ (i ≤ b .index)
       from b (inl x) = inl x
       from b (inr l) = inr (omega arith)
 
@@ -109,7 +109,7 @@ module _ (h : List Entry) (q : ℕ → Pending) (g : List ℕ) where
   tells-done p last i f x b xs bs t o l v r = record {
     owned = owned-first x b xs l (t .was-begun b o) (r .owned);
     from = λ a m. from a (List·Memᴰ·cases-cons m);
-    once = (new-place (b .place) (operationsOf xs) (λ a m. new a (r .from a m)), r .once);
+    once = (new-index (b .index) (operationsOf xs) (λ a m. new a (r .from a m)), r .once);
     values = rw (v, r .values);
     end = r .end;
     all-completed = λ quiet a s. all quiet a (same? (a .lane .0) (b .lane .0)) s;
@@ -118,11 +118,11 @@ module _ (h : List Entry) (q : ℕ → Pending) (g : List ℕ) where
       before : (a : Begun) → Outstanding (upd p (b .lane .0) Rests) last a → (a .lane .0 ≢ b .lane .0) × Outstanding p last a
       before a y = waited-too p last (b .lane .0) a y
 
-      from : (a : Begun) → (a ≡ b) ⊎ List·Memᴰ a (operationsOf xs) → Outstanding p last a ⊎ (i ≤ a .place)
+      from : (a : Begun) → (a ≡ b) ⊎ List·Memᴰ a (operationsOf xs) → Outstanding p last a ⊎ (i ≤ a .index)
       from a (inl e) = inl (rw e o)
       from a (inr m) = elim (r .from a m) [ inl y ↦ inl (before a y .1) | inr y ↦ inr y ]
 
-      new : (a : Begun) → Outstanding (upd p (b .lane .0) Rests) last a ⊎ (i ≤ a .place) → a .place ≢ b .place
+      new : (a : Begun) → Outstanding (upd p (b .lane .0) Rests) last a ⊎ (i ≤ a .index) → a .index ≢ b .index
       new a (inl y) e = before a y .0 (ap (λ (c : Begun). c .lane .0) (t .apart a b (before a y .1) o e))
       new a (inr y) e = let z = t .before b o in omega arith
 
@@ -133,23 +133,23 @@ module _ (h : List Entry) (q : ℕ → Pending) (g : List ℕ) where
 
   -- a begin call completes what it begins
   tells-hit : (p : ℕ → Pending) (last : LastWaits) (i : ℕ) (f : List ℕ) (x : Completion) (b : Begun) (xs : List Attributed) (bs : List Begun) →
-      Tied (In h) p last i → b .place ≡ i → In h b → b .lane ≡ x .lane → x .value ≡ flatValue f b →
+      Tied (In h) p last i → b .index ≡ i → In h b → b .lane ≡ x .lane → x .value ≡ flatValue f b →
       Tells p last (suc i) (flatAfter f b) xs bs → Tells p last i f (attributed x b ∷ xs) (b ∷ bs)
   unfolding operationsOf flatValues flatEnd
   tells-hit p last i f x b xs bs t e m l v r = record {
     owned = owned-first x b xs l m (r .owned);
     from = λ a n. from a (List·Memᴰ·cases-cons n);
-    once = (new-place (b .place) (operationsOf xs) (λ a n. new a (r .from a n)), r .once);
+    once = (new-index (b .index) (operationsOf xs) (λ a n. new a (r .from a n)), r .once);
     values = rw (v, r .values);
     end = r .end;
     all-completed = all;
   }
     where
-      from : (a : Begun) → (a ≡ b) ⊎ List·Memᴰ a (operationsOf xs) → Outstanding p last a ⊎ (i ≤ a .place)
-      from a (inl d) = inr (let z : a .place ≡ b .place = ap (λ (c : Begun). c .place) d in omega arith)
+      from : (a : Begun) → (a ≡ b) ⊎ List·Memᴰ a (operationsOf xs) → Outstanding p last a ⊎ (i ≤ a .index)
+      from a (inl d) = inr (let z : a .index ≡ b .index = ap (λ (c : Begun). c .index) d in omega arith)
       from a (inr n) = elim (r .from a n) [ inl y ↦ inl y | inr y ↦ inr (omega arith) ]
 
-      new : (a : Begun) → Outstanding p last a ⊎ (suc i ≤ a .place) → a .place ≢ b .place
+      new : (a : Begun) → Outstanding p last a ⊎ (suc i ≤ a .index) → a .index ≢ b .index
       new a (inl y) d = let z = t .before a y in omega arith
       new a (inr y) d = omega arith
 
@@ -169,8 +169,8 @@ module _ (h : List Entry) (q : ℕ → Pending) (g : List ℕ) where
     all-completed = all;
   }
     where
-      from : (a : Begun) → Outstanding (waiting p k op w) (lastIs last i k op w) a ⊎ (suc i ≤ a .place) → Outstanding p last a ⊎ (i ≤ a .place)
-      from a (inl y) = elim (new-or-old p last i k op w a y) [ inl d ↦ inr (let z : a .place ≡ i = ap (λ (c : Begun). c .place) d in omega arith) | inr o ↦ inl o ]
+      from : (a : Begun) → Outstanding (waiting p k op w) (lastIs last i k op w) a ⊎ (suc i ≤ a .index) → Outstanding p last a ⊎ (i ≤ a .index)
+      from a (inl y) = elim (new-or-old p last i k op w a y) [ inl d ↦ inr (let z : a .index ≡ i = ap (λ (c : Begun). c .index) d in omega arith) | inr o ↦ inl o ]
       from a (inr y) = inr (omega arith)
 
       all : ((k : ℕ) → q k ≡ Rests) → (a : Begun) → Outstanding p last a ⊎ List·Memᴰ a (begunAt i k op w ∷ bs) → List·Memᴰ a (operationsOf xs)

@@ -21,20 +21,20 @@ pub record Outstanding (p : ℕ → Pending) (last : LastWaits) (b : Begun) : Ty
   pub waits : p (b .lane .0) ≡ Pending.StillWaits (b .op) (b .word)
   pub is-last : last (b .lane .0) ≡ Of b
 
--- the tie before the call at place i, where P holds of the operations begun
+-- the tie before the call of index i, where P holds of the operations begun
 pub record Tied (P : Begun → Type 0) (p : ℕ → Pending) (last : LastWaits) (i : ℕ) : Type 0 where
   -- what a lane waits for is outstanding
   pub held : (k : LaneNo) (op : Op) (w : WordNo) → p (k .0) ≡ Pending.StillWaits op w → (j : ℕ) × Outstanding p last (begunAt j k op w)
-  pub before : (b : Begun) → Outstanding p last b → b .place < i
+  pub before : (b : Begun) → Outstanding p last b → b .index < i
   pub was-begun : (b : Begun) → Outstanding p last b → P b
-  -- the place tells an outstanding operation from all others
-  pub apart : (a b : Begun) → Outstanding p last a → Outstanding p last b → a .place ≡ b .place → a ≡ b
+  -- the index tells an outstanding operation from all others
+  pub apart : (a b : Begun) → Outstanding p last a → Outstanding p last b → a .index ≡ b .index → a ≡ b
 
 -- one lane has at most one outstanding operation
 pub one-each : (p : ℕ → Pending) (last : LastWaits) (a b : Begun) → Outstanding p last a → Outstanding p last b → a .lane .0 ≡ b .lane .0 → a ≡ b
 one-each p last a b x y e = let u : Of a ≡ Of b = sym (x .is-last) ∙ ap last e ∙ y .is-last in cc
 
--- any call: the next one has the next place
+-- any call: the next one has the next index
 pub tied-later : (P : Begun → Type 0) (p : ℕ → Pending) (last : LastWaits) (i : ℕ) → Tied P p last i → Tied P p last (suc i)
 tied-later P p last i t = record { held = t .held; before = λ b x. let h = t .before b x in omega arith; was-begun = t .was-begun; apart = t .apart }
 
@@ -87,11 +87,11 @@ module _ (p : ℕ → Pending) (last : LastWaits) (k : ℕ) where
 abbrev pub waiting : (ℕ → Pending) → LaneNo → Op → WordNo → ℕ → Pending
 waiting p k op w = upd p (k .0) (Pending.StillWaits op w)
 
--- .. which the call at place i began
+-- .. which the call of index i began
 abbrev pub lastIs : LastWaits → ℕ → LaneNo → Op → WordNo → LastWaits
 lastIs last i k op w = upd last (k .0) (Of (begunAt i k op w))
 
--- the call at place i is answered with a wait
+-- the call of index i is answered with a wait
 module _ (p : ℕ → Pending) (last : LastWaits) (i : ℕ) (k : LaneNo) (op : Op) (w : WordNo) where
   -- it is outstanding
   pub waits-now : Outstanding (waiting p k op w) (lastIs last i k op w) (begunAt i k op w)
@@ -143,16 +143,16 @@ module _ (p : ℕ → Pending) (last : LastWaits) (i : ℕ) (k : LaneNo) (op : O
     apart = λ a b x y. apart a b (new-or-old a x) (new-or-old b y);
   }
     where
-      before : (b : Begun) → (b ≡ begunAt i k op w) ⊎ Outstanding p last b → b .place < suc i
-      before b (inl e) = let h : b .place ≡ i = ap (λ (r : Begun). r .place) e in omega arith
+      before : (b : Begun) → (b ≡ begunAt i k op w) ⊎ Outstanding p last b → b .index < suc i
+      before b (inl e) = let h : b .index ≡ i = ap (λ (r : Begun). r .index) e in omega arith
       before b (inr x) = let h = t .before b x in omega arith
 
       was-begun : (b : Begun) → (b ≡ begunAt i k op w) ⊎ Outstanding p last b → P b
       was-begun b (inl e) = rw e new
       was-begun b (inr x) = t .was-begun b x
 
-      apart : (a b : Begun) → (a ≡ begunAt i k op w) ⊎ Outstanding p last a → (b ≡ begunAt i k op w) ⊎ Outstanding p last b → a .place ≡ b .place → a ≡ b
+      apart : (a b : Begun) → (a ≡ begunAt i k op w) ⊎ Outstanding p last a → (b ≡ begunAt i k op w) ⊎ Outstanding p last b → a .index ≡ b .index → a ≡ b
       apart a b (inl x) (inl y) e = x ∙ sym y
-      apart a b (inl x) (inr y) e = let h : a .place ≡ i = ap (λ (r : Begun). r .place) x in let u = t .before b y in absurd (omega arith)
-      apart a b (inr x) (inl y) e = let h : b .place ≡ i = ap (λ (r : Begun). r .place) y in let u = t .before a x in absurd (omega arith)
+      apart a b (inl x) (inr y) e = let h : a .index ≡ i = ap (λ (r : Begun). r .index) x in let u = t .before b y in absurd (omega arith)
+      apart a b (inr x) (inl y) e = let h : b .index ≡ i = ap (λ (r : Begun). r .index) y in let u = t .before a x in absurd (omega arith)
       apart a b (inr x) (inr y) e = t .apart a b x y e

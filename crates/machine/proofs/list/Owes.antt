@@ -24,7 +24,7 @@ pub data Pending : Type 0 where
 abbrev pub upd : {A : Type 0} → (ℕ → A) → ℕ → A → ℕ → A
 upd f k x j = cond (eqb j k) x (f j)
 
--- the operation as flat memory takes it, which looks at neither place nor lane
+-- the operation as flat memory takes it, which looks at neither index nor lane
 abbrev pub fed : Op → WordNo → Begun
 fed op w = begunAt 0 (record { 0 = 0 }) op w
 

@@ -1,6 +1,6 @@
 -- A rule for each call, by which the proofs go: what holds of every refusal, and of the step where nothing refuses it, holds of the call.
 -- Most proofs go by these and not by the calls' text. Assumes nothing.
-use Prim.Native.Nat.{_<_, _*_}
+use Prim.Native.Nat.{ℕ, _<_, _*_}
 use mathlib.Core.Path.{_≡_, refl, _∙_}
 use mathlib.Core.Bool.{true, false, cond}
 use mathlib.Core.Logic.{_≢_}
@@ -22,11 +22,12 @@ use Rattle.lanes.specs.Waits.{idleOf}
 use Rattle.answers.specs.declared.Answer.{Answer}
 use Rattle.answers.specs.declared.Answer.the-variants.{Opened, Done, Wait, Step, Refused}
 use Rattle.answers.specs.declared.Refusal.{Refusal}
-use Rattle.answers.specs.declared.Refusal.the-variants.{Corrupt, NoSuchLane, NoSuchWord, LaneBusy, NothingPending, ControlBusy, ReturnsPending, QueueFull}
+use Rattle.answers.specs.declared.Refusal.the-variants.{Corrupt, NoSuchLane, NoSuchWord, LaneBusy, NothingPending, ControlBusy, ReturnsPending, QueueFull, PlacesExhausted}
 use Rattle.answers.specs.Refusals.{refusedOf}
 use Rattle.store.specs.declared.Store.{Store}
 use Rattle.store.specs.declared.Outcome.{Outcome}
-use Rattle.store.specs.Stores.{laneAt, blockAt, withLane}
+use Rattle.store.specs.Stores.{laneAt, blockAt}
+use Rattle.store.specs.Places.{begunIn, lastPlace, exhaustedOf}
 use Rattle.store.specs.Control.{busyOf}
 use Rattle.machine.specs.declared.LaneAnswer.{LaneAnswer}
 use Rattle.machine.specs.declared.LaneAnswer.the-variants.{Value, Waits, Stepped}
@@ -34,7 +35,7 @@ use Rattle.machine.specs.declared.LaneStep.{LaneStep}
 use Rattle.machine.specs.declared.Move.{Move}
 use Rattle.machine.specs.declared.Ready.{Ready}
 use Rattle.machine.specs.Corruption.{corruptOf}
-use Rattle.machine.specs.Change.{refuse, guarded, answerTo, refusedIn, commitLane, commitMove, someFull, movedStore}
+use Rattle.machine.specs.Change.{refuse, guarded, counted, answerTo, refusedIn, laneStore, commitLane, commitMove, someFull, movedStore}
 use Rattle.machine.specs.Begin.{beginLane, beginOf}
 use Rattle.machine.specs.Serve.{readyWith, readyOf, serveReady, serveMove, serveOf}
 use Rattle.machine.specs.Return.{returnMove, returnOf}
@@ -60,6 +61,7 @@ pub record BeginReady (s : Store) (k : LaneNo) (w : WordNo) : Type 0 where
   pub lane : k .0 < s .shape .n
   pub inside : blockOf w .0 < s .shape .m
   pub idle : laneAt s (k .0) .waiting ≡ Idle
+  pub left : begunIn s ≢ lastPlace
 
 pub idle-waiting : (x : Waiting) → idleOf x ≡ true → x ≡ Idle
 idle-waiting Idle e = refl
@@ -73,7 +75,14 @@ begin-rule P s k op w stays next =
     guarded-rule P s k _ stays
     (λ c h. pick P (leb (4 * s .shape .m) (w .0)) _ _ (λ _. stays NoSuchWord)
     (λ e. pick P (idleOf (laneAt s (k .0) .waiting)) _ _
-    (λ q. next (record { sound = c; lane = h; inside = let v = leb-false (4 * s .shape .m) (w .0) e in omega arith; idle = idle-waiting (laneAt s (k .0) .waiting) q }))
+    (λ q. pick P (exhaustedOf s) _ _ (λ _. stays PlacesExhausted)
+    (λ d. next (record {
+      sound = c;
+      lane = h;
+      inside = let v = leb-false (4 * s .shape .m) (w .0) e in omega arith;
+      idle = idle-waiting (laneAt s (k .0) .waiting) q;
+      left = eqb-false _ _ d;
+    })))
     (λ _. stays LaneBusy)))
 
 -- nothing refuses a serve before memory's part: operation o waits, unserved; the control is free; no return is queued
@@ -137,19 +146,23 @@ unfolding deliverOf
 deliver-is s k c h = guarded-is s k _ c h
 
 -- a call on a lane is refused where the lane's part is
-pub answer-goes : (k : LaneNo) (a : LaneAnswer) → refusedOf (answerTo k a) ≡ refusedIn a
-answer-goes k (Value v) = refl
-answer-goes k Waits = refl
-answer-goes k Stepped = refl
-answer-goes k (LaneAnswer.Refused x) = refl
+pub answer-goes : (k : LaneNo) (done : ℕ) (a : LaneAnswer) → refusedOf (answerTo k done a) ≡ refusedIn a
+answer-goes k done (Value v) = refl
+answer-goes k done Waits = refl
+answer-goes k done Stepped = refl
+answer-goes k done (LaneAnswer.Refused x) = refl
 
--- a lane's part put back: refused, or lane k is another
+-- a lane's part put back where it isn't refused
+abbrev pub putBack : Store → LaneNo → LaneStep → Outcome
+putBack s k r = record { answer = answerTo k (counted (r .answer) (s .completions)) (r .answer); store = laneStore s k r }
+
+-- a lane's part put back: refused, or lane k is another, and a completion is counted
 pub lane-rule : (P : Outcome → Type 0) (s : Store) (k : LaneNo) (r : LaneStep) → ((x : Refusal) → r .answer ≡ LaneAnswer.Refused x → P (refuse x s)) →
-    (refusedIn (r .answer) ≡ false → P (record { answer = answerTo k (r .answer); store = withLane s (k .0) (r .lane) })) → P (commitLane s k r)
+    (refusedIn (r .answer) ≡ false → P (putBack s k r)) → P (commitLane s k r)
 unfolding commitLane
 lane-rule P s k r stays next = go (r .answer) refl
   where
-    go : (a : LaneAnswer) → r .answer ≡ a → P (record { answer = answerTo k (r .answer); store = cond (refusedIn (r .answer)) s (withLane s (k .0) (r .lane)) })
+    go : (a : LaneAnswer) → r .answer ≡ a → P (record { answer = putBack s k r .answer; store = cond (refusedIn (r .answer)) s (laneStore s k r) })
     go (Value v) e = rw e (rw e at (next (rw e refl)))
     go Waits e = rw e (rw e at (next (rw e refl)))
     go Stepped e = rw e (rw e at (next (rw e refl)))

@@ -8,7 +8,6 @@ use borrow.Author.Tests.{ne-eqb}
 use native.Mathlib.Omega.{arith}
 use Rattle.words.specs.declared.LaneNo.{LaneNo}
 use Rattle.words.specs.Units.{blockOf}
-use Rattle.words.specs.Folds.{countTo}
 use Rattle.words.proofs.Folds.{count-most}
 use Rattle.queues.specs.Queues.{headReturn}
 use Rattle.lanes.specs.declared.Waiting.{Waiting}
@@ -21,6 +20,7 @@ use Rattle.store.specs.declared.Store.{Store}
 use Rattle.store.specs.declared.Outcome.{Outcome}
 use Rattle.store.specs.Control.{busyOf}
 use Rattle.store.specs.Stores.{laneAt, blockAt}
+use Rattle.store.specs.Places.{waitingIn, begunIn}
 use Rattle.machine.specs.Corruption.{corruptOf}
 use Rattle.machine.specs.Change.{refuse}
 use Rattle.machine.specs.Serve.{serveOf}
@@ -29,20 +29,17 @@ use Rattle.machine.specs.Deliver.{deliverOf}
 use Rattle.machine.specs.Settle.{settleStep, boundOf, lane}
 use Rattle.machine.specs.Sized.{Sized}
 use Rattle.machine.proofs.laws.Counts.{step-most}
-use Rattle.machine.proofs.laws.Sums.{count-sum, sum-most}
+use Rattle.machine.proofs.laws.Sums.{sum-most}
 use Rattle.machine.proofs.bounds.Sound.{sound}
 use Rattle.machine.proofs.bounds.SizedKeeps.{serve-move-lane, return-move-lane}
 use Rattle.machine.proofs.bounds.KeepsServe.{ordered-fewer}
 use Rattle.machine.specs.Potential.{tallyOf, potentialOf, ordersFor, sentIn, ExactSteps}
 use Rattle.machine.proofs.settle.FallsLane.{weight, weight-most, deliver-lane-takes}
-use Rattle.machine.proofs.settle.FallsStore.{tally-sum, lanesWait, Advancing, commit-lane-advances, commit-move-advances}
+use Rattle.machine.proofs.settle.FallsStore.{tally-sum, Advancing, commit-lane-advances, commit-move-advances}
 use Rattle.machine.proofs.settle.FallsMove.{serve-move-weighs, return-move-weighs}
+use Rattle.machine.proofs.places.Counts.{step-counts, step-begun}
 use Rattle.machine.proofs.rules.Rules.{serve-rule, return-rule, deliver-rule}
 use Rattle.machine.proofs.rules.RulesSettle.{step-rule}
-
--- how many lanes wait
-abbrev pub waitingIn : Store → ℕ
-waitingIn s = countTo (λ k. not (idleOf (laneAt s k .waiting))) (s .shape .n)
 
 -- 01's bound is the tally with 2n for an unserved operation
 bound-tally : (s : Store) → boundOf s ≡ tallyOf (2 * s .shape .n) s
@@ -93,11 +90,10 @@ orders-fewer s k e l = go (laneAt s (k .0) .waiting) refl
         ordered-fewer (s .shape .n) (blockAt s (blockOf (o .word) .0)) k (o .command) (a .n-high) l (a .block (blockOf (o .word) .0) (a .lane (k .0) l .unserved o q))
     go (Served o) q = omega arith
 
--- a step of settle: what it makes of the potential, so of the bound, and of the operations that wait
+-- a step of settle: what it makes of the potential, so of the bound
 record Falling (s : Store) (r : Outcome) : Type 0 where
   potential : potentialOf (r .store) + 1 ≡ potentialOf s + 2 * sentIn (s .control) (r .store .control)
   bound : boundOf (r .store) < boundOf s
-  completes : length (doneIn (r .answer)) + lanesWait (r .store .lanes) (r .store .shape .n) ≡ lanesWait (s .lanes) (s .shape .n)
 
 -- .. where 2n for an operation served pays for its grant or service and for its orders
 falls : (served orders : ℕ) (s : Store) (r : Outcome) → ((u : ℕ) → Advancing u served orders s r) → 2 * served + 2 * orders ≤ 2 * s .shape .n * served →
@@ -110,7 +106,7 @@ falls served orders s r a f h =
     let d = p .sends in
     let i = bound-tally s in
     let j = bound-tally (r .store) ∙ ap (λ (n : ℕ). tallyOf (2 * n) (r .store)) (p .lanes) in
-    record { potential = omega arith; bound = omega arith; completes = p .completes }
+    record { potential = omega arith; bound = omega arith }
 
 -- it is a deliver, a return or a serve, or is refused
 step-falls : (s : Store) → corruptOf s ≡ false → Sized s → refusedOf (settleStep s .answer) ≡ false → Falling s (settleStep s)
@@ -133,13 +129,10 @@ steps-exact s e g =
 pub settle-falls : (s : Store) → corruptOf s ≡ false → Sized s → refusedOf (settleStep s .answer) ≡ false → boundOf (settleStep s .store) < boundOf s
 settle-falls s e g h = step-falls s e g h .bound
 
-pub settle-completes : (s : Store) → corruptOf s ≡ false → Sized s → refusedOf (settleStep s .answer) ≡ false →
-    length (doneIn (settleStep s .answer)) + waitingIn (settleStep s .store) ≡ waitingIn s
-settle-completes s e g h =
-    let a = step-falls s e g h .completes in
-    let b = count-sum (λ k. not (idleOf (laneAt s k .waiting))) (s .shape .n) in
-    let c = count-sum (λ k. not (idleOf (laneAt (settleStep s .store) k .waiting))) (settleStep s .store .shape .n) in
-    omega arith
+-- it completes as many operations as wait no more
+pub settle-completes : (s : Store) → Sized s → length (doneIn (settleStep s .answer)) + waitingIn (settleStep s .store) ≡ waitingIn s
+unfolding begunIn
+settle-completes s g = let a = step-counts s .counted in let b = step-begun s g in omega arith
 
 -- 8 lanes of 2 returns, 2 orders and an unserved operation, and a service
 pub bound-most : (s : Store) → corruptOf s ≡ false → boundOf s ≤ 177
@@ -153,4 +146,5 @@ bound-most s e =
     omega arith
 
 pub waiting-most : (s : Store) → corruptOf s ≡ false → waitingIn s ≤ 8
+unfolding waitingIn
 waiting-most s e = let a = count-most (λ k. not (idleOf (laneAt s k .waiting))) (s .shape .n) in let h = sound s e .n-high in omega arith

@@ -1,6 +1,6 @@
 -- What a lane adds to settle's potential and bound, and what a lane's part of a step makes of it. Assumes nothing.
 use Prim.Native.Nat.{ℕ, zero, suc, _+_, _-_, _*_, _<_, _≤_}
-use mathlib.Core.Path.{_≡_, refl, sym, ap}
+use mathlib.Core.Path.{_≡_, refl, ap}
 use mathlib.Core.Bool.{Bool, true, false, not, cond, _&&_, true≢false}
 use mathlib.Core.List.{List}
 use lib.Dec.{leb, ltb, eqb}
@@ -8,8 +8,6 @@ use lib.ListN.{length, getD, set}
 use lib.Seq.{getD-set-same, getD-set-other}
 use borrow.Author.Tests.{leb-false, eqb-false}
 use native.Mathlib.Omega.{arith}
-use native.Mathlib.Nat.{zero-add}
-use Rattle.words.specs.declared.LaneNo.{LaneNo}
 use Rattle.words.specs.declared.LineNo.{LineNo}
 use Rattle.words.specs.declared.BlockNo.{BlockNo}
 use Rattle.words.specs.declared.WordNo.{WordNo}
@@ -32,17 +30,14 @@ use Rattle.lanes.specs.declared.Waiting.the-variants.{Idle, Unserved, Served}
 use Rattle.lanes.specs.declared.Found.{Found}
 use Rattle.lanes.specs.declared.Found.the-variants.{At, Nothing}
 use Rattle.lanes.specs.Search.{lineAt, searchOf, vacantOf}
-use Rattle.lanes.specs.Waits.{idleOf, unservedOf}
+use Rattle.lanes.specs.Waits.{unservedOf}
 use Rattle.lanes.specs.Lanes.{withWaiting, withReturns, withDowns, withLine}
 use Rattle.answers.specs.declared.Refusal.{Refusal}
 use Rattle.answers.specs.declared.Refusal.the-variants.{NothingPending, QueueFull, Unexpected}
-use Rattle.answers.specs.Completions.{doneIn}
 use Rattle.machine.specs.declared.LaneStep.{LaneStep}
 use Rattle.machine.specs.declared.Ready.{Ready}
 use Rattle.machine.specs.declared.Ready.the-variants.{Go, No}
-use Rattle.machine.specs.declared.LaneAnswer.the-variants.{Value, Waits, Stepped}
-use Rattle.machine.specs.declared.LaneAnswer.{LaneAnswer}
-use Rattle.machine.specs.Change.{refuseLane, posted, refusedIn, answerTo}
+use Rattle.machine.specs.Change.{refuseLane, posted, refusedIn}
 use Rattle.machine.specs.Begin.{complete}
 use Rattle.machine.specs.Deliver.{reply, shared, updateAt, purgeAt, fillAt, grantAt, bareAt, servedOn, grantTo, bareTo, deliverKind, deliverLane}
 use Rattle.machine.specs.Settle.{isOrder, downsOf}
@@ -60,10 +55,6 @@ downsWeight q = downsOf false q + 2 * downsOf true q
 -- what a lane adds, where an unserved operation adds u
 unfoldable pub weight : ℕ → Lane → ℕ
 weight u l = l .returns .len + downsWeight (l .downs) + cond (unservedOf (l .waiting)) u 0
-
--- 1 where the lane's operation waits
-abbrev pub waits : Lane → ℕ
-waits l = cond (not (idleOf (l .waiting))) 1 0
 
 -- a place of a down queue
 place-weight : (b o : Bool) → cond (b && not o) 1 0 + 2 * cond (b && o) 1 0 ≡ cond b (cond o 2 1) 0
@@ -104,17 +95,10 @@ pub served-weight : (u : ℕ) (l : Lane) (o : Operation) → l .waiting ≡ Unse
 unfolding weight
 served-weight u l o e = let a = ap (λ (w : Waiting). cond (unservedOf w) u 0) e in omega arith
 
--- .. and waits as before
-pub served-waits : (l : Lane) (o : Operation) → l .waiting ≡ Unserved o → waits (withWaiting (Served o) l) ≡ waits l
-served-waits l o e = sym (ap (λ (w : Waiting). cond (not (idleOf w)) 1 0) e)
-
 -- a message joins the down queue of a lane
 pub posted-weight : (u : ℕ) (x : DownMessage) (l : Lane) → LaneSized l → fullAt (l .downs .len) ≡ false → weight u (posted x l) ≡ weight u l + price (x .kind)
 unfolding weight
 posted-weight u x l g e = let a = join-weight (l .downs .len) (l .downs .at) x (g .downs) (leb-false _ _ e) in rw e (omega arith)
-
-pub posted-waits : (x : DownMessage) (l : Lane) → waits (posted x l) ≡ waits l
-posted-waits x l = refl
 
 -- the head leaves the return queue of a lane
 pub returned-weight : (u : ℕ) (l : Lane) → emptyAt (l .returns .len) ≡ false → weight u (withReturns (takeReturn (l .returns) .queue) l) + 1 ≡ weight u l
@@ -130,27 +114,9 @@ taken-weight u l g s e =
     let a = leave-weight (l .downs .len) (l .downs .at) (g .downs) (omega (arith, n)) s in
     rw e (omega arith)
 
--- how many operations complete in a lane's part
-abbrev pub completed : LaneAnswer → ℕ
-completed (Value v) = 1
-completed Waits = 0
-completed Stepped = 0
-completed (LaneAnswer.Refused x) = 0
-
-pub completed-done : (k : LaneNo) (a : LaneAnswer) → length (doneIn (answerTo k a)) ≡ completed a
-completed-done k (Value v) = refl
-completed-done k Waits = refl
-completed-done k Stepped = refl
-completed-done k (LaneAnswer.Refused x) = refl
-
--- a lane's part of a step that took a message of price x: the lane is lighter by 1 with it, and a completion is of the operation that waited
-pub record Taken (u x : ℕ) (l : Lane) (r : LaneStep) : Type 0 where
-  pub lighter : weight u (r .lane) + 1 ≡ weight u l + x
-  pub completes : completed (r .answer) + waits (r .lane) ≡ waits l
-
--- .. unless it is refused
+-- a lane's part of a step that took a message of price x, unless it is refused: the lane is lighter by 1 with it
 abbrev pub Takes : ℕ → ℕ → Lane → LaneStep → Type 0
-Takes u x l r = refusedIn (r .answer) ≡ false → Taken u x l r
+Takes u x l r = refusedIn (r .answer) ≡ false → weight u (r .lane) + 1 ≡ weight u l + x
 
 refused-takes : (u x : ℕ) (l : Lane) (n : Refusal) → Takes u x l (refuseLane n l)
 refused-takes u x l n e = absurd (true≢false e)
@@ -159,11 +125,11 @@ refused-takes u x l n e = absurd (true≢false e)
 reply-takes : (u : ℕ) (y : ReturnMessage) (l : Lane) → Takes u 2 l (reply y l)
 unfolding reply weight
 reply-takes u y l =
-    on (leb 2 (l .returns .len)) (λ q. rw q (refused-takes u 2 l QueueFull)) (λ q. rw q (λ _. record { lighter = omega arith; completes = zero-add (waits l) }))
+    on (leb 2 (l .returns .len)) (λ q. rw q (refused-takes u 2 l QueueFull)) (λ q. rw q (λ _. omega arith))
 
 line-takes : (u : ℕ) (y : ReturnMessage) (i : LineNo) (x : Line) (l : Lane) → Takes u 2 l (reply y (withLine i x l))
 unfolding weight
-line-takes u y i x l e = let t = reply-takes u y (withLine i x l) e in record { lighter = t .lighter; completes = t .completes }
+line-takes u y i x l e = reply-takes u y (withLine i x l) e
 
 -- an operation completes
 complete-takes : (u c : ℕ) (i : LineNo) (x : Line) (op : Op) (w : WordNo) (l : Lane) (o : Operation) → l .waiting ≡ Served o →
@@ -171,7 +137,7 @@ complete-takes : (u c : ℕ) (i : LineNo) (x : Line) (op : Op) (w : WordNo) (l :
 unfolding complete weight
 complete-takes u c i x op w l o e h =
     let a = ap (λ (y : Waiting). cond (unservedOf y) u 0) e in
-    record { lighter = omega arith; completes = sym (ap (λ (y : Waiting). cond (not (idleOf y)) 1 0) e) }
+    omega arith
 
 module _ (u c : ℕ) (l : Lane) where
   update-takes : (a : BlockNo) (f : Found) → Takes u 2 l (updateAt f a l)
@@ -184,30 +150,30 @@ module _ (u c : ℕ) (l : Lane) where
 
   fill-takes : (x : DownMessage) (o : Operation) (f : Found) → l .waiting ≡ Served o → Takes u 1 l (fillAt f c x o l)
   fill-takes x o (At i) e = complete-takes u c i _ (o .op) (o .word) l o e
-  fill-takes x o Nothing e = refused-takes u 1 l _
+  fill-takes x o Nothing e = refused-takes u 1 l Unexpected
 
   grant-takes : (x : DownMessage) (o : Operation) (f : Found) → l .waiting ≡ Served o → Takes u 1 l (grantAt f c x o l)
-  grant-takes x o (At i) e = refused-takes u 1 l _
+  grant-takes x o (At i) e = refused-takes u 1 l Unexpected
   grant-takes x o Nothing e = fill-takes x o (vacantOf l c) e
 
   bare-takes : (o : Operation) (f : Found) → l .waiting ≡ Served o → Takes u 1 l (bareAt f c o l)
   bare-takes o (At i) e = complete-takes u c i _ (o .op) (o .word) l o e
-  bare-takes o Nothing e = refused-takes u 1 l _
+  bare-takes o Nothing e = refused-takes u 1 l Unexpected
 
   -- a grant is to the operation that is served, or is refused
   grants-take : (x : DownMessage) (w : Waiting) → l .waiting ≡ w → Takes u 1 l (grantTo (servedOn w (x .block)) c x l)
-  grants-take x Idle e = refused-takes u 1 l _
-  grants-take x (Unserved o) e = refused-takes u 1 l _
+  grants-take x Idle e = refused-takes u 1 l Unexpected
+  grants-take x (Unserved o) e = refused-takes u 1 l Unexpected
   grants-take x (Served o) e =
       by-cond (λ (r : Ready). Takes u 1 l (grantTo r c x l)) (eqb (blockOf (o .word) .0) (x .block .0)) (Go o) (No Unexpected)
-      (grant-takes x o (searchOf l c (x .block)) e) (refused-takes u 1 l _)
+      (grant-takes x o (searchOf l c (x .block)) e) (refused-takes u 1 l Unexpected)
 
   bares-take : (x : DownMessage) (w : Waiting) → l .waiting ≡ w → Takes u 1 l (bareTo (servedOn w (x .block)) c x l)
-  bares-take x Idle e = refused-takes u 1 l _
-  bares-take x (Unserved o) e = refused-takes u 1 l _
+  bares-take x Idle e = refused-takes u 1 l Unexpected
+  bares-take x (Unserved o) e = refused-takes u 1 l Unexpected
   bares-take x (Served o) e =
       by-cond (λ (r : Ready). Takes u 1 l (bareTo r c x l)) (eqb (blockOf (o .word) .0) (x .block .0)) (Go o) (No Unexpected)
-      (bare-takes o (searchOf l c (x .block)) e) (refused-takes u 1 l _)
+      (bare-takes o (searchOf l c (x .block)) e) (refused-takes u 1 l Unexpected)
 
   -- what a message does in a lane that has taken it
   kind-takes : (y : DownKind) (x : DownMessage) → Takes u (price y) l (deliverKind y c x l)
@@ -220,12 +186,11 @@ module _ (u c : ℕ) (l : Lane) where
 pub deliver-lane-takes : (u c : ℕ) (l : Lane) → LaneSized l → l .downs .len ≤ 2 → Takes u 0 l (deliverLane c l)
 unfolding deliverLane
 deliver-lane-takes u c l g s =
-    pick (λ (r : LaneStep). Takes u 0 l r) (emptyAt (l .downs .len)) (refuseLane NothingPending l) _ (λ _. refused-takes u 0 l _)
+    pick (λ (r : LaneStep). Takes u 0 l r) (emptyAt (l .downs .len)) (refuseLane NothingPending l) _ (λ _. refused-takes u 0 l NothingPending)
     (λ q e.
-    let t = kind-takes u c (withDowns (takeDown (l .downs) .queue) l) (headDown (l .downs) .kind) (headDown (l .downs)) e in
-    let a = t .lighter in
+    let a = kind-takes u c (withDowns (takeDown (l .downs) .queue) l) (headDown (l .downs) .kind) (headDown (l .downs)) e in
     let b = taken-weight u l g s q in
-    record { lighter = rw e (omega arith); completes = rw e (t .completes) })
+    rw e (omega arith))
 
 -- a lane adds no more than two messages of each queue and its operation
 pub weight-most : (u : ℕ) (l : Lane) → l .returns .len ≤ 2 → weight u l ≤ u + 6

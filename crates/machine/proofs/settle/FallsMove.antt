@@ -32,7 +32,7 @@ use Rattle.machine.proofs.bounds.Sound.{BlockSound, ControlSound}
 use Rattle.machine.proofs.bounds.KeepsServe.{ordered-count}
 use Rattle.machine.proofs.rules.RulesMemory.{return-move-rule, serve-move-rule}
 use Rattle.machine.specs.Potential.{sentIn}
-use Rattle.machine.proofs.settle.FallsLane.{price, weight, waits, served-weight, served-waits, returned-weight}
+use Rattle.machine.proofs.settle.FallsLane.{price, weight, served-weight, returned-weight}
 use Rattle.machine.proofs.settle.FallsStore.{service, sent-none, Weighs}
 
 -- nobody is no lane, and one lane alone is one
@@ -60,29 +60,28 @@ Weighing n u served orders l x v = refusedOf (v .answer) ≡ false → Weighs n 
 module _ (n u served orders : ℕ) (h : n ≤ 8) (l : Lane) (x : Control) where
   -- close: the grant is one message
   close-weighs : (v : Service) (t : Lane) (b : Block) (y : Control) → v .lane .0 < n →
-      weight u t + 1 + service y + 1 + u * served ≡ weight u l + service x + 2 * served + 2 * orders → sentIn x y ≡ orders → waits t ≡ waits l →
+      weight u t + 1 + service y + 1 + u * served ≡ weight u l + service x + 2 * served + 2 * orders → sentIn x y ≡ orders →
       Weighs n u served orders l x (close v t b y)
   unfolding close
-  close-weighs v t b y i p d q =
+  close-weighs v t b y i p d =
       let c = only-one n (v .lane) h i in
-      record { exact = rw (grant-price b v) (omega arith); sends = d; waits-on = q; completes-none = refl }
+      record { exact = rw (grant-price b v) (omega arith); sends = d }
 
   -- nothing is sent
   sendNothing-weighs : (t : Lane) (b : Block) (y : Control) →
-      weight u t + service y + 1 + u * served ≡ weight u l + service x + 2 * served + 2 * orders → sentIn x y ≡ orders → waits t ≡ waits l →
+      weight u t + service y + 1 + u * served ≡ weight u l + service x + 2 * served + 2 * orders → sentIn x y ≡ orders →
       Weighs n u served orders l x (sendNothing t b y)
-  sendNothing-weighs t b y p d q = let c = nobody-none n h in record { exact = omega arith; sends = d; waits-on = q; completes-none = refl }
+  sendNothing-weighs t b y p d = let c = nobody-none n h in record { exact = omega arith; sends = d }
 
 -- memory's part of serve
 pub serve-move-weighs : (n u : ℕ) (k : LaneNo) (o : Operation) (l : Lane) (b : Block) (x : Control) → n ≤ 8 → k .0 < n → BlockSound n b →
     l .waiting ≡ Unserved o → busyOf x ≡ false → Weighing n u 1 (countOf (ordered b k (o .command))) l x (serveMove k o l b x)
 serve-move-weighs n u k o l b x h i g e f _ =
     let a = served-weight u l o e in
-    let w = served-waits l o e in
     let c = ordered-count n b k (o .command) h g in
     serve-move-rule (Weighs n u 1 (countOf (ordered b k (o .command))) l x) k o l b x
-    (λ z. close-weighs n u 1 _ h l x _ (withWaiting (Served o) l) b x i (omega arith) (sent-none x ∙ sym z) w)
-    (λ _. record { exact = rw (order-price (o .command), f) (omega arith); sends = rw f refl; waits-on = w; completes-none = refl })
+    (λ z. close-weighs n u 1 _ h l x _ (withWaiting (Served o) l) b x i (omega arith) (sent-none x ∙ sym z))
+    (λ _. record { exact = rw (order-price (o .command), f) (omega arith); sends = rw f refl })
 
 -- memory's part of return
 pub return-move-weighs : (n m u : ℕ) (k : LaneNo) (x : ReturnMessage) (l : Lane) (b : Block) (y : Control) → n ≤ 8 → ControlSound n m y →
@@ -90,7 +89,7 @@ pub return-move-weighs : (n m u : ℕ) (k : LaneNo) (x : ReturnMessage) (l : Lan
 return-move-weighs n m u k x l b y h g e =
     let a = returned-weight u l e in
     return-move-rule (Weighing n u 0 0 l y) k x l b y
-    (λ _ _. sendNothing-weighs n u 0 0 h l y _ _ y (omega arith) (sent-none y) refl)
+    (λ _ _. sendNothing-weighs n u 0 0 h l y _ _ y (omega arith) (sent-none y))
     (λ d. absurd (true≢false d))
-    (λ _ v q _ _. let s = ap service (q .busy) in close-weighs n u 0 0 h l y v _ _ Free (g .service v (q .busy) .lane) (omega arith) (rw (q .busy) refl) refl)
-    (λ _ v q _ _. let s = ap service (q .busy) in sendNothing-weighs n u 0 0 h l y _ _ (Busy (lowered v)) (omega arith) (rw (q .busy) refl) refl)
+    (λ _ v q _ _. let s = ap service (q .busy) in close-weighs n u 0 0 h l y v _ _ Free (g .service v (q .busy) .lane) (omega arith) (rw (q .busy) refl))
+    (λ _ v q _ _. let s = ap service (q .busy) in sendNothing-weighs n u 0 0 h l y _ _ (Busy (lowered v)) (omega arith) (rw (q .busy) refl))

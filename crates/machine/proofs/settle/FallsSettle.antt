@@ -14,6 +14,7 @@ use Rattle.answers.specs.declared.Refusal.the-variants.{Corrupt, Unexpected}
 use Rattle.answers.specs.Refusals.{refusedOf}
 use Rattle.answers.specs.Completions.{doneIn}
 use Rattle.store.specs.declared.Store.{Store}
+use Rattle.store.specs.Places.{waitingIn}
 use Rattle.store.specs.Quiet.{quietOf}
 use Rattle.machine.specs.declared.Settled.the-variants.{Steps}
 use Rattle.machine.specs.Corruption.{corruptOf}
@@ -24,7 +25,7 @@ use Rattle.machine.proofs.bounds.Sound.{sound}
 use Rattle.machine.proofs.bounds.KeepsLane.{clash}
 use Rattle.machine.proofs.bounds.KeepsRepeat.{settle-step-keeps}
 use Rattle.machine.proofs.bounds.SizedKeeps.{settle-step-sized, sized-whole}
-use Rattle.machine.proofs.settle.Falls.{waitingIn, settle-falls, settle-completes}
+use Rattle.machine.proofs.settle.Falls.{settle-falls, settle-completes}
 
 -- where settle starts
 abbrev pub startAt : Store → Progress
@@ -65,7 +66,7 @@ pub advance-onward : (p : Progress) → corruptOf (p .store) ≡ false → Sized
 unfolding advance
 advance-onward p e g h =
     let a = settle-falls (p .store) e g h in
-    let b = settle-completes (p .store) e g h in
+    let b = settle-completes (p .store) g in
     let c = length-append (p .completions) (doneIn (settleStep (p .store) .answer)) in
     record {
       not-corrupt = settle-step-keeps (p .store) e (sized-whole (p .store) (sound (p .store) e .n-high) g);

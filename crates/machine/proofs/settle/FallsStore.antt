@@ -1,49 +1,43 @@
 -- Settle's tally is what the lanes and the control add; what a lane, or memory's part of a call, put back makes of it. Assumes nothing.
 use Prim.Native.Nat.{ℕ, _+_, _*_, _<_, _≤_}
-use mathlib.Core.Path.{_≡_, refl, sym, ap}
+use mathlib.Core.Path.{_≡_, refl, sym}
 use mathlib.Core.Bool.{Bool, true, false, cond, _&&_, true≢false}
 use mathlib.Core.List.{List}
 use lib.ListN.{length, getD, set}
-use lib.Seq.{getD-set-same, getD-set-other}
 use native.Mathlib.Omega.{arith}
 use native.Mathlib.Nat.{add-zero}
 use Rattle.words.specs.declared.LaneNo.{LaneNo}
 use Rattle.words.specs.declared.BlockNo.{BlockNo}
 use Rattle.words.specs.Folds.{countTo, sumTo}
-use Rattle.words.proofs.Folds.{any-false, by-cond}
+use Rattle.words.proofs.Folds.{any-false}
 use Rattle.queues.specs.declared.DownMessage.{DownMessage}
 use Rattle.queues.specs.Queues.{fullAt}
 use Rattle.lanes.specs.declared.Lane.{Lane}
 use Rattle.lanes.specs.Waits.{unservedOf}
 use Rattle.answers.specs.Refusals.{refusedOf}
-use Rattle.answers.specs.Completions.{doneIn}
 use Rattle.store.specs.declared.Store.{Store}
 use Rattle.store.specs.declared.Control.{Control}
 use Rattle.store.specs.declared.Control.the-variants.{Free, Busy}
 use Rattle.store.specs.declared.Outcome.{Outcome}
 use Rattle.store.specs.Control.{busyOf}
-use Rattle.store.specs.Stores.{noLane, laneAt, withLane}
+use Rattle.store.specs.Stores.{noLane, laneAt}
 use Rattle.store.specs.LaneSets.{goesTo}
 use Rattle.machine.specs.declared.LaneStep.{LaneStep}
 use Rattle.machine.specs.declared.Move.{Move}
-use Rattle.machine.specs.Change.{commitLane, someFull, posted, postAll, commitMove, refusedIn, answerTo, movedStore}
+use Rattle.machine.specs.Change.{refusedIn, laneStore, commitLane, someFull, posted, postAll, commitMove, movedStore}
 use Rattle.machine.specs.Settle.{downsOf}
 use Rattle.machine.specs.Sized.{LaneSized, Sized}
 use Rattle.machine.proofs.laws.Tests.{and-right}
-use Rattle.machine.proofs.laws.Sums.{sum-same, sum-change, sum-grown, sum-weights}
+use Rattle.machine.proofs.laws.Sums.{set-sum, sum-grown, sum-weights}
 use Rattle.machine.proofs.bounds.Posts.{post-all-at}
 use Rattle.machine.specs.Potential.{tallyOf, sentIn}
 use Rattle.machine.proofs.bounds.SizedKeeps.{LanesSized, set-lane-sized, lanes-sized}
-use Rattle.machine.proofs.settle.FallsLane.{price, weight, waits, posted-weight, posted-waits, Takes, completed-done}
-use Rattle.machine.proofs.rules.Rules.{lane-rule, move-rule}
+use Rattle.machine.proofs.settle.FallsLane.{price, weight, posted-weight, Takes}
+use Rattle.machine.proofs.rules.Rules.{putBack, lane-rule, move-rule}
 
 -- what the first n lanes add
 abbrev pub lanesWeight : ℕ → List Lane → ℕ → ℕ
 lanesWeight u ls n = sumTo (λ k. weight u (getD ls k noLane)) n
-
--- how many of them wait
-abbrev pub lanesWait : List Lane → ℕ → ℕ
-lanesWait ls n = sumTo (λ k. waits (getD ls k noLane)) n
 
 -- what a control adds
 abbrev pub service : Control → ℕ
@@ -56,13 +50,11 @@ tally-sum u s =
     (λ k. unservedOf (laneAt s k .waiting)) u (s .shape .n) in
     omega arith
 
--- a step takes 1 from the tally; an operation that it serves adds 2 for u, and an order that it sends 2. It completes as many operations as
--- wait no more
+-- a step takes 1 from the tally; an operation that it serves adds 2 for u, and an order that it sends 2
 pub record Advances (u served orders : ℕ) (s : Store) (r : Outcome) : Type 0 where
   pub exact : tallyOf u (r .store) + 1 + u * served ≡ tallyOf u s + 2 * served + 2 * orders
   pub sends : sentIn (s .control) (r .store .control) ≡ orders
   pub lanes : r .store .shape .n ≡ s .shape .n
-  pub completes : length (doneIn (r .answer)) + lanesWait (r .store .lanes) (r .store .shape .n) ≡ lanesWait (s .lanes) (s .shape .n)
 
 -- .. unless it is refused
 abbrev pub Advancing : ℕ → ℕ → ℕ → Store → Outcome → Type 0
@@ -73,29 +65,18 @@ pub sent-none : (x : Control) → sentIn x x ≡ 0
 sent-none Free = refl
 sent-none (Busy v) = refl
 
--- lane k is replaced
-set-sum : (w : Lane → ℕ) (ls : List Lane) (k n : ℕ) (l : Lane) → k < n → k < length ls →
-    sumTo (λ j. w (getD (set ls k l) j noLane)) n + w (getD ls k noLane) ≡ sumTo (λ j. w (getD ls j noLane)) n + w l
-set-sum w ls k n l h g =
-    let a = sum-change (λ j. w (getD ls j noLane)) (λ j. w (getD (set ls k l) j noLane)) n k h (λ j m. ap w (getD-set-other ls k j l noLane m)) in
-    let b = ap w (getD-set-same ls k l noLane g) in
-    omega arith
-
 -- lane k after its part of a call
 pub commit-lane-advances : (u : ℕ) (s : Store) (k : LaneNo) (r : LaneStep) → length (s .lanes) ≡ 8 → s .shape .n ≤ 8 → k .0 < s .shape .n →
     Takes u 0 (laneAt s (k .0)) r → Advancing u 0 0 s (commitLane s k r)
 commit-lane-advances u s k r g h l t = lane-rule (Advancing u 0 0 s) s k r (λ _ _ e. absurd (true≢false e)) (λ e _. put e)
   where
-    put : refusedIn (r .answer) ≡ false → Advances u 0 0 s (record { answer = answerTo k (r .answer); store = withLane s (k .0) (r .lane) })
+    put : refusedIn (r .answer) ≡ false → Advances u 0 0 s (putBack s k r)
     put e =
-        let p = t e .lighter in
-        let q = t e .completes in
-        let o = completed-done k (r .answer) in
-        let a = set-sum (weight u) (s .lanes) (k .0) (s .shape .n) (r .lane) l (omega arith) in
-        let b = set-sum waits (s .lanes) (k .0) (s .shape .n) (r .lane) l (omega arith) in
+        let p = t e in
+        let a = set-sum (weight u) (s .lanes) noLane (k .0) (s .shape .n) (r .lane) l (omega arith) in
         let c = tally-sum u s in
-        let d = tally-sum u (withLane s (k .0) (r .lane)) in
-        record { exact = omega arith; sends = sent-none (s .control); lanes = refl; completes = omega arith }
+        let d = tally-sum u (laneStore s k r) in
+        record { exact = omega arith; sends = sent-none (s .control); lanes = refl }
 
 -- a message is sent to some lanes, none of them full
 module _ (to : List Bool) (x : DownMessage) (ls : List Lane) (n : ℕ) (h : n ≤ 8) (g : LanesSized ls) where
@@ -113,22 +94,11 @@ module _ (to : List Bool) (x : DownMessage) (ls : List Lane) (n : ℕ) (h : n �
       at-lane : (j : ℕ) → j < n → weight u (getD (postAll to x ls) j noLane) ≡ weight u (getD ls j noLane) + cond (goesTo to j) (price (x .kind)) 0
       at-lane j l = let d = g .lanes in rw (post-all-at to x j ls (omega arith) (omega arith)) (grown j (omega arith) (goesTo to j) refl)
 
-  post-waits : lanesWait (postAll to x ls) n ≡ lanesWait ls n
-  post-waits = sum-same (λ j. waits (getD ls j noLane)) (λ j. waits (getD (postAll to x ls) j noLane)) n at-lane
-    where
-      at-lane : (j : ℕ) → j < n → waits (getD (postAll to x ls) j noLane) ≡ waits (getD ls j noLane)
-      at-lane j l =
-          let d = g .lanes in
-          rw (post-all-at to x j ls (omega arith) (omega arith))
-          (by-cond (λ (r : Lane). waits r ≡ waits (getD ls j noLane)) (goesTo to j) (posted x (getD ls j noLane)) (getD ls j noLane) (posted-waits x (getD ls j noLane)) refl)
-
--- memory's part of a call: what the lane, the messages sent and the service add; no operation completes
+-- memory's part of a call: what the lane, the messages sent and the service add
 pub record Weighs (n u served orders : ℕ) (l : Lane) (x : Control) (v : Move) : Type 0 where
   pub exact : weight u (v .lane) + price (v .message .kind) * countTo (goesTo (v .to)) n + service (v .control) + 1 + u * served ≡
       weight u l + service x + 2 * served + 2 * orders
   pub sends : sentIn x (v .control) ≡ orders
-  pub waits-on : waits (v .lane) ≡ waits l
-  pub completes-none : length (doneIn (v .answer)) ≡ 0
 
 -- the store after memory's part of a call
 pub commit-move-advances : (u served orders : ℕ) (s : Store) (k : LaneNo) (a : BlockNo) (v : Move) → Sized s → s .shape .n ≤ 8 → k .0 < s .shape .n →
@@ -145,12 +115,8 @@ commit-move-advances u served orders s k a v g h l f t = move-rule (Advancing u 
         let z = set-lane-sized (s .lanes) (k .0) (v .lane) (lanes-sized s g) f in
         let i = g .lanes in
         let p = w .exact in
-        let q = w .waits-on in
-        let d = w .completes-none in
-        let a₀ = set-sum (weight u) (s .lanes) (k .0) (s .shape .n) (v .lane) l (omega arith) in
-        let b₀ = set-sum waits (s .lanes) (k .0) (s .shape .n) (v .lane) l (omega arith) in
+        let a₀ = set-sum (weight u) (s .lanes) noLane (k .0) (s .shape .n) (v .lane) l (omega arith) in
         let a₁ = post-weight (v .to) (v .message) after (s .shape .n) h z u o in
-        let b₁ = post-waits (v .to) (v .message) after (s .shape .n) h z in
         let c₀ = tally-sum u s in
         let c₁ = tally-sum u (movedStore s k a v) in
-        record { exact = omega arith; sends = w .sends; lanes = refl; completes = omega arith }
+        record { exact = omega arith; sends = w .sends; lanes = refl }

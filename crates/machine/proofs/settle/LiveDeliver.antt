@@ -252,5 +252,5 @@ module _ (s : Store) (f : List ℕ) (i : Consistent s f) (live : Live s) (k : La
   pub deliver-goes : refusedOf (deliverOf s k .answer) ≡ false
   unfolding deliverLane commitLane
   deliver-goes =
-      ap (λ (r : Outcome). refusedOf (r .answer)) (deliver-is s k (i .sound) h) ∙ answer-goes k (deliverLane (s .shape .c) l .answer) ∙
+      ap (λ (r : Outcome). refusedOf (r .answer)) (deliver-is s k (i .sound) h) ∙ answer-goes k _ (deliverLane (s .shape .c) l .answer) ∙
       pick (λ (r : LaneStep). refusedIn (r .answer) ≡ false) (emptyAt (l .downs .len)) _ _ (λ e. absurd (filled (eqb-true _ _ e))) (λ _. kind-goes (x .kind) refl)

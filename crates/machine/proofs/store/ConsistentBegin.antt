@@ -16,9 +16,9 @@ use Rattle.lanes.specs.declared.Waiting.the-variants.{Idle, Unserved}
 use Rattle.answers.specs.declared.Refusal.{Refusal}
 use Rattle.store.specs.declared.Store.{Store}
 use Rattle.store.specs.declared.Outcome.{Outcome}
-use Rattle.store.specs.Stores.{laneAt, withLane}
+use Rattle.store.specs.Stores.{laneAt}
 use Rattle.machine.specs.declared.LaneStep.{LaneStep}
-use Rattle.machine.specs.Change.{refuse, commitLane, answerTo}
+use Rattle.machine.specs.Change.{refuse, laneStore, commitLane}
 use Rattle.machine.specs.Begin.{readOf, beginOf}
 use Rattle.machine.specs.Flat.{flatAfter, flatBlock}
 use Rattle.machine.proofs.laws.Sets.{same?}
@@ -33,7 +33,7 @@ use Rattle.machine.proofs.protocol.LaneMovesBegin.{hit-keeps, wait-keep
 use Rattle.machine.proofs.projection.SeenBegin.{HitCase, WaitCase, EvictCase, BeginCase, Hits, Excludes, Reads, Evicts, Refuses, asked, seen-idle, begin-case}
 use Rattle.machine.proofs.store.Consistent.{Consistent, pendingOf, pendingIn}
 use Rattle.machine.proofs.store.ConsistentLane.{lane-sized, lane-project, lane-unseen, lane-unique, lane-pending, lane-pending-same, pending-here}
-use Rattle.machine.proofs.rules.Rules.{begin-rule}
+use Rattle.machine.proofs.rules.Rules.{putBack, begin-rule}
 
 -- what begin has to show, beside bounds and lengths; flat is flat memory after it
 pub record Begins (s : Store) (f : List ℕ) (k : LaneNo) (op : Op) (w : WordNo) (r : Outcome) : Type 0 where
@@ -76,38 +76,38 @@ module _ (s : Store) (f : List ℕ) (i : Consistent s f) (k : LaneNo) (h : k .0 
       go (inl e) = rw e here
       go (inr n) = there a b n
 
-  hit-begins : (r : LaneStep) → HitCase (s .shape .c) op w l r → Begins s f k op w (record { answer = answerTo k (r .answer); store = withLane s (k .0) (r .lane) })
+  hit-begins : (r : LaneStep) → HitCase (s .shape .c) op w l r → Begins s f k op w (putBack s k r)
   hit-begins r c =
       record {
         flat = flatAfter f (fed op w);
         unique = lane-unique s f i (k .0) h (r .lane) (c .unique);
-        block = each-block (withLane s (k .0) (r .lane)) (flatAfter f (fed op w)) here there;
-        owes = rw (c .answer) (refl, ap (valueDone op w) (before .1 .bears (k .0) .line (c .copy)) ∙ flat-value f op w, lane-pending-same s f i (k .0) h (r .lane) (ap pendingOf (c .waiting ∙ sym idle)), refl);
+        block = each-block (laneStore s k r) (flatAfter f (fed op w)) here there;
+        owes = rw (c .answer) (refl, ap (valueDone op w) (before .1 .bears (k .0) .line (c .copy)) ∙ flat-value f op w, lane-pending-same s f i (k .0) h (r .lane) _ (ap pendingOf (c .waiting ∙ sym idle)), refl);
       }
     where
-      here : (v : (ℕ → Status)) × Inv v (project (withLane s (k .0) (r .lane)) (blockOf w .0)) (flatBlock (flatAfter f (fed op w)) (blockOf w .0))
+      here : (v : (ℕ → Status)) × Inv v (project (laneStore s k r) (blockOf w .0)) (flatBlock (flatAfter f (fed op w)) (blockOf w .0))
       here = (
         before .0,
         rw (lane-project s f i (k .0) h (r .lane) (hitSeen op w (seen (s .shape .c) (blockOf w) l)) (blockOf w .0) (c .here), flat-done f op w)
             (hit-keeps (before .0) (project s (blockOf w .0)) (flatBlock f (blockOf w .0)) (k .0) op w (before .1) (c .copy) (c .able)),
       )
 
-      there : (a : ℕ) → a < s .shape .m → a ≢ blockOf w .0 → (v : (ℕ → Status)) × Inv v (project (withLane s (k .0) (r .lane)) a) (flatBlock (flatAfter f (fed op w)) a)
+      there : (a : ℕ) → a < s .shape .m → a ≢ blockOf w .0 → (v : (ℕ → Status)) × Inv v (project (laneStore s k r) a) (flatBlock (flatAfter f (fed op w)) a)
       there a b n = rw (lane-unseen s f i (k .0) h (r .lane) a (c .others (blockNo a) n), flat-other f op w a n) (i .block a b)
 
   -- begin waits with command x: what is left is what the other blocks see
   wait-begins : (r : LaneStep) (x : Command) (y : Status) → WaitCase (s .shape .c) op w x y l r → CommandFits y x (isLoad op) →
-      ((a : ℕ) → a < s .shape .m → a ≢ blockOf w .0 → (v : (ℕ → Status)) × Inv v (project (withLane s (k .0) (r .lane)) a) (flatBlock f a)) →
-      Begins s f k op w (record { answer = answerTo k (r .answer); store = withLane s (k .0) (r .lane) })
+      ((a : ℕ) → a < s .shape .m → a ≢ blockOf w .0 → (v : (ℕ → Status)) × Inv v (project (laneStore s k r) a) (flatBlock f a)) →
+      Begins s f k op w (putBack s k r)
   wait-begins r x y c fits there =
       record {
         flat = f;
         unique = lane-unique s f i (k .0) h (r .lane) (c .unique);
-        block = each-block (withLane s (k .0) (r .lane)) f here there;
-        owes = rw (c .answer) (rests, lane-pending s f i (k .0) h (r .lane) ∙ ap (λ (q : Pending). upd (pendingIn s) (k .0) q) (ap pendingOf (c .waiting)), refl);
+        block = each-block (laneStore s k r) f here there;
+        owes = rw (c .answer) (rests, lane-pending s f i (k .0) h (r .lane) _ ∙ ap (λ (q : Pending). upd (pendingIn s) (k .0) q) (ap pendingOf (c .waiting)), refl);
       }
     where
-      here : (v : (ℕ → Status)) × Inv v (project (withLane s (k .0) (r .lane)) (blockOf w .0)) (flatBlock f (blockOf w .0))
+      here : (v : (ℕ → Status)) × Inv v (project (laneStore s k r) (blockOf w .0)) (flatBlock f (blockOf w .0))
       here = (
         before .0,
         rw (lane-project s f i (k .0) h (r .lane) (waitSeen (Unserved (asked x op w)) (seen (s .shape .c) (blockOf w) l)) (blockOf w .0) (c .here))
@@ -115,11 +115,11 @@ module _ (s : Store) (f : List ℕ) (i : Consistent s f) (k : LaneNo) (h : k .0 
       )
 
   -- other blocks that see nothing
-  unseen : (r : LaneStep) (a : ℕ) → a < s .shape .m → seen (s .shape .c) (blockNo a) (r .lane) ≡ seen (s .shape .c) (blockNo a) l → (v : (ℕ → Status)) × Inv v (project (withLane s (k .0) (r .lane)) a) (flatBlock f a)
+  unseen : (r : LaneStep) (a : ℕ) → a < s .shape .m → seen (s .shape .c) (blockNo a) (r .lane) ≡ seen (s .shape .c) (blockNo a) l → (v : (ℕ → Status)) × Inv v (project (laneStore s k r) a) (flatBlock f a)
   unseen r a b e = rw (lane-unseen s f i (k .0) h (r .lane) a e) (i .block a b)
 
   -- the block of the line that is given up
-  evicted-block : (r : LaneStep) (c : EvictCase (s .shape .c) op w l r) → (a : ℕ) → a < s .shape .m → a ≡ c .victim .0 → (v : (ℕ → Status)) × Inv v (project (withLane s (k .0) (r .lane)) a) (flatBlock f a)
+  evicted-block : (r : LaneStep) (c : EvictCase (s .shape .c) op w l r) → (a : ℕ) → a < s .shape .m → a ≡ c .victim .0 → (v : (ℕ → Status)) × Inv v (project (laneStore s k r) a) (flatBlock f a)
   evicted-block r c a b e =
       let x : blockNo a ≡ c .victim = same-block (blockNo a) (c .victim) e in
       let p = i .block a b in (
@@ -128,10 +128,10 @@ module _ (s : Store) (f : List ℕ) (i : Consistent s f) (k : LaneNo) (h : k .0 
             (evict-keeps (p .0) (project s a) (flatBlock f a) (k .0) (blockNo a) (p .1) (idle-at a) (rw x (c .copy))),
       )
 
-  evict-begins : (r : LaneStep) → EvictCase (s .shape .c) op w l r → Begins s f k op w (record { answer = answerTo k (r .answer); store = withLane s (k .0) (r .lane) })
+  evict-begins : (r : LaneStep) → EvictCase (s .shape .c) op w l r → Begins s f k op w (putBack s k r)
   evict-begins r c = wait-begins r (readOf op) Invalid (c .wait) (read-fits (isLoad op)) (λ a b n. go a b n (same? a (c .victim .0)))
     where
-      go : (a : ℕ) → a < s .shape .m → a ≢ blockOf w .0 → (a ≡ c .victim .0) ⊎ (a ≢ c .victim .0) → (v : (ℕ → Status)) × Inv v (project (withLane s (k .0) (r .lane)) a) (flatBlock f a)
+      go : (a : ℕ) → a < s .shape .m → a ≢ blockOf w .0 → (a ≡ c .victim .0) ⊎ (a ≢ c .victim .0) → (v : (ℕ → Status)) × Inv v (project (laneStore s k r) a) (flatBlock f a)
       go a b n (inl e) = evicted-block r c a b e
       go a b n (inr m) = unseen r a b (c .others (blockNo a) n m)
 

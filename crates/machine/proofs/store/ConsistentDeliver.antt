@@ -15,9 +15,9 @@ use Rattle.queues.specs.declared.DownKind.the-variants.{Update, Purge, Grant, B
 use Rattle.queues.specs.Queues.{headDown}
 use Rattle.lanes.specs.declared.Lane.{Lane}
 use Rattle.store.specs.declared.Store.{Store}
-use Rattle.store.specs.Stores.{laneAt, withLane}
+use Rattle.store.specs.Stores.{laneAt}
 use Rattle.machine.specs.declared.LaneStep.{LaneStep}
-use Rattle.machine.specs.Change.{commitLane, answerTo}
+use Rattle.machine.specs.Change.{laneStore, commitLane}
 use Rattle.machine.specs.Deliver.{deliverLane, deliverOf}
 use Rattle.machine.specs.Flat.{flatValue, flatAfter, flatBlock}
 use Rattle.machine.proofs.bounds.KeepsLane.{clash}
@@ -32,7 +32,7 @@ use Rattle.machine.proofs.protocol.LaneMovesDeliver.{update-keeps, purg
 use Rattle.machine.proofs.projection.SeenDeliver.{headBlock, Taken, OrderCase, GrantCase, DeliverCase, Updates, Purges, Grants, BareGrants, Refuses, deliver-case}
 use Rattle.machine.proofs.store.Consistent.{Consistent, pendingOf, pendingIn, StaysConsistent, refused-consistent}
 use Rattle.machine.proofs.store.ConsistentLane.{lane-sized, lane-project, lane-unseen, lane-unique, lane-pending, lane-pending-same, pending-here}
-use Rattle.machine.proofs.rules.Rules.{deliver-rule}
+use Rattle.machine.proofs.rules.Rules.{putBack, deliver-rule}
 
 -- a lane of which a block sees a down message has one
 seen-filled : (c : ℕ) (a : BlockNo) (l : Lane) (m : DownMessage) (rest : List DownMessage) → seen c a l .downs ≡ m ∷ rest → 0 < l .downs .len
@@ -58,7 +58,7 @@ module _ (s : Store) (f : List ℕ) (i : Consistent s f) (k : LaneNo) (h : k .0 
   x = headBlock l
 
   abbrev t : Store
-  t = withLane s (k .0) (r .lane)
+  t = laneStore s k r
 
   inside : (y : DownKind) → Taken (s .shape .c) y l r → x .0 < s .shape .m
   inside y c = sound s (i .sound) .lane (k .0) h .downs .inside 0 (seen-filled (s .shape .c) x l _ _ (c .head))
@@ -76,7 +76,7 @@ module _ (s : Store) (f : List ℕ) (i : Consistent s f) (k : LaneNo) (h : k .0 
   order-consistent : (y : DownKind) (F : Status → BlockNo → List DownMessage → Seen → Seen) →
       ((v : ℕ → Status) (b : BlockState) (g : List ℕ) (j : ℕ) (a : BlockNo) (m : DownMessage) (rest : List DownMessage) → Inv v b g → b .lane j .downs ≡ m ∷ rest → m .kind ≡ y →
       Inv v (putLane j (F (b .lane j .line) a rest (b .lane j)) b) g) →
-      OrderCase (s .shape .c) y F l r → StaysConsistent s f (record { answer = answerTo k (r .answer); store = t })
+      OrderCase (s .shape .c) y F l r → StaysConsistent s f (putBack s k r)
   order-consistent y F keeps c =
       let p = i .block (x .0) (inside y (c .taken)) in
       record {
@@ -88,7 +88,7 @@ module _ (s : Store) (f : List ℕ) (i : Consistent s f) (k : LaneNo) (h : k .0 
               (keeps (p .0) (project s (x .0)) (flatBlock f (x .0)) (k .0) x (headDown (l .downs)) (c .taken .rest) (p .1) (c .taken .head) (c .taken .kind)),
         )
             (λ a n. refl);
-        completes = rw (c .answer) (lane-pending-same s f i (k .0) h (r .lane) (ap pendingOf (c .waiting)), refl);
+        completes = rw (c .answer) (lane-pending-same s f i (k .0) h (r .lane) _ (ap pendingOf (c .waiting)), refl);
       }
 
   -- a grant: the operation that its lane waits for completes, with the words ws, which are flat memory's
@@ -96,7 +96,7 @@ module _ (s : Store) (f : List ℕ) (i : Consistent s f) (k : LaneNo) (h : k .0 
       ((v : ℕ → Status) → Inv v (project s (x .0)) (flatBlock f (x .0)) →
       (ws ≡ flatBlock f (x .0)) ×
       Inv v (putLane (k .0) (grantSeen (c .operation) ws (c .taken .rest) (seen (s .shape .c) x l)) (project s (x .0))) (wordsDone (c .operation .op) (c .operation .word) (flatBlock f (x .0)))) →
-      StaysConsistent s f (record { answer = answerTo k (r .answer); store = t })
+      StaysConsistent s f (putBack s k r)
   grant-consistent y ws c keeps =
       let o = c .operation in
       let p = i .block (x .0) (inside y (c .taken)) in
@@ -112,7 +112,7 @@ module _ (s : Store) (f : List ℕ) (i : Consistent s f) (k : LaneNo) (h : k .0 
           o .word,
           pending-here s f i (k .0) h ∙ ap pendingOf (c .served),
           ap (valueDone (o .op) (o .word)) (q .0) ∙ value-at f (o .op) (o .word) (x .0) (c .block),
-          (lane-pending s f i (k .0) h (r .lane) ∙ ap (λ (z : Pending). upd (pendingIn s) (k .0) z) (ap pendingOf (c .waiting)), refl),
+          (lane-pending s f i (k .0) h (r .lane) _ ∙ ap (λ (z : Pending). upd (pendingIn s) (k .0) z) (ap pendingOf (c .waiting)), refl),
         );
       }
 

@@ -10,7 +10,7 @@ use borrow.Author.Tests.{eq-eqb, ne-eqb, lt-ltb}
 use native.Mathlib.Omega.{arith}
 use Rattle.lanes.specs.declared.Lane.{Lane}
 use Rattle.store.specs.declared.Store.{Store}
-use Rattle.store.specs.Stores.{noLane, laneAt, withLane}
+use Rattle.store.specs.Stores.{noLane, laneAt, withLane, withCompletions}
 use Rattle.machine.specs.Sized.{LaneSized}
 use Rattle.machine.proofs.laws.Sets.{same?, set-cases}
 use Rattle.machine.proofs.bounds.Sound.{sound}
@@ -43,19 +43,19 @@ module _ (s : Store) (f : List ℕ) (i : Consistent s f) (k : ℕ) (h : k < s .s
   pub lane-unique : (l : Lane) → Unique (s .shape .c) l → (j : ℕ) → Unique (s .shape .c) (laneAt (withLane s k l) j)
   lane-unique l u j = set-cases (Unique (s .shape .c)) (s .lanes) k j l noLane (λ _. u) (i .unique j)
 
-  -- what its lane waits for
+  -- what its lane waits for, whatever the count of completions
   pub pending-here : pendingIn s k ≡ pendingOf (laneAt s k .waiting)
   unfolding pendingIn
   pending-here = rw (lt-ltb k (s .shape .n) h)
 
-  pub lane-pending : (l : Lane) → pendingIn (withLane s k l) ≡ upd (pendingIn s) k (pendingOf (l .waiting))
+  pub lane-pending : (l : Lane) (done : ℕ) → pendingIn (withCompletions (withLane s k l) done) ≡ upd (pendingIn s) k (pendingOf (l .waiting))
   unfolding pendingIn
-  lane-pending l = fun-ext (λ j. go j (same? j k))
+  lane-pending l done = fun-ext (λ j. go j (same? j k))
     where
       go : (j : ℕ) → (j ≡ k) ⊎ (j ≢ k) → cond (ltb j (s .shape .n)) (pendingOf (getD (set (s .lanes) k l) j noLane .waiting)) Rests ≡ upd (pendingIn s) k (pendingOf (l .waiting)) j
       go j (inl e) = rw (getD-set (s .lanes) k j l noLane within, e, eq-eqb k k refl, lt-ltb k (s .shape .n) h)
       go j (inr n) = rw (getD-set (s .lanes) k j l noLane within, ne-eqb j k n)
 
   -- .. as before
-  pub lane-pending-same : (l : Lane) → pendingOf (l .waiting) ≡ pendingOf (laneAt s k .waiting) → pendingIn (withLane s k l) ≡ pendingIn s
-  lane-pending-same l e = lane-pending l ∙ ap (λ (x : Pending). upd (pendingIn s) k x) (e ∙ sym pending-here) ∙ upd-self (pendingIn s) k
+  pub lane-pending-same : (l : Lane) (done : ℕ) → pendingOf (l .waiting) ≡ pendingOf (laneAt s k .waiting) → pendingIn (withCompletions (withLane s k l) done) ≡ pendingIn s
+  lane-pending-same l done e = lane-pending l done ∙ ap (λ (x : Pending). upd (pendingIn s) k x) (e ∙ sym pending-here) ∙ upd-self (pendingIn s) k

@@ -16,6 +16,7 @@ use Rattle.machine.proofs.bounds.SizedKeeps.{begin-sized, sized-whole}
 use Rattle.machine.proofs.list.Owes.{Paid}
 use Rattle.machine.proofs.list.Outer.{Told, outer}
 use Rattle.machine.proofs.list.OuterRun.{Keeps, run-pays}
+use Rattle.machine.proofs.places.CountsRun.{places-run}
 use Rattle.machine.proofs.store.Consistent.{Consistent, pendingIn}
 use Rattle.machine.proofs.store.ConsistentOpen.{open-consistent, open-shape, open-rests}
 use Rattle.machine.proofs.store.ConsistentBegin.{begin-consistent}
@@ -65,6 +66,7 @@ order-of-memory shape calls e =
       owned = t .owned;
       once = t .once;
       values = t .values;
+      places = places-run shape calls;
       when-quiet = λ q. record {
         all-completed = t .all-completed (quiet-rests s (r .0) i q);
         shows = λ a l. rw (← t .end) (quiet-shows s (r .0) i q a (rw (r .1 .same) l));

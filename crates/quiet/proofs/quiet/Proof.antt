@@ -31,7 +31,7 @@ loop-holds c = (omega arith, any-none _)
 
 returns-2 : tie.Need-returns-2 Inv-loop μ-loop
 unfolding quietOf
-returns-2 c = let h : length (c .before .before .before .before .before .args .t1 .lanes) ≡ 8 = simp length-map at (c .before .before .before .before .before .good .0 .1 .1 .1 .1 .0 .1 .0 .1) in
+returns-2 c = let h : length (c .before .before .before .before .before .args .t1 .lanes) ≡ 8 = simp length-map at (c .before .before .before .before .before .good .0 .1 .1 .1 .1 .1 .0 .1 .0 .1) in
     let z = active-past (c .before .before .before .before .before .args .t1) (c .before .before .loop .k) (c .before .before .before .before .before .args .t1 .shape .n) (omega arith) (c .before .before .loop .inv .1) in
     rw (quietOf, ← c .before .before .before .before .busy .ensures, c .before .before .before .if1 .left, z)
 

@@ -149,7 +149,7 @@ module _ {M : Type 1} (𝓤 : URA M) (H : Heap 𝓤) (A : Atoms 𝓤) (W : Given
         land ! (from ! (stop !)) (init ! 4 refl (outcome-typed 𝓤 H A W (outcomeBy f) eO r v is₂)) $
         rewrite ! 4 (λ (u : Val). ‵ (fat fullShare (outcomeBy f) l₄ 0 u)) (ap only (LL.tells U.the-type U′.the-laws r (v ∷ []) is₂)) refl $
         rewrite ! 4 (λ (t : Ty). ‵ (fat fullShare t l₄ 0 (machOutcome r))) (sym eO) refl $
-        assigns ! (of-opd ! (load ! (from ! (fld ! {τ = storeTy} {d = 12} (field-in outcomeTy (outcomeBy f) 1 eO store-at) (stop !))) (look-in ! 4 (sub ! 1 {τ = storeTy} {d = 12} store-at (whole !))))) (from ! (hop ! (look ! 10 refl) (stop !))) (store-raw ! 0 (ap (λ (t : Ty). ‵ (fat fullShare (rawTy t) b o (mach h))) eS) (store-typed 𝓤 H A W (storeBy f) eS (r .store) (mach (r .store)) (LL.owed U.the-type U′.the-laws r (v ∷ []) is₂ .1 .0))) $
+        assigns ! (of-opd ! (load ! (from ! (fld ! {τ = storeTy} {d = 16} (field-in outcomeTy (outcomeBy f) 1 eO store-at) (stop !))) (look-in ! 4 (sub ! 1 {τ = storeTy} {d = 16} store-at (whole !))))) (from ! (hop ! (look ! 10 refl) (stop !))) (store-raw ! 0 (ap (λ (t : Ty). ‵ (fat fullShare (rawTy t) b o (mach h))) eS) (store-typed 𝓤 H A W (storeBy f) eS (r .store) (mach (r .store)) (LL.owed U.the-type U′.the-laws r (v ∷ []) is₂ .1 .0))) $
         assigns ! (of-opd ! (load ! (from ! (fld ! {τ = answerTy} {d = 0} (field-in outcomeTy (outcomeBy f) 0 eO answer-at) (stop !))) (look-in ! 4 (sub ! 0 {τ = answerTy} {d = 0} answer-at (whole !))))) (from ! (stop !)) (init ! 12 refl (answer-typed 𝓤 H A W (answerBy f) eA (r .answer) (said (r .answer)) (LL.owed U.the-type U′.the-laws r (v ∷ []) is₂ .0))) $
         rewrite ! 0 (λ (t : Ty). ‵ (fat fullShare (rawTy t) b o (mach (r .store)))) (sym eS) refl $ rewrite ! 4 (λ (t : Ty). ‵ (fat fullShare t l₄ 0 (machOutcome r))) eO refl $
         owned ! T.the-row (Is T.the-row) (LL.makes T.the-type T′.the-plain 𝓤 H A) (r .store) (mach (r .store) ∷ []) (LL.owed U.the-type U′.the-laws r (v ∷ []) is₂ .1 .0) $ move ! (1 ∷ 0 ∷ []) $ closes ! tt T.the-row (r .store) (mach (r .store) ∷ []) b o $

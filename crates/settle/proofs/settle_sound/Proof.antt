@@ -22,7 +22,7 @@ none-requires : tie.Need-none-requires Inv-loop μ-loop
 none-requires c κs = search needs
 
 loop-holds : tie.Need-loop-holds Inv-loop μ-loop
-loop-holds c = rw (c .none .ensures) (going-start _ (c .before .pre) (arrays-sized _ _ _ (c .before .good .0 .1 .1 .1 .1 .0) (c .before .good .0 .1 .1 .1 .1 .1 .0)))
+loop-holds c = rw (c .none .ensures) (going-start _ (c .before .pre) (arrays-sized _ _ _ (c .before .good .0 .1 .1 .1 .1 .1 .0) (c .before .good .0 .1 .1 .1 .1 .1 .1 .0)))
 
 quiet-requires : tie.Need-quiet-requires Inv-loop μ-loop
 quiet-requires c κs = search needs
@@ -52,7 +52,7 @@ returns c =
     (c .refuse .ensures .0 ∙ rw (c .before .refusal .ensures, at-step .step .ensures, g), c .refuse .ensures .1)
 
 list-requires : tie.Need-list-requires Inv-loop μ-loop
-list-requires c κs = rw (c .before .before .step .ensures) (going-fits _ _ _ _ (c .before .before .before .before .before .loop .inv) (ap (λ (x : Outcome). refusedOf (x .answer)) (sym (c .before .before .step .ensures)) ∙ (sym (c .before .refused .ensures) ∙ c .if2 .left)))
+list-requires c κs = rw (c .before .before .step .ensures) (going-fits _ _ _ _ (c .before .before .before .before .before .loop .inv))
 
 add-count : tie.Need-add-count Inv-loop μ-loop
 add-count c =

@@ -1,0 +1,52 @@
+-- 02, W1, of a list of calls: the places of its completions run on from the store's count without a gap; so from an opening they are 1, 2, 3 ..
+-- Assumes nothing.
+use Prim.Native.Nat.{ℕ, suc}
+use mathlib.Core.Path.{_≡_, refl, sym, ap, _∙_}
+use mathlib.Core.List.{List, [], _∷_, _++_, map, map-append, map-map, map-id}
+use lib.ListN.{length, length-map}
+use Rattle.words.specs.declared.Shape.{Shape}
+use Rattle.words.proofs.Folds.{by-cond}
+use Rattle.answers.specs.declared.Completion.{Completion}
+use Rattle.store.specs.declared.Store.{Store}
+use Rattle.store.specs.declared.Outcome.{Outcome}
+use Rattle.store.specs.Opening.{badShape, freshOf, openOf}
+use Rattle.machine.specs.Calls.{Call, callOf, run, Entry, completionsOf, isWait}
+use Rattle.machine.specs.Attribution.{Attributed, LastWaits, noWaits, waitsAfter, attribute}
+use Rattle.machine.specs.Places.{numbersFrom}
+use Rattle.machine.specs.Demand3.{completed}
+use Rattle.machine.proofs.places.Counts.{Given, given-none}
+use Rattle.machine.proofs.places.CountsSettle.{given-more, call-given}
+
+-- the completions of a history
+abbrev givenBy : List Entry → List Completion
+givenBy [] = []
+givenBy (e ∷ es) = completionsOf (e .reply) ++ givenBy es
+
+run-given : (cs : List Call) (s : Store) → Given s (givenBy (run s cs .history)) (run s cs .store)
+unfolding run
+run-given [] s = given-none s s refl
+run-given (c ∷ cs) s =
+    let t = callOf s c .store in
+    given-more s t (run t cs .store) (completionsOf (callOf s c .reply)) (givenBy (run t cs .history)) (call-given s c) (run-given cs t)
+
+-- .. are those that are attributed
+attributed-given : (i : ℕ) (last : LastWaits) (es : List Entry) → map (λ (x : Attributed). x .completion) (attribute i last es) ≡ givenBy es
+unfolding attribute
+attributed-given i last [] = refl
+attributed-given i last (e ∷ es) =
+    rw (map-append, map-map, map-id, attributed-given (suc i) (waitsAfter i last (e .call) (isWait (e .reply))) es)
+
+-- an opening has completed nothing
+open-none : (shape : Shape) → openOf shape .store .completions ≡ 0
+unfolding openOf freshOf
+open-none shape = by-cond (λ (r : Outcome). r .store .completions ≡ 0) (badShape shape) _ _ refl refl
+
+-- from an opening the places are 1, 2, 3 ..
+pub places-run : (shape : Shape) (cs : List Call) →
+    map (λ (x : Attributed). x .completion .place) (completed (run (openOf shape .store) cs .history)) ≡ numbersFrom 1 (length (completed (run (openOf shape .store) cs .history)))
+places-run shape cs =
+    let h = run (openOf shape .store) cs .history in
+    let a = attributed-given 0 noWaits h in
+    let n = sym (length-map (completed h) (λ (x : Attributed). x .completion)) ∙ ap length a in
+    sym (map-map (λ (x : Completion). x .place) (λ (x : Attributed). x .completion) (completed h)) ∙ ap (map (λ (x : Completion). x .place)) a ∙
+    run-given cs (openOf shape .store) .next ∙ rw (open-none shape, n)
