@@ -11,7 +11,7 @@ use Rattle.lanes.specs.declared.Waiting.the-variants.{Idle}
 use Rattle.lanes.specs.UseOrder.{placeAt}
 use Rattle.store.specs.declared.Store.{Store}
 use Rattle.store.specs.Stores.{laneAt}
-use Rattle.store.specs.Places.{begunIn, lastPlace, exhaustedOf}
+use Rattle.machine.specs.Begun.{begunIn, lastPlace, exhaustedOf}
 use Rattle.machine.specs.Corruption.{corruptOf}
 use Rattle.machine.specs.Change.{counted}
 use Rattle.machine.specs.Begin.{beginLane}

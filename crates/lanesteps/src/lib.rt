@@ -3,7 +3,7 @@
 ghost use mathlib.Core.Path.{_≡_};
 ghost use mathlib.Core.Bool.{false};
 ghost use Prim.Native.Nat.{_≤_};
-ghost use Rattle.store.specs.Places.{lastPlace};
+ghost use Rattle.machine.specs.Begun.{lastPlace};
 ghost use Rattle.machine.specs.Corruption.{corruptOf};
 ghost use Rattle.machine.specs.Change.{counted, answerTo};
 ghost use Rattle.machine.specs.Begin.{beginOf};
@@ -16,6 +16,9 @@ use store::Store;
 use words::LaneNo;
 use words::Op;
 use words::WordNo;
+
+// With fewer completions than this 17 is not given, whatever waits: at most 8 operations do.
+const NEAR_END: u32 = 4294967287;
 
 // Completions so far once a lane's part is counted: a completion is one more.
 fn count(a: LaneAnswer, done: u32) -> u32
@@ -60,7 +63,7 @@ pub fn begin_sound(s: Store, k: LaneNo, op: Op, w: WordNo) -> Outcome
     let l = t.lanes[i];
     let waiting = l.waiting;
     if waiting.idle() {
-        if places::NEAR_END <= t.completions && places::exhausted(t) {
+        if NEAR_END <= t.completions && places::exhausted(t) {
             return commit::refused(Refusal::PlacesExhausted, t);
         }
         let r = begin::begin_lane(l, t.shape.c, op, w);

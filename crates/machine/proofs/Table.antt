@@ -5,7 +5,7 @@ use Rattle.words.specs.Folds.{upTo, anyTo, countTo, sumTo, lowestTo, gatherTo, 
 use Rattle.records.specs.Records.{parseOf}
 use Rattle.lanes.specs.Search.{firstFrom}
 use Rattle.store.specs.Opening.{badShape, blankLane, blankBlock, freshOf, openOf}
-use Rattle.store.specs.Places.{waitingIn, begunIn}
+use Rattle.machine.specs.Begun.{waitingIn, begunIn}
 use Rattle.store.specs.Quiet.{activeOf, quietOf}
 use Rattle.machine.specs.Corruption.{badLane, badFlags, corruptOf}
 use Rattle.machine.specs.Change.{commitLane, someFull, postTo, postAll, commitMove}

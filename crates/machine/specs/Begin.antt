@@ -28,7 +28,7 @@ use Rattle.answers.specs.declared.Refusal.the-variants.{NoSuchWord, LaneBusy, Q
 use Rattle.store.specs.declared.Store.{Store}
 use Rattle.store.specs.declared.Outcome.{Outcome}
 use Rattle.store.specs.Stores.{laneAt}
-use Rattle.store.specs.Places.{exhaustedOf}
+use Rattle.machine.specs.Begun.{exhaustedOf}
 use Rattle.machine.specs.declared.LaneAnswer.the-variants.{Value, Waits}
 use Rattle.machine.specs.declared.LaneStep.{LaneStep}
 use Rattle.machine.specs.Change.{refuse, refuseLane, guarded, commitLane}

@@ -24,7 +24,7 @@ use Rattle.store.specs.declared.Control.{Control}
 use Rattle.store.specs.declared.Control.the-variants.{Free, Busy}
 use Rattle.store.specs.Opening.{badShape}
 use Rattle.store.specs.Stores.{laneAt, blockAt}
-use Rattle.store.specs.Places.{overrunOf}
+use Rattle.machine.specs.Begun.{overrunOf}
 use Rattle.store.specs.LaneSets.{goesTo}
 
 -- a block number out of range

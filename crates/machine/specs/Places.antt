@@ -6,7 +6,7 @@ use mathlib.Core.List.{List, [], _∷_, map}
 use lib.ListN.{length}
 use Rattle.answers.specs.declared.Completion.{Completion}
 use Rattle.store.specs.declared.Store.{Store}
-use Rattle.store.specs.Places.{begunIn, lastPlace}
+use Rattle.machine.specs.Begun.{begunIn, lastPlace}
 use Rattle.machine.specs.Calls.{Call, Reply, callOf, completionsOf, isRefused}
 use Rattle.machine.specs.Attribution.{begunBy}
 

@@ -1,18 +1,15 @@
-// Document 02, W1: completions so far plus operations waiting, which never pass the last place in 32 bits. The definitions are store's
-// (store/specs/Places.antt). For our own crates above.
+// Document 02, W1: completions so far plus operations waiting, which never pass the last place in 32 bits. The definitions are
+// machine's (machine/specs/Begun.antt). For our own crates above.
 ghost use mathlib.Core.Path.{_≡_};
 ghost use mathlib.Core.Bool.{not, cond};
 ghost use Prim.Native.Nat.{_≤_};
 ghost use Rattle.lanes.specs.Waits.{idleOf};
-ghost use Rattle.store.specs.Places.{waitingIn, begunIn, exhaustedOf, overrunOf};
+ghost use Rattle.machine.specs.Begun.{waitingIn, begunIn, exhaustedOf, overrunOf};
 use lanes::Lane;
 use store::Store;
 
 // The last place.
 const LAST_PLACE: u64 = 4294967295;
-
-// With fewer completions than this, 17 is not given, whatever waits: at most 8 operations do.
-pub const NEAR_END: u32 = 4294967287;
 
 // 1 where the lane's operation waits, else 0.
 fn waits(l: Lane) -> u64

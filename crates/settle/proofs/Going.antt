@@ -21,7 +21,7 @@ use Rattle.machine.proofs.bounds.Sound.{sound}
 use Rattle.machine.specs.Sized.{Sized}
 use Rattle.machine.proofs.bounds.SizedKeeps.{settle-step-sized, sized-whole}
 use Rattle.machine.proofs.bounds.KeepsRepeat.{settle-step-keeps}
-use Rattle.store.specs.Places.{waitingIn}
+use Rattle.machine.specs.Begun.{waitingIn}
 use Rattle.machine.proofs.settle.Falls.{settle-falls, settle-completes, waiting-most}
 use Rattle.machine.proofs.settle.FallsSettle.{repeat-ended, repeat-more}
 use Rattle.settle.specs.declared.Completions.{Completions}

@@ -46,8 +46,7 @@ pub fn of_held(cases: &[u8], answers: &[u8]) -> Result<Bounded, String> {
         let given = answers.get(at..at + held::given_length(call));
         let given = given.ok_or(format!("case {index}: the answers end early"))?;
         if call == HeldCall::Settle && given[0] == held::SETTLED_TAG {
-            let steps = u32::from_le_bytes([given[2], given[3], given[4], given[5]]);
-            let told = bounded.see(&store, steps);
+            let told = bounded.see(&store, held::number_at(given, 2));
             told.map_err(|text| format!("case {index}: {text}"))?;
         }
         at += given.len();

@@ -5,24 +5,21 @@ use crate::conditions;
 use crate::held::{self, HeldAnswer, HeldCall};
 use crate::machine;
 use crate::parts::*;
+use crate::places;
+use crate::settle;
 use crate::situations;
 use crate::stores::{self, Case};
 use crate::summary::kind_name;
 use std::collections::BTreeSet;
 
-/// The cases chosen, of the first so many of a seed: by what each meets, then
-/// settles by what they find.
+/// The cases chosen, of the first so many of a seed: by what each meets, and
+/// settles by what they find too.
 pub fn choose(seed: u64, from: usize) -> Vec<Case> {
-    let mut chosen = first_of_each(seed, from, meets);
-    chosen.extend(first_of_each(seed, from, finds));
-    chosen
-}
-
-fn first_of_each(seed: u64, from: usize, met: fn(&Case) -> Vec<String>) -> Vec<Case> {
     let mut seen = BTreeSet::new();
     let mut is_new = |case: &Case| {
         let before = seen.len();
-        seen.extend(met(case));
+        seen.extend(meets(case));
+        seen.extend(finds(case));
         seen.len() > before
     };
     (0..from).map(|index| stores::make(seed, index)).filter(|case| is_new(case)).collect()
@@ -46,8 +43,9 @@ fn meets(case: &Case) -> Vec<String> {
     let (s, call) = (&case.store, case.call);
     let answer = held::run(s, call).answer;
     let kind = kind_name(call.kind());
-    let mut met: Vec<String> =
-        situations::met(s, call, &answer).into_iter().map(str::to_string).collect();
+    let named = situations::met(s, call, &answer).into_iter().chain(places::met(s, call, &answer));
+    let mut met: Vec<String> = named.map(str::to_string).collect();
+    met.extend(few_left(s, call, &answer));
     met.push(match &answer {
         HeldAnswer::Machine(Answer::Done { .. }) => format!("{kind} done {}", taken(s, call)),
         HeldAnswer::Machine(answer) => format!("{kind} {answer:?} {}", taken(s, call)),
@@ -60,8 +58,29 @@ fn meets(case: &Case) -> Vec<String> {
         let also = conditions::all(s, call).into_iter().filter(|_| number != 14);
         met.extend(also.map(|also| format!("{kind} refused {number} before {also}")));
         met.push(format!("{kind} refused {number}"));
+        let undone = call == HeldCall::Settle && number != 14 && settle::before_refusal(s).1 > 0;
+        met.extend(undone.then(|| "settle refused after a completion".to_string()));
     }
     met
+}
+
+/// Who waits where a call finds no place left, or a begin the last one; only
+/// of calls that are not refused, or with 17.
+fn few_left(s: &Store, call: HeldCall, answer: &HeldAnswer) -> Vec<String> {
+    let begins = matches!(call, HeldCall::Machine(Call::Begin { .. }));
+    let left = match (places::left(s), answer) {
+        (_, HeldAnswer::Refused(number)) if *number != 17 => return Vec::new(),
+        (Some(0), _) => 0,
+        (Some(1), _) if begins => 1,
+        _ => return Vec::new(),
+    };
+    let (served, unserved) = places::waiting(s);
+    let [first, last] = [0, usize::from(s.n) - 1].map(|k| s.lanes[k].waiting.is_some());
+    vec![
+        format!("{} with {left} places left", kind_name(call.kind())),
+        format!("{left} places left, served {served}, unserved {unserved}"),
+        format!("{left} places left, lane 0 {first}, lane n - 1 {last}"),
+    ]
 }
 
 /// What a call that is not refused takes.

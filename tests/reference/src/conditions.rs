@@ -1,18 +1,18 @@
 //! Every refusal condition that holds for a store and a call, each taken on
-//! its own. Written apart from the steps: the first in document 01's order
-//! must be the number that the call gives.
+//! its own. Written apart from the steps: the first in document 01's order,
+//! with W1's 17 after 8, must be the number that the call gives.
 
 use crate::held::{HeldCall, SETTLE_KIND};
 use crate::machine;
 use crate::parts::*;
 
 /// The order of the checks of a held call.
-pub const ORDER: [u8; 10] = [14, 6, 7, 8, 9, 10, 11, 16, 12, 15];
+pub const ORDER: [u8; 11] = [14, 6, 7, 8, 17, 9, 10, 11, 16, 12, 15];
 
 /// The numbers that can apply to a call, by its kind byte.
 pub fn applicable(kind: u8) -> &'static [u8] {
     match kind {
-        0x01..=0x04 => &[14, 6, 7, 8, 12],
+        0x01..=0x04 => &[14, 6, 7, 8, 17, 12],
         0x05 => &[14, 6, 9, 10, 11, 12],
         0x06 | 0x07 => &[14, 6, 9, 16, 12],
         SETTLE_KIND => &[14, 10, 16, 12],
@@ -35,6 +35,7 @@ pub fn all(s: &Store, call: HeldCall) -> Vec<u8> {
         (_, HeldCall::Picture(_)) => false,
         (_, HeldCall::Settle) => false,
         (6, HeldCall::Machine(call)) => call.lane() >= s.n,
+        (17, HeldCall::Machine(call)) => matches!(call, Call::Begin { .. }) && places_left(s) == 0,
         (_, HeldCall::Machine(call)) => match s.lanes.get(usize::from(call.lane())) {
             Some(lane) => call_condition(s, lane, call, number),
             None => number == 7 && word_out_of_range(s, call),
@@ -81,6 +82,14 @@ fn first_step(s: &Store) -> Option<Call> {
 fn stuck_reasons(s: &Store) -> [bool; 2] {
     let served = s.lanes.iter().take(usize::from(s.n)).any(|lane| lane.waiting.is_some());
     [s.service.is_some(), served]
+}
+
+/// The places that are left for operations to begin; below 0 where an
+/// operation that waits has none.
+fn places_left(s: &Store) -> i64 {
+    let lanes = s.lanes.iter().take(usize::from(s.n));
+    let waiting: i64 = lanes.map(|lane| i64::from(lane.waiting.is_some())).sum();
+    4_294_967_295 - i64::from(s.completed) - waiting
 }
 
 fn word_out_of_range(s: &Store, call: Call) -> bool {
@@ -227,7 +236,7 @@ fn close_meets_full(s: &Store, lane: &Lane) -> bool {
 }
 
 /// All the reasons that 14 can have.
-pub const REASONS: [&str; 21] = [
+pub const REASONS: [&str; 22] = [
     "n below 2",
     "n above 8",
     "c below 1",
@@ -249,7 +258,11 @@ pub const REASONS: [&str; 21] = [
     "block of the service",
     "awaited",
     "PRESENT for lane n or above",
+    SUM_REASON,
 ];
+
+/// W1's reason.
+pub const SUM_REASON: &str = "completions plus operations waiting";
 
 /// The reasons for which the store is corrupt; none if it is not.
 pub fn corrupt_reasons(s: &Store) -> Vec<&'static str> {
@@ -264,7 +277,7 @@ pub fn corrupt_reasons(s: &Store) -> Vec<&'static str> {
         let holds = [service.lane >= s.n, service.block >= s.m, service.awaited >= s.n];
         found.extend(reasons_from(17, &holds));
     }
-    found.extend(reasons_from(20, &[present_beyond(s)]));
+    found.extend(reasons_from(20, &[present_beyond(s), places_left(s) < 0]));
     found.sort_unstable();
     found.dedup();
     found

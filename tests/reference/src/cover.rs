@@ -27,7 +27,7 @@ const SETTLES: [&str; 13] = [
 ];
 
 /// The answers that each kind of call must have met; on lists that begin
-/// with an opening nothing else is possible.
+/// with an opening nothing else is possible, short of 2^32 begins.
 const ANSWERS: [(u8, &[&str]); 9] = [
     (OPEN_KIND, &["opened", "refused 5"]),
     (1, &["done", "wait", "refused 6", "refused 7", "refused 8", "refused 14"]),
@@ -51,6 +51,7 @@ pub struct Cover {
     /// Settles by the count of completions.
     completions: BTreeMap<usize, usize>,
     settles: BTreeMap<&'static str, usize>,
+    highest_place: u32,
     longest: u32,
     steps: usize,
     /// Calls on their own, and the steps inside settles.
@@ -85,6 +86,7 @@ impl Cover {
             Record::Call(call) => {
                 self.calls += 1;
                 self.this_list += 1;
+                self.highest_place = self.highest_place.max(after.completed);
                 self.longest_list = self.longest_list.max(self.this_list);
                 self.answer(call.kind(), given);
                 self.see_call(call, given, before, after);
@@ -159,6 +161,9 @@ impl Cover {
         never.extend(orders.map(|count| format!("serve with {count} orders")));
         let orders = (0..LANES).filter(|&count| self.inside.orders[count] == 0);
         never.extend(orders.map(|count| format!("serve with {count} orders inside settle")));
+        if self.highest_place <= u32::from(u8::MAX) {
+            never.push(format!("places: only up to {}", self.highest_place));
+        }
         if self.shapes.len() < crate::list_maker::SHAPES {
             never.push(format!("shapes: only {}", self.shapes.len()));
         }
@@ -224,6 +229,7 @@ impl Display for Cover {
         let parts: Vec<String> =
             self.completions.iter().map(|(count, n)| format!("{count}: {n}")).collect();
         writeln!(f, "settles by the count of completions: {}", parts.join(", "))?;
+        writeln!(f, "highest place {}", self.highest_place)?;
         writeln!(f, "steps inside settles {}, longest settle {} steps", self.steps, self.longest)?;
         writeln!(f, "settles that met")?;
         fmt_counts(f, &SETTLES, &self.settles)?;

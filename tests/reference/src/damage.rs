@@ -1,6 +1,7 @@
 //! Damage to stores: the ways that make a store corrupt, one for each
 //! condition, and ways that do not. The store given has n, c, m in range.
 
+use crate::conditions::SUM_REASON;
 use crate::parts::*;
 use crate::rng::Rng;
 use crate::scramble;
@@ -26,7 +27,7 @@ macro_rules! fair {
     };
 }
 
-pub const CORRUPTING: [Damage; 21] = [
+pub const CORRUPTING: [Damage; 22] = [
     bad!("n below 2", |s, r| set(&mut s.n, r.pick(&[0, 1]))),
     bad!("n above 8", |s, r| set(&mut s.n, r.pick(&[9, 10, 16, 128, 255]))),
     bad!("c below 1", |s, _| set(&mut s.c, 0)),
@@ -70,6 +71,13 @@ pub const CORRUPTING: [Damage; 21] = [
             return false;
         }
         any_block(s, r).present[r.between(n, LANES - 1)] = true;
+        true
+    }),
+    bad!(SUM_REASON, |s, r| {
+        any_waiting(s, r);
+        let least = LAST_PLACE - s.waiting() + 1;
+        let any = r.between(least as usize, LAST_PLACE as usize) as u32;
+        s.completed = r.pick(&[least, least, any, LAST_PLACE]);
         true
     }),
 ];

@@ -4,10 +4,10 @@ use crate::machine;
 use crate::parts::*;
 use crate::settle::{self, Settled};
 
-pub const STORE_BYTES: usize = 3_545;
+pub const STORE_BYTES: usize = 3_549;
 pub const CALL_BYTES: usize = 8;
 pub const CASE_BYTES: usize = STORE_BYTES + CALL_BYTES;
-pub const ANSWER_BYTES: usize = 8;
+pub const ANSWER_BYTES: usize = 12;
 pub const BUFFER_BYTES: usize = 1_300;
 pub const BUFFER_FILL: u8 = 0xa5;
 pub const PICTURE_KIND: u8 = 0x10;
@@ -16,8 +16,8 @@ pub const SETTLE_KIND: u8 = 0x11;
 /// The answer's first byte where settle was not refused.
 pub const SETTLED_TAG: u8 = 6;
 
-/// A place for the completion of each lane, a lane and a value each.
-pub const COMPLETION_BYTES: usize = 5;
+/// Room for a completion of each lane: lane, value and place.
+pub const COMPLETION_BYTES: usize = 9;
 pub const COMPLETIONS_BYTES: usize = LANES * COMPLETION_BYTES;
 
 /// What follows settle's answer: its completions, then its bound.
@@ -106,18 +106,23 @@ pub fn given_length(call: HeldCall) -> usize {
     ANSWER_BYTES + STORE_BYTES + after
 }
 
-/// The 8 bytes of an answer.
+/// The 12 bytes of an answer.
 pub fn answer_bytes(answer: &HeldAnswer) -> [u8; ANSWER_BYTES] {
-    let (tag, small, value) = match answer {
-        HeldAnswer::Machine(Answer::Done { lane, value }) => (1, *lane, *value),
-        HeldAnswer::Machine(Answer::Wait) => (2, 0, 0),
-        HeldAnswer::Machine(Answer::Step) => (3, 0, 0),
-        HeldAnswer::Refused(number) => (4, *number, 0),
-        HeldAnswer::Picture(length) => (5, 0, *length),
-        HeldAnswer::Settled(given) => (SETTLED_TAG, 0, given.steps),
+    let (tag, small, value, place) = match answer {
+        HeldAnswer::Machine(Answer::Done(done)) => (1, done.lane, done.value, done.place),
+        HeldAnswer::Machine(Answer::Wait) => (2, 0, 0, 0),
+        HeldAnswer::Machine(Answer::Step) => (3, 0, 0, 0),
+        HeldAnswer::Refused(number) => (4, *number, 0, 0),
+        HeldAnswer::Picture(length) => (5, 0, *length, 0),
+        HeldAnswer::Settled(given) => (SETTLED_TAG, 0, given.steps, 0),
     };
-    let v = value.to_le_bytes();
-    [tag, small, v[0], v[1], v[2], v[3], completions(answer).len() as u8, 0]
+    let (v, p, listed) = (value.to_le_bytes(), place.to_le_bytes(), completions(answer).len());
+    [tag, small, v[0], v[1], v[2], v[3], listed as u8, 0, p[0], p[1], p[2], p[3]]
+}
+
+/// The number in four bytes at an offset.
+pub fn number_at(bytes: &[u8], at: usize) -> u32 {
+    u32::from_le_bytes([bytes[at], bytes[at + 1], bytes[at + 2], bytes[at + 3]])
 }
 
 /// 01's bound on the steps of a settle of a store; 0 where that is corrupt.
@@ -139,9 +144,10 @@ pub fn settled_bytes(answer: &HeldAnswer, bound: [u8; BOUND_BYTES]) -> Vec<u8> {
 /// The completions in order, then 0.
 fn completions_bytes(answer: &HeldAnswer) -> [u8; COMPLETIONS_BYTES] {
     let mut out = [0; COMPLETIONS_BYTES];
-    for (place, done) in out.chunks_mut(COMPLETION_BYTES).zip(completions(answer)) {
-        place[0] = done.lane;
-        place[1..].copy_from_slice(&done.value.to_le_bytes());
+    for (room, done) in out.chunks_mut(COMPLETION_BYTES).zip(completions(answer)) {
+        room[0] = done.lane;
+        room[1..5].copy_from_slice(&done.value.to_le_bytes());
+        room[5..].copy_from_slice(&done.place.to_le_bytes());
     }
     out
 }
@@ -191,7 +197,7 @@ pub fn encode_call(call: HeldCall) -> [u8; CALL_BYTES] {
 
 pub fn decode_call(bytes: &[u8]) -> Result<HeldCall, String> {
     let (kind, lane, word) = (bytes[0], bytes[1], bytes[2]);
-    let v = u32::from_le_bytes([bytes[3], bytes[4], bytes[5], bytes[6]]);
+    let v = number_at(bytes, 3);
     let begin = |op| Call::Begin { lane, op, word };
     Ok(HeldCall::Machine(match kind {
         0x01 => begin(Op::Load),
@@ -234,6 +240,7 @@ fn index_of<T: PartialEq>(table: &[T], item: T) -> u8 {
 
 pub fn encode_store(s: &Store) -> Vec<u8> {
     let mut out = vec![s.n, s.c, s.m];
+    out.extend(s.completed.to_le_bytes());
     out.extend(match s.service {
         None => [0; 6],
         Some(v) => {
@@ -294,7 +301,8 @@ impl Reader<'_> {
     }
 
     fn word(&mut self) -> u32 {
-        u32::from_le_bytes([self.byte(), self.byte(), self.byte(), self.byte()])
+        self.at += 4;
+        number_at(self.bytes, self.at - 4)
     }
 
     fn words(&mut self) -> Words {
@@ -316,6 +324,7 @@ impl Reader<'_> {
 pub fn decode_store(bytes: &[u8]) -> Result<Store, String> {
     let mut r = Reader { bytes, at: 0 };
     let mut s = Store::fresh(r.byte(), r.byte(), r.byte());
+    s.completed = r.word();
     let (busy, lane, block) = (r.flag()?, r.byte(), r.byte());
     let (command, awaited, bare) = (r.entry(&COMMANDS)?, r.byte(), r.flag()?);
     s.service = busy.then_some(Service { lane, block, command, awaited, bare });
@@ -366,16 +375,17 @@ pub fn part_name(offset: usize) -> String {
     let words = |at: usize| format!("word {} byte {}", at / 4, at % 4);
     match offset {
         0..=2 => ["n", "c", "m"][offset].to_string(),
-        3..=8 => {
+        3..=6 => format!("completions byte {}", offset - 3),
+        7..=12 => {
             let names = ["tag", "lane", "block", "command", "awaited", "bare"];
-            format!("control {}", names[offset - 3])
+            format!("control {}", names[offset - 7])
         }
-        9..=1944 => {
-            let (lane, at) = ((offset - 9) / 242, (offset - 9) % 242);
+        13..=1948 => {
+            let (lane, at) = ((offset - 13) / 242, (offset - 13) % 242);
             format!("lane {lane} {}", lane_part_name(at))
         }
         _ => {
-            let (block, at) = ((offset - 1945) / 25, (offset - 1945) % 25);
+            let (block, at) = ((offset - 1949) / 25, (offset - 1949) % 25);
             let part = match at {
                 0..=15 => words(at),
                 16..=23 => format!("PRESENT {}", at - 16),

@@ -1,5 +1,6 @@
-//! Demand 3 on lists, from the calls and their answers alone: nothing of the
-//! machine enters here, so it judges the answers of any program.
+//! Demand 3 on lists, values and places, from the calls and their answers
+//! alone: nothing of the machine enters here, so it judges the answers of any
+//! program.
 
 use crate::flat::{check_quiet, demand, Flat};
 use crate::held::{HeldAnswer, HeldCall};
@@ -27,9 +28,11 @@ pub struct Judged {
     pub quiet_stores: usize,
 }
 
-/// Flat memory, and each lane's last begin call that waits.
+/// Flat memory, the place of the last completion, and each lane's last begin
+/// call that waits.
 pub struct Judge {
     flat: Flat,
+    last_place: u32,
     waited: [Option<Waited>; 256],
     /// The record before was a settle that was not refused, or an opening.
     quiet: bool,
@@ -38,7 +41,8 @@ pub struct Judge {
 
 impl Default for Judge {
     fn default() -> Judge {
-        Judge { flat: Flat::new(0), waited: [None; 256], quiet: false, judged: Judged::default() }
+        let (flat, waited, judged) = (Flat::new(0), [None; 256], Judged::default());
+        Judge { flat, last_place: 0, waited, quiet: false, judged }
     }
 }
 
@@ -59,7 +63,8 @@ impl Judge {
         self.quiet = false;
         match (record, given) {
             (Record::Open { m, .. }, Given::Opened) => {
-                (self.flat, self.waited, self.quiet) = (Flat::new(m), [None; 256], true);
+                (self.flat, self.last_place) = (Flat::new(m), 0);
+                (self.waited, self.quiet) = ([None; 256], true);
                 Ok(())
             }
             (Record::Show, Given::Store(store)) if was_quiet => {
@@ -80,13 +85,10 @@ impl Judge {
                 self.see_begin(lane, op, word, *answer)
             }
             (HeldCall::Machine(_), HeldAnswer::Machine(Answer::Step)) => Ok(()),
-            (
-                HeldCall::Machine(Call::Deliver(k)),
-                HeldAnswer::Machine(Answer::Done { lane, value }),
-            ) => {
+            (HeldCall::Machine(Call::Deliver(k)), HeldAnswer::Machine(Answer::Done(done))) => {
                 self.judged.in_delivers += 1;
-                demand(*lane == k, "another lane's completion")?;
-                self.complete(*lane, *value)
+                demand(done.lane == k, "another lane's completion")?;
+                self.complete(done)
             }
             (HeldCall::Settle, HeldAnswer::Settled(given)) => self.see_settle(given),
             _ => Err("the answer is not one of this call".to_string()),
@@ -99,10 +101,10 @@ impl Judge {
                 self.waited[usize::from(lane)] = Some(Waited { op, word, open: true });
                 Ok(())
             }
-            Answer::Done { lane: told, value } => {
+            Answer::Done(done) => {
                 self.judged.in_begins += 1;
-                demand(told == lane, "another lane's completion")?;
-                self.feed(op, word, value)
+                demand(done.lane == lane, "another lane's completion")?;
+                self.feed(op, word, &done)
             }
             Answer::Step => Err("a begin call that is a step".to_string()),
         }
@@ -111,7 +113,7 @@ impl Judge {
     fn see_settle(&mut self, given: &Settled) -> Result<(), String> {
         for done in &given.completions {
             self.judged.in_settles += 1;
-            self.complete(done.lane, done.value)?;
+            self.complete(done)?;
         }
         let open = self.waited.iter().flatten().any(|waited| waited.open);
         demand(!open, "settled with an operation that waits")?;
@@ -121,18 +123,23 @@ impl Judge {
     }
 
     /// A completion that carries the lane, of its last begin that waited.
-    fn complete(&mut self, lane: u8, value: u32) -> Result<(), String> {
-        let waited = self.waited[usize::from(lane)].as_mut().filter(|waited| waited.open);
-        let waited = waited.ok_or(format!("lane {lane} has no operation that waits"))?;
+    fn complete(&mut self, done: &Completion) -> Result<(), String> {
+        let waited = self.waited[usize::from(done.lane)].as_mut().filter(|waited| waited.open);
+        let waited = waited.ok_or(format!("lane {} has no operation that waits", done.lane))?;
         waited.open = false;
         let (op, word) = (waited.op, waited.word);
-        self.feed(op, word, value)
+        self.feed(op, word, done)
     }
 
-    fn feed(&mut self, op: Op, word: u8, value: u32) -> Result<(), String> {
+    /// A completion in its order: it has the place after the last, and its
+    /// operation's value.
+    fn feed(&mut self, op: Op, word: u8, done: &Completion) -> Result<(), String> {
         self.judged.completions += 1;
+        self.last_place += 1;
+        let (place, next) = (done.place, self.last_place);
+        demand(place == next, &format!("place {place}, where {next} is next"))?;
         demand(usize::from(word) < self.flat.0.len(), "a word that flat memory has not")?;
-        let flat = self.flat.feed(op, word);
+        let (flat, value) = (self.flat.feed(op, word), done.value);
         demand(flat == value, &format!("{op:?} of word {word} gave {value}, flat memory {flat}"))
     }
 }
@@ -141,7 +148,8 @@ impl Display for Judged {
     fn fmt(&self, f: &mut Formatter) -> fmt::Result {
         writeln!(
             f,
-            "demand 3 holds: {} completions (begin {}, deliver {}, settle {}) as flat memory",
+            "demand 3 holds: {} completions (begin {}, deliver {}, settle {}) as flat memory, \
+             in places 1, 2, 3 .. of each list",
             self.completions, self.in_begins, self.in_delivers, self.in_settles
         )?;
         writeln!(f, "quiet stores shown, with the four properties: {}", self.quiet_stores)

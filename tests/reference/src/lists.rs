@@ -129,10 +129,13 @@ pub fn read_answer(record: Record, bytes: &[u8]) -> Result<Given, String> {
     if record == Record::Show {
         return Ok(Given::Store(Box::new(held::decode_store(bytes)?)));
     }
-    let value = u32::from_le_bytes([bytes[2], bytes[3], bytes[4], bytes[5]]);
+    let value = held::number_at(bytes, 2);
     let given = match (record, bytes[0]) {
         (Record::Open { .. }, 0) => Given::Opened,
-        (_, 1) => Given::Answer(HeldAnswer::Machine(Answer::Done { lane: bytes[1], value })),
+        (_, 1) => {
+            let done = Completion { lane: bytes[1], value, place: held::number_at(bytes, 8) };
+            Given::Answer(HeldAnswer::Machine(Answer::Done(done)))
+        }
         (_, 2) => Given::Answer(HeldAnswer::Machine(Answer::Wait)),
         (_, 3) => Given::Answer(HeldAnswer::Machine(Answer::Step)),
         (_, 4) => Given::Answer(HeldAnswer::Refused(bytes[1])),
@@ -152,8 +155,8 @@ pub fn read_answer(record: Record, bytes: &[u8]) -> Result<Given, String> {
 }
 
 fn completion(bytes: &[u8]) -> Completion {
-    let value = u32::from_le_bytes([bytes[1], bytes[2], bytes[3], bytes[4]]);
-    Completion { lane: bytes[0], value }
+    let (value, place) = (held::number_at(bytes, 1), held::number_at(bytes, 5));
+    Completion { lane: bytes[0], value, place }
 }
 
 /// Records and answers side by side, as read from the bytes.

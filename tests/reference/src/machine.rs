@@ -19,6 +19,7 @@ pub const TAPE_TOO_LONG: u8 = 13;
 pub const CORRUPT: u8 = 14;
 pub const BUFFER_SHORT: u8 = 15;
 pub const UNEXPECTED: u8 = 16;
+pub const NO_PLACE_LEFT: u8 = 17;
 
 pub const PICTURE_RECORD: usize = 19;
 
@@ -94,7 +95,7 @@ pub fn corrupt(s: &Store) -> bool {
         s.service.map_or(false, |v| v.lane >= s.n || v.block >= s.m || v.awaited > s.n - 1);
     let lane = s.lanes[..n].iter().any(|l| corrupt_lane(l, s.c, s.m));
     let present = s.blocks[..m].iter().any(|b| b.present[n..].contains(&true));
-    service || lane || present
+    service || lane || present || s.begun() > u64::from(LAST_PLACE)
 }
 
 fn corrupt_lane(lane: &Lane, c: u8, m: u8) -> bool {
@@ -124,28 +125,33 @@ fn use_line(lane: &mut Lane, c: u8, i: usize) {
     order[at..].rotate_left(1);
 }
 
-/// Does the operation on the line; the lane waits no more.
-fn complete(lane: &mut Lane, c: u8, i: usize, op: Op, word: u8) -> u32 {
+/// Does the operation on line i of lane k, which waits no more, and gives it
+/// the next place.
+fn complete(s: &mut Store, k: u8, i: usize, op: Op, word: u8) -> Answer {
+    let lane = &mut s.lanes[usize::from(k)];
     let cell = &mut lane.lines[i].words[usize::from(word % 4)];
     let (value, left) = op.on(*cell);
     *cell = left;
-    use_line(lane, c, i);
+    use_line(lane, s.c, i);
     lane.waiting = None;
-    value
+    s.completed += 1;
+    Answer::Done(Completion { lane: k, value, place: s.completed })
 }
 
 fn begin(s: &mut Store, k: u8, op: Op, word: u8) -> Result<Answer, u8> {
     if u16::from(word) >= 4 * u16::from(s.m) {
         return Err(NO_SUCH_WORD);
     }
-    let lane = &mut s.lanes[usize::from(k)];
-    if lane.waiting.is_some() {
+    if s.lanes[usize::from(k)].waiting.is_some() {
         return Err(LANE_BUSY);
     }
+    if s.begun() == u64::from(LAST_PLACE) {
+        return Err(NO_PLACE_LEFT);
+    }
+    let lane = &mut s.lanes[usize::from(k)];
     let command = match search(lane, s.c, word / 4) {
         Some(i) if op.is_load() || lane.lines[i].private => {
-            let value = complete(lane, s.c, i, op, word);
-            return Ok(Answer::Done { lane: k, value });
+            return Ok(complete(s, k, i, op, word));
         }
         Some(_) => Command::Exclude,
         None => {
@@ -278,8 +284,8 @@ fn deliver(s: &mut Store, k: u8) -> Result<Answer, u8> {
         obey(lane, c, message)?;
         Ok(Answer::Step)
     } else {
-        let value = accept_grant(lane, c, message)?;
-        Ok(Answer::Done { lane: k, value })
+        let (i, waiting) = accept_grant(lane, c, message)?;
+        Ok(complete(s, k, i, waiting.op, waiting.word))
     }
 }
 
@@ -304,8 +310,9 @@ fn obey(lane: &mut Lane, c: u8, order: Message<DownKind>) -> Result<(), u8> {
     push(&mut lane.returns, Message { kind, block: order.block, words })
 }
 
-/// A grant, bare or with words: the served operation completes.
-fn accept_grant(lane: &mut Lane, c: u8, grant: Message<DownKind>) -> Result<u32, u8> {
+/// A grant, bare or with words: gives the line that it is for, and the served
+/// operation to complete there.
+fn accept_grant(lane: &mut Lane, c: u8, grant: Message<DownKind>) -> Result<(usize, Waiting), u8> {
     let waiting = match lane.waiting {
         Some(w) if w.served && w.block() == grant.block => w,
         _ => return Err(UNEXPECTED),
@@ -325,5 +332,5 @@ fn accept_grant(lane: &mut Lane, c: u8, grant: Message<DownKind>) -> Result<u32,
         i
     };
     lane.lines[i].private = !waiting.op.is_load();
-    Ok(complete(lane, c, i, waiting.op, waiting.word))
+    Ok((i, waiting))
 }

@@ -4,7 +4,12 @@
 pub const LANES: usize = 8;
 pub const LINES: usize = 8;
 pub const BLOCKS: usize = 64;
+
+/// Of a queue.
 pub const PLACES: usize = 2;
+
+/// Of completions: their places have 32 bits.
+pub const LAST_PLACE: u32 = 4_294_967_295;
 
 pub type Words = [u32; 4];
 
@@ -193,6 +198,8 @@ pub struct Store {
     pub n: u8,
     pub c: u8,
     pub m: u8,
+    /// Completions since opening.
+    pub completed: u32,
     pub service: Option<Service>,
     pub lanes: [Lane; LANES],
     pub blocks: [Block; BLOCKS],
@@ -209,7 +216,19 @@ impl Store {
             waiting: None,
         };
         let (lanes, blocks) = ([lane; LANES], [Block::default(); BLOCKS]);
-        Store { n, c, m, service: None, lanes, blocks }
+        Store { n, c, m, completed: 0, service: None, lanes, blocks }
+    }
+
+    /// The count of operations waiting, unserved or served.
+    pub fn waiting(&self) -> u32 {
+        let lanes = self.lanes.iter().take(usize::from(self.n));
+        lanes.filter(|lane| lane.waiting.is_some()).count() as u32
+    }
+
+    /// Completions so far plus operations waiting: all that were begun since
+    /// opening, each of which needs a place.
+    pub fn begun(&self) -> u64 {
+        u64::from(self.completed) + u64::from(self.waiting())
     }
 
     pub fn quiet(&self) -> bool {
@@ -251,14 +270,16 @@ impl Call {
 
 #[derive(Clone, Copy, PartialEq, Eq, Debug)]
 pub enum Answer {
-    Done { lane: u8, value: u32 },
+    Done(Completion),
     Wait,
     Step,
 }
 
-/// An operation that completed: its lane and the value it gave.
+/// An operation that completed: its lane, the value it gave, and its place
+/// among the completions since opening, counted from 1.
 #[derive(Clone, Copy, PartialEq, Eq, Debug)]
 pub struct Completion {
     pub lane: u8,
     pub value: u32,
+    pub place: u32,
 }

@@ -95,6 +95,21 @@ pub fn store(rng: &mut Rng) -> Store {
     s
 }
 
+/// Completions so far that leave a place for each operation waiting: those
+/// that the store has, any number, or so many that none or few places are left.
+pub fn completed(s: &Store, rng: &mut Rng) -> u32 {
+    let most = u64::from(LAST_PLACE - s.waiting());
+    let (size, any) = (1 << rng.between(0, 32), rng.draw());
+    let few = rng.between(1, 16) as u64;
+    let counts = [
+        u64::from(s.completed),
+        rng.pick(&[any % size, any % size, size - 1]),
+        most,
+        most - rng.pick(&[1, 1, 2, 2, few]),
+    ];
+    counts[rng.weighted(&[20, 40, 20, 20])].min(most) as u32
+}
+
 /// A block that the first n lanes may have.
 fn block(n: usize, mood: &Mood, rng: &mut Rng) -> Block {
     let (words, modified, mut present) = (rng.words(), rng.chance(50), [false; LANES]);

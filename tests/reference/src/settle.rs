@@ -27,8 +27,8 @@ pub fn settle(store: &Store) -> Result<(Store, Settled), u8> {
 /// The next step; a store that is not quiet and has none is stuck.
 fn take_step(s: &mut Store, given: &mut Settled) -> Result<(), u8> {
     let step = next_step(s).ok_or(UNEXPECTED)?;
-    if let Answer::Done { lane, value } = machine::step(s, step)? {
-        given.completions.push(Completion { lane, value });
+    if let Answer::Done(done) = machine::step(s, step)? {
+        given.completions.push(done);
     }
     given.steps += 1;
     Ok(())

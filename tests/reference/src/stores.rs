@@ -27,10 +27,14 @@ pub fn make(seed: u64, index: usize) -> Case {
     if rng.chance(50) {
         scramble::junk(&mut store, &mut rng);
     }
-    let damages = match source % 2 {
-        0 => Vec::new(),
-        _ => damage(&mut store, &mut rng),
+    let (fair, corrupting) = match source % 2 {
+        0 => (Vec::new(), Vec::new()),
+        _ => choose_damage(&mut rng),
     };
+    let mut damages = damage(&mut store, &fair, &mut rng);
+    // Only now, since all before may add an operation that waits.
+    store.completed = scramble::completed(&store, &mut rng);
+    damages.extend(damage(&mut store, &corrupting, &mut rng));
     Case { store, call, source: SOURCES[source], damages }
 }
 
@@ -150,6 +154,10 @@ fn turn_toward(s: &mut Store, call: Call, rng: &mut Rng) {
 
 fn toward_begin(s: &mut Store, k: usize, word: u8, rng: &mut Rng) {
     let (c, m) = (usize::from(s.c), s.m);
+    if rng.chance(20) {
+        // Nobody else waits: the next place can be the last.
+        s.lanes.iter_mut().for_each(|lane| lane.waiting = None);
+    }
     let lane = &mut s.lanes[k];
     if rng.chance(70) {
         lane.waiting = None;
@@ -162,7 +170,7 @@ fn toward_begin(s: &mut Store, k: usize, word: u8, rng: &mut Rng) {
                 line.block = (line.block + 1) % m;
             }
         }
-        if rng.chance(40) {
+        if rng.chance(75) {
             lane.returns = Queue { length: 2, places: scramble::return_places(m, rng) };
         }
     } else if word / 4 < m && rng.chance(50) {
@@ -276,20 +284,27 @@ fn toward_fit(lane: &mut Lane, c: u8, rng: &mut Rng) {
     }
 }
 
-/// Some fair damage, some corrupting, or both. Fair damage comes first and
-/// damage to n, c and m last: the others need them in range.
-fn damage(store: &mut Store, rng: &mut Rng) -> Vec<&'static str> {
-    let corrupting = rng.chance(60);
-    let none = if corrupting { 4 } else { 0 };
-    let fair = rng.weighted(&[none, 4, 2]);
-    let mut chosen: Vec<&Damage> = (0..fair).map(|_| &FAIR[rng.below(FAIR.len())]).collect();
-    if corrupting {
+type Damages = Vec<&'static Damage>;
+
+/// Some fair damage, some corrupting, or both. Damage to n, c and m is last:
+/// the others need them in range.
+fn choose_damage(rng: &mut Rng) -> (Damages, Damages) {
+    let is_corrupting = rng.chance(60);
+    let none = if is_corrupting { 4 } else { 0 };
+    let fair = (0..rng.weighted(&[none, 4, 2])).map(|_| &FAIR[rng.below(FAIR.len())]).collect();
+    let mut corrupting = Vec::new();
+    if is_corrupting {
         let (inner, any) = (rng.between(6, CORRUPTING.len() - 1), rng.below(CORRUPTING.len()));
         if rng.chance(20) {
-            chosen.push(&CORRUPTING[inner]);
+            corrupting.push(&CORRUPTING[inner]);
         }
-        chosen.push(&CORRUPTING[any]);
+        corrupting.push(&CORRUPTING[any]);
     }
+    (fair, corrupting)
+}
+
+/// Does the damage; the names of what the store had a place for.
+fn damage(store: &mut Store, chosen: &[&Damage], rng: &mut Rng) -> Vec<&'static str> {
     let done = chosen.iter().filter(|damage| (damage.act)(store, rng));
     done.map(|damage| damage.name).collect()
 }

@@ -4,6 +4,7 @@ use crate::conditions::{self, REASONS, UNEXPECTED_REASONS};
 use crate::events::{Events, EVENTS};
 use crate::held::{HeldAnswer, HeldCall, PICTURE_KIND, SETTLE_KIND};
 use crate::parts::*;
+use crate::places;
 use crate::settle;
 use crate::situations;
 use crate::stores::{Case, SOURCES};
@@ -14,7 +15,7 @@ use std::fmt::{self, Display, Formatter};
 const KINDS: [&str; 8] = ["open", "load", "store", "exchange", "add", "serve", "return", "deliver"];
 
 /// Numbers that a tape can give if the machine lets it.
-const TAPE_NUMBERS: [u8; 15] = [1, 2, 3, 4, 5, 6, 7, 8, 9, 10, 11, 12, 13, 14, 16];
+const TAPE_NUMBERS: [u8; 16] = [1, 2, 3, 4, 5, 6, 7, 8, 9, 10, 11, 12, 13, 14, 16, 17];
 
 /// Counts over tapes.
 #[derive(Default)]
@@ -25,6 +26,7 @@ pub struct Tapes {
     pub refused: BTreeMap<u8, usize>,
     pub events: Events,
     pub shapes: BTreeSet<(u8, u8, u8)>,
+    pub highest_place: u32,
     bytes: usize,
     empty: usize,
     kinds: BTreeMap<&'static str, usize>,
@@ -48,7 +50,10 @@ impl Tapes {
         *self.kinds.entry(kind).or_default() += 1;
         let answer = match event.outcome {
             Outcome::Open => "open",
-            Outcome::Answer(Answer::Done { .. }) => "done",
+            Outcome::Answer(Answer::Done(done)) => {
+                self.highest_place = self.highest_place.max(done.place);
+                "done"
+            }
             Outcome::Answer(Answer::Wait) => "wait",
             Outcome::Answer(Answer::Step) => "step",
             Outcome::Refused(number) => {
@@ -84,6 +89,7 @@ impl Display for Tapes {
         writeln!(f, "records read (lines before `end`) {}", self.lines)?;
         writeln!(f, "kinds: {}", pairs(&self.kinds))?;
         writeln!(f, "answers: {}", pairs(&self.answers))?;
+        writeln!(f, "highest place {}", self.highest_place)?;
         writeln!(f, "refusals: {}", pairs(&self.refused))?;
         let never = TAPE_NUMBERS.iter().filter(|number| !self.refused.contains_key(number));
         let never: Vec<String> = never.map(u8::to_string).collect();
@@ -116,6 +122,7 @@ pub struct Cases {
     /// By damage: all, and not corrupt after all.
     pub damages: BTreeMap<&'static str, (usize, usize)>,
     pub situations: BTreeMap<&'static str, usize>,
+    pub places: BTreeMap<&'static str, usize>,
     /// Settles that were not refused, by the count of completions.
     pub settled: BTreeMap<usize, usize>,
     /// Refused settles, by the reason of 14 and of 16.
@@ -133,6 +140,9 @@ impl Cases {
         self.add_answer(case, answer);
         for situation in situations::met(&case.store, case.call, answer) {
             *self.situations.entry(situation).or_default() += 1;
+        }
+        for name in places::met(&case.store, case.call, answer) {
+            *self.places.entry(name).or_default() += 1;
         }
         let reasons = conditions::corrupt_reasons(&case.store);
         add_reasons(&mut self.reasons, &reasons);
@@ -228,6 +238,8 @@ impl Display for Cases {
         writeln!(f, "cases {}", self.cases)?;
         fmt_counts(f, &SOURCES, &self.sources)?;
         self.fmt_refused(f)?;
+        writeln!(f, "places:")?;
+        fmt_counts(f, &places::NAMES, &self.places)?;
         for kind in HELD_KINDS {
             writeln!(f, "{}:{}", kind_name(kind), self.answers_of(kind))?;
         }

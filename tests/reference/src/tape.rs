@@ -142,7 +142,9 @@ pub fn print(tape: &[u8]) -> String {
     let result = replay(tape, &mut |event| {
         let line = match event.outcome {
             Outcome::Open => "open".to_string(),
-            Outcome::Answer(Answer::Done { lane, value }) => format!("done {lane} {value}"),
+            Outcome::Answer(Answer::Done(Completion { lane, value, place })) => {
+                format!("done {lane} {value} {place}")
+            }
             Outcome::Answer(Answer::Wait) => "wait".to_string(),
             Outcome::Answer(Answer::Step) => "step".to_string(),
             Outcome::Refused(number) => format!("refused {number}"),

@@ -7,6 +7,7 @@ use reference::damage::{CORRUPTING, FAIR};
 use reference::held::{self, HeldAnswer, HeldCall, SETTLE_KIND};
 use reference::list_maker::SHAPES;
 use reference::machine;
+use reference::places;
 use reference::rng::Rng;
 use reference::situations;
 use reference::summary::{Cases, Tapes, HELD_KINDS};
@@ -30,9 +31,10 @@ fn tapes_cover_what_they_must() {
     for number in (1..=11).chain([13]) {
         assert!(summary.refused.contains_key(&number), "refusal {number}");
     }
-    for number in [12, 14, 16] {
+    for number in [12, 14, 16, 17] {
         assert!(!summary.refused.contains_key(&number), "refusal {number}");
     }
+    assert!(summary.highest_place > 5_000, "{}", summary.highest_place);
     let events = &summary.events;
     assert!(events.orders.iter().all(|&count| count > 0), "{:?}", events.orders);
     assert_eq!(events.never_met(), [""; 0]);
@@ -116,7 +118,7 @@ fn refusal_changes_nothing(case: &[u8], call: HeldCall, number: u8) {
         HeldCall::Picture(_) => (held::BUFFER_BYTES, held::BUFFER_FILL),
         HeldCall::Settle => (held::COMPLETIONS_BYTES, 0),
     };
-    let mut want = vec![4, number, 0, 0, 0, 0, 0, 0];
+    let mut want = vec![4, number, 0, 0, 0, 0, 0, 0, 0, 0, 0, 0];
     want.extend(&case[..held::STORE_BYTES]);
     want.extend(vec![untouched; follows]);
     if call == HeldCall::Settle {
@@ -175,6 +177,7 @@ fn cases_cover_what_they_must() {
         assert!(UNEXPECTED_REASONS.iter().all(|reason| alone(reason) >= 10));
         let met = |name| summary.situations.get(name).copied().unwrap_or(0);
         assert!(situations::NAMES.iter().all(|name| met(name) >= 10));
+        check_places(&summary);
         check_settles(&summary);
         check_pairs(&summary);
     }
@@ -199,7 +202,26 @@ fn chosen_cases_are_few_and_meet_much() {
     let alone = |reason| summary.unexpected_reasons.get(reason).map_or(0, |counts| counts.1);
     assert!(UNEXPECTED_REASONS.iter().all(|reason| alone(reason) > 0));
     assert!(situations::NAMES.iter().all(|name| summary.situations.contains_key(name)));
+    assert!(places::NAMES.iter().all(|name| summary.places.contains_key(name)));
+    assert!(summary.undone.1 > 0, "no settle was refused after a completion");
     assert!((0..=8).all(|count| summary.settled.contains_key(&count)), "{:?}", summary.settled);
+}
+
+/// W1: 17 and the sum's 14 are met, and completions near the last place; a
+/// begin and a deliver that get the last place itself less often.
+fn check_places(summary: &Cases) {
+    let last = ["done by a begin in the last place", "done by a deliver in the last place"];
+    for name in places::NAMES {
+        let least = match name {
+            _ if last.contains(&name) => 5,
+            "refused 14 for the sum alone" => 100,
+            _ if name.ends_with("alone, a picture") || name.ends_with("alone, a settle") => 10,
+            _ if name.ends_with("near the last place") => 100,
+            _ => 25,
+        };
+        let count = summary.places.get(name).copied().unwrap_or(0);
+        assert!(count >= least, "{name}: {count}");
+    }
 }
 
 /// Settle: each number and reason, each count of completions, and refusals
@@ -220,6 +242,7 @@ fn check_settles(summary: &Cases) {
 /// Pairs of numbers that can hold at once are met, in document 01's order.
 fn check_pairs(summary: &Cases) {
     let begin = [(14, 6), (14, 7), (14, 8), (14, 12), (6, 7), (7, 8), (7, 12), (8, 12)];
+    let begin_17 = [(14, 17), (6, 17), (7, 17), (8, 17), (17, 12)];
     let serve = [
         (14, 9),
         (14, 10),
@@ -240,6 +263,7 @@ fn check_pairs(summary: &Cases) {
         }
     };
     (1..=4).for_each(|kind| met(kind, &begin));
+    (1..=4).for_each(|kind| met(kind, &begin_17));
     met(5, &serve);
     met(6, &step);
     met(6, &[(16, 12)]);
@@ -279,13 +303,30 @@ fn differences_are_found() {
         .collect();
     let mut answers = held::answers(&cases).expect("well formed");
     assert_eq!(held::differences(&cases, &answers, 9), Ok(vec![]));
-    answers[8 + 9 + 242 + 234] ^= 1;
+    answers[12 + 13 + 242 + 234] ^= 1;
     let found = held::differences(&cases, &answers, 9).expect("well formed");
     assert_eq!(found.len(), 1);
     assert!(found[0].starts_with("case 0 ") && found[0].contains("lane 1 waiting byte 0"));
     answers.pop();
     let found = held::differences(&cases, &answers, 9).expect("well formed");
     assert!(found.len() == 2 && found[1].ends_with("the answers end early"));
+}
+
+#[test]
+fn parts_of_a_store_have_names() {
+    for (offset, name) in [
+        (2, "m"),
+        (3, "completions byte 0"),
+        (6, "completions byte 3"),
+        (7, "control tag"),
+        (12, "control bare"),
+        (13, "lane 0 line 0 VALID"),
+        (1_948, "lane 7 waiting byte 7"),
+        (1_949, "block 0 word 0 byte 0"),
+        (3_548, "block 63 MODIFIED"),
+    ] {
+        assert_eq!(held::part_name(offset), name);
+    }
 }
 
 #[test]

@@ -33,8 +33,10 @@ fn answered(records: &[Record]) -> Vec<(Record, Given)> {
     lists::read(&bytes(records), &answers).expect("well formed")
 }
 
-fn settled(steps: u32, completions: &[(u8, u32)]) -> Given {
-    let completions = completions.iter().map(|&(lane, value)| Completion { lane, value }).collect();
+/// Completions by lane, value and place.
+fn settled(steps: u32, completions: &[(u8, u32, u32)]) -> Given {
+    let completions =
+        completions.iter().map(|&(lane, value, place)| Completion { lane, value, place }).collect();
     Given::Answer(HeldAnswer::Settled(Settled { steps, completions }))
 }
 
@@ -47,16 +49,17 @@ fn list_bytes() {
     assert_eq!(input[32..], [0x12, 0, 0, 0, 0, 0, 0, 0]);
     assert_eq!(lists::records(&input), Ok(two_stores()));
     let answers = lists::answers(&input).expect("well formed");
-    assert_eq!(answers.len(), 8 + 8 + 8 + 50 + 3_545);
-    assert_eq!(answers[..8], [0; 8]);
-    assert_eq!(answers[8..16], [2, 0, 0, 0, 0, 0, 0, 0]);
-    assert_eq!(answers[24..34], [6, 0, 6, 0, 0, 0, 2, 0, 0, 7]);
-    assert_eq!(answers[34..42], [0, 0, 0, 1, 9, 0, 0, 0]);
-    assert_eq!(answers[42..72], [0; 30]);
-    assert_eq!(answers[72..74], [8, 0]);
-    assert_eq!(answers[74..77], [2, 1, 1]);
+    assert_eq!(answers.len(), 12 + 12 + 12 + 86 + 3_549);
+    assert_eq!(answers[..12], [0; 12]);
+    assert_eq!(answers[12..24], [2, 0, 0, 0, 0, 0, 0, 0, 0, 0, 0, 0]);
+    assert_eq!(answers[36..48], [6, 0, 6, 0, 0, 0, 2, 0, 0, 0, 0, 0]);
+    assert_eq!(answers[48..57], [0, 7, 0, 0, 0, 1, 0, 0, 0]);
+    assert_eq!(answers[57..66], [1, 9, 0, 0, 0, 2, 0, 0, 0]);
+    assert_eq!(answers[66..120], [0; 54]);
+    assert_eq!(answers[120..122], [8, 0]);
+    assert_eq!(answers[122..130], [2, 1, 1, 2, 0, 0, 0, 0]);
     let given = lists::read(&input, &answers).expect("well formed");
-    assert_eq!(given[3].1, settled(6, &[(0, 7), (1, 9)]));
+    assert_eq!(given[3].1, settled(6, &[(0, 7, 1), (1, 9, 2)]));
     assert!(lists::records(&input[..31]).is_err());
     assert!(lists::records(&[0x10, 0, 0, 0, 0, 0, 0, 0]).is_err());
     assert!(lists::read(&input, &answers[..answers.len() - 1]).is_err());
@@ -70,6 +73,11 @@ fn a_refused_opening_leaves_the_blank_store() {
     let refused = |number| Given::Answer(HeldAnswer::Refused(number));
     assert_eq!(given[..4], [refused(5), refused(14), refused(14), Given::Opened]);
     assert_eq!(given[4], settled(0, &[]));
+    // Nothing is left of a list before it, completions neither.
+    let mut calls = two_stores();
+    calls.extend([Record::Open { n: 9, c: 1, m: 1 }, Record::Show]);
+    let given = answered(&calls).pop().map(|(_, given)| given);
+    assert_eq!(given, Some(Given::Store(Box::new(Store::fresh(0, 0, 0)))));
 }
 
 #[test]
@@ -77,11 +85,11 @@ fn differences_are_found() {
     let input = bytes(&two_stores());
     let mut answers = lists::answers(&input).expect("well formed");
     assert_eq!(lists::differences(&input, &answers, 9), Ok(vec![]));
-    answers[72] ^= 1;
+    answers[120] ^= 1;
     let found = lists::differences(&input, &answers, 9).expect("well formed");
-    assert!(found.len() == 1 && found[0].ends_with("Call(Settle): answer byte 48"), "{found:?}");
-    answers[26] ^= 1;
-    answers[74 + 1_945] ^= 1;
+    assert!(found.len() == 1 && found[0].ends_with("Call(Settle): answer byte 84"), "{found:?}");
+    answers[38] ^= 1;
+    answers[122 + 1_949] ^= 1;
     let found = lists::differences(&input, &answers, 9).expect("well formed");
     assert!(found.len() == 2 && found[0].ends_with("answer byte 2"), "{found:?}");
     assert!(found[1].ends_with("block 0 word 0 byte 0"), "{found:?}");
@@ -102,19 +110,20 @@ fn the_judge_finds_lies() {
     assert_eq!(judged_with(0, |_| {}), Ok(2));
     // A wrong value, a completion left out, one too many, one of another lane.
     for completions in [
-        &[(0, 7), (1, 8)][..],
-        &[(0, 7)],
-        &[(0, 7), (1, 9), (1, 9)],
-        &[(0, 7), (0, 9)],
-        &[(0, 9), (1, 7)],
+        &[(0, 7, 1), (1, 8, 2)][..],
+        &[(0, 7, 1)],
+        &[(0, 7, 1), (1, 9, 2), (1, 9, 3)],
+        &[(0, 7, 1), (0, 9, 2)],
+        &[(0, 9, 1), (1, 7, 2)],
     ] {
         let lie = settled(6, completions);
         assert!(judged_with(3, |given| *given = lie.clone()).is_err(), "{completions:?}");
     }
     // Stores commute as far as their values go, but not in what is left.
-    let swapped = settled(6, &[(1, 9), (0, 7)]);
+    let swapped = settled(6, &[(1, 9, 1), (0, 7, 2)]);
     assert!(judged_with(3, |given| *given = swapped.clone()).is_err());
-    let lie = Given::Answer(HeldAnswer::Machine(Answer::Done { lane: 0, value: 8 }));
+    let done = Completion { lane: 0, value: 8, place: 1 };
+    let lie = Given::Answer(HeldAnswer::Machine(Answer::Done(done)));
     assert!(judged_with(1, |given| *given = lie.clone()).is_err());
     // A store that is not quiet, or has other words.
     let change = |given: &mut Given, change: fn(&mut Store)| match given {
@@ -132,12 +141,107 @@ fn the_judge_finds_lies() {
     }
 }
 
+/// A list with completions in a deliver, in a begin, in a settle (three) and in
+/// a begin again, then another with one in a settle.
+fn many_places() -> Vec<(Record, Given)> {
+    let call = |call| Record::Call(HeldCall::Machine(call));
+    let steps = [call(Call::Serve(0)), call(Call::Deliver(0))];
+    let mut records = vec![Record::Open { n: 4, c: 1, m: 1 }, begin(0, Op::Add(1), 0)];
+    records.extend(steps);
+    records.push(begin(0, Op::Add(2), 0));
+    records.extend((1..4).map(|lane| begin(lane, Op::Add(3), 0)));
+    records.extend([SETTLE, begin(3, Op::Load, 0), OPEN, begin(1, Op::Add(1), 0), SETTLE]);
+    answered(&records)
+}
+
+/// The places in the order of the completions.
+fn places(all: &mut [(Record, Given)]) -> Vec<&mut u32> {
+    all.iter_mut().flat_map(|(_, given)| places_of(given)).collect()
+}
+
+fn places_of(given: &mut Given) -> Vec<&mut u32> {
+    match given {
+        Given::Answer(HeldAnswer::Machine(Answer::Done(done))) => vec![&mut done.place],
+        Given::Answer(HeldAnswer::Settled(given)) => {
+            given.completions.iter_mut().map(|done| &mut done.place).collect()
+        }
+        _ => Vec::new(),
+    }
+}
+
+/// The judge's word on those answers with other places.
+fn judged_places(wanted: &[u32]) -> Result<usize, String> {
+    let mut all = many_places();
+    for (place, &wanted) in places(&mut all).into_iter().zip(wanted) {
+        *place = wanted;
+    }
+    judge(&all).map(|judged| judged.completions)
+}
+
+const RIGHT_PLACES: [u32; 7] = [1, 2, 3, 4, 5, 6, 1];
+
+/// A wrong place at an index, a repeated and a skipped one: there alone, or
+/// with all after it in the list moved too.
+fn place_is_judged(index: usize) {
+    let end = if index < 6 { 6 } else { 7 };
+    let lies: [fn(u32) -> u32; 5] = [|_| 0, |_| 77, |_| u32::MAX, |p| p - 1, |p| p + 1];
+    for lie in lies {
+        for last in [index + 1, end] {
+            let mut wrong = RIGHT_PLACES;
+            wrong[index..last].iter_mut().for_each(|place| *place = lie(*place));
+            let told = judged_places(&wrong).expect_err("a wrong place");
+            assert!(told.contains("is next"), "{wrong:?}: {told}");
+        }
+    }
+}
+
+#[test]
+fn right_places_are_held() {
+    let mut all = many_places();
+    assert_eq!(places(&mut all).into_iter().map(|place| *place).collect::<Vec<_>>(), RIGHT_PLACES);
+    assert_eq!(judged_places(&RIGHT_PLACES), Ok(7));
+    // The places do not go on from list to list.
+    assert!(judged_places(&[1, 2, 3, 4, 5, 6, 7]).is_err());
+}
+
+#[test]
+fn a_wrong_place_in_a_delivers_answer_is_found() {
+    place_is_judged(0);
+}
+
+#[test]
+fn a_wrong_place_in_a_begins_answer_is_found() {
+    place_is_judged(1);
+    place_is_judged(5);
+}
+
+#[test]
+fn a_wrong_place_in_settles_list_is_found() {
+    (2..5).for_each(place_is_judged);
+    place_is_judged(6);
+    // All three in one place, or in the order of neither lanes nor places.
+    assert!(judged_places(&[1, 2, 3, 3, 3, 4, 1]).is_err());
+    assert!(judged_places(&[1, 2, 5, 4, 3, 6, 1]).is_err());
+}
+
+/// The place's bytes are 0 in an answer that completes nothing, and in the room
+/// that settle leaves.
+#[test]
+fn places_without_a_completion_are_not_read() {
+    let input = bytes(&two_stores());
+    for at in [8, 12 + 8, 36 + 8, 48 + 2 * 9 + 5] {
+        let mut answers = lists::answers(&input).expect("well formed");
+        answers[at] = 1;
+        assert!(lists::read(&input, &answers).is_err(), "byte {at}");
+    }
+}
+
 /// The bound of two unserved operations of two lanes is 8.
 #[test]
 fn a_count_above_the_bound_is_found() {
     let bounded = |steps| {
         let mut all = answered(&two_stores());
-        all[3].1 = settled(steps, &[(0, 7), (1, 9)]);
+        all[3].1 = settled(steps, &[(0, 7, 1), (1, 9, 2)]);
         bounds::of_lists(&all)
     };
     assert_eq!(bounded(6), Ok(Bounded { settles: 1, reached: 0 }));
@@ -160,7 +264,7 @@ fn the_judge_attributes_by_the_last_begin_that_waited() {
         SETTLE,
     ];
     let all = answered(&calls);
-    assert_eq!(all[7].1, settled(4, &[(1, 7)]));
+    assert_eq!(all[7].1, settled(4, &[(1, 7, 3)]));
     let judged = judge(&all).expect("demand 3");
     assert_eq!((judged.in_begins, judged.in_delivers, judged.in_settles), (1, 0, 2));
 }

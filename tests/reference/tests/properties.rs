@@ -1,4 +1,5 @@
-//! Random runs from openings against flat memory, and the four properties.
+//! Random runs from openings against flat memory, the places of completions, and
+//! the four properties.
 
 use reference::flat::{self, Flat};
 use reference::machine;
@@ -36,21 +37,20 @@ impl Run {
             (Call::Begin { lane, op, word }, Answer::Wait) => {
                 self.waited[usize::from(lane)] = Some((op, word));
             }
-            (Call::Begin { op, word, .. }, Answer::Done { value, .. }) => {
-                self.completed(op, word, value);
-            }
-            (_, Answer::Done { lane, value }) => {
-                let (op, word) = self.waited[usize::from(lane)].expect("a begin that waited");
-                self.completed(op, word, value);
+            (Call::Begin { op, word, .. }, Answer::Done(done)) => self.completed(op, word, done),
+            (_, Answer::Done(done)) => {
+                let (op, word) = self.waited[usize::from(done.lane)].expect("a begin that waited");
+                self.completed(op, word, done);
             }
             _ => assert_eq!(answer, Answer::Step),
         }
         Ok(answer)
     }
 
-    fn completed(&mut self, op: Op, word: u8, value: u32) {
-        assert_eq!(self.flat.feed(op, word), value, "{op:?} of word {word}");
+    fn completed(&mut self, op: Op, word: u8, done: Completion) {
+        assert_eq!(self.flat.feed(op, word), done.value, "{op:?} of word {word}");
         self.completions += 1;
+        assert_eq!([done.place as usize, self.store.completed as usize], [self.completions; 2]);
     }
 
     /// Delivers, returns and serves, lowest lane first, until quiet.

@@ -11,7 +11,7 @@ const LOAD: Call = Call::Begin { lane: 0, op: Op::Load, word: 0 };
 fn refused(s: &Store, call: Call, number: u8) {
     let given = held::run(s, HeldCall::Machine(call));
     assert_eq!(given.answer, HeldAnswer::Refused(number), "{call:?}");
-    let mut want = vec![4, number, 0, 0, 0, 0, 0, 0];
+    let mut want = vec![4, number, 0, 0, 0, 0, 0, 0, 0, 0, 0, 0];
     want.extend(held::encode_store(s));
     assert_eq!(given.bytes(), want);
 }
@@ -241,7 +241,7 @@ fn changed(change: fn(&mut Store)) -> Store {
 }
 
 /// Changes outside the queues, each of which makes the store corrupt.
-const CORRUPTING: [fn(&mut Store); 18] = [
+const CORRUPTING: [fn(&mut Store); 19] = [
     |s| s.n = 1,
     |s| s.n = 9,
     |s| s.c = 0,
@@ -260,6 +260,7 @@ const CORRUPTING: [fn(&mut Store); 18] = [
     |s| s.lanes[2].order[1] = 0,
     |s| s.lanes[2].order[0] = 2,
     |s| s.lanes[0].order[1] = 255,
+    |s| s.completed = LAST_PLACE,
 ];
 
 /// The same for the queues.
@@ -290,7 +291,7 @@ fn each_condition_of_14() {
 
 #[test]
 fn not_corrupt() {
-    let changes: [fn(&mut Store); 14] = [
+    let changes: [fn(&mut Store); 15] = [
         |s| s.lanes[1].lines[0].block = 5,
         |s| s.lanes[1].lines[2] = valid(9),
         |s| s.lanes[3].lines[0] = valid(9),
@@ -305,6 +306,7 @@ fn not_corrupt() {
         |s| s.lanes[1].lines[0] = valid(4),
         |s| s.lanes[2].order[..2].copy_from_slice(&[1, 0]),
         |s| s.lanes[2].down.places[0] = with_block(DownKind::BareGrant, 4),
+        |s| s.completed = LAST_PLACE - 1,
     ];
     for (i, change) in changes.into_iter().enumerate() {
         assert!(!machine::corrupt(&changed(change)), "change {i}");
@@ -313,23 +315,36 @@ fn not_corrupt() {
 
 #[test]
 fn case_bytes() {
-    let s = changed(|s| s.lanes[0].waiting = waiting(true, Command::Exclude, 19));
+    let mut s = changed(|s| s.lanes[0].waiting = waiting(true, Command::Exclude, 19));
+    s.completed = 0x0807_0605;
     let call = HeldCall::Machine(Call::Begin { lane: 1, op: Op::Add(0x0403_0201), word: 9 });
     let bytes = held::encode_case(&s, call);
-    assert_eq!(bytes.len(), 3_553);
-    assert_eq!(bytes[..9], [3, 2, 5, 1, 2, 4, 1, 2, 0]);
-    assert_eq!(bytes[9 + 234..9 + 242], [2, 2, 1, 1, 0, 0, 0, 19]);
-    assert_eq!(bytes[9 + 242 + 19..9 + 242 + 25], [1, 0, 4, 1, 0, 0]);
-    assert_eq!(bytes[9 + 2 * 242 + 160..][..3], [1, 0, 4]);
-    assert_eq!(bytes[9 + 2 * 242 + 197..][..3], [1, 1, 4]);
-    assert_eq!(bytes[9 + 8 * 242 + 4 * 25 + 16..][..9], [0, 0, 1, 0, 0, 0, 0, 0, 0]);
-    assert_eq!(bytes[3_545..], [4, 1, 9, 1, 2, 3, 4, 0]);
+    assert_eq!(bytes.len(), 3_557);
+    assert_eq!(bytes[..13], [3, 2, 5, 5, 6, 7, 8, 1, 2, 4, 1, 2, 0]);
+    assert_eq!(bytes[13 + 234..13 + 242], [2, 2, 1, 1, 0, 0, 0, 19]);
+    assert_eq!(bytes[13 + 242 + 19..13 + 242 + 25], [1, 0, 4, 1, 0, 0]);
+    assert_eq!(bytes[13 + 2 * 242 + 160..][..3], [1, 0, 4]);
+    assert_eq!(bytes[13 + 2 * 242 + 197..][..3], [1, 1, 4]);
+    assert_eq!(bytes[13 + 8 * 242 + 4 * 25 + 16..][..9], [0, 0, 1, 0, 0, 0, 0, 0, 0]);
+    assert_eq!(bytes[3_549..], [4, 1, 9, 1, 2, 3, 4, 0]);
     let (store, decoded) = held::decode_case(&bytes).expect("well formed");
     assert!(store == s && decoded == call);
     let given = held::run(&Store::fresh(2, 1, 1), HeldCall::Picture(0)).bytes();
-    assert_eq!(given.len(), 8 + 3_545 + 1_300);
-    assert_eq!(given[..8], [5, 0, 0, 0, 0, 0, 0, 0]);
-    assert!(held::answers(&bytes[..3_552]).is_err());
+    assert_eq!(given.len(), 12 + 3_549 + 1_300);
+    assert_eq!(given[..12], [5, 0, 0, 0, 0, 0, 0, 0, 0, 0, 0, 0]);
+    assert!(held::answers(&bytes[..3_556]).is_err());
+}
+
+#[test]
+fn done_bytes() {
+    let mut s = Store::fresh(2, 1, 1);
+    (s.lanes[1].lines[0], s.completed) = (valid(0), 0x0807_06ff);
+    let load = Call::Begin { lane: 1, op: Op::Load, word: 2 };
+    let given = held::run(&s, HeldCall::Machine(load)).bytes();
+    assert_eq!(given.len(), 12 + 3_549);
+    assert_eq!(given[..12], [1, 1, 3, 0, 0, 0, 0, 0, 0, 7, 7, 8]);
+    // The store after has that place as its count.
+    assert_eq!(given[12..19], [2, 1, 1, 0, 7, 7, 8]);
 }
 
 #[test]
@@ -344,22 +359,26 @@ fn settle_bytes() {
             word: 3,
         });
     }
+    s.completed = 0x0807_06fe;
     let given = held::run(&s, HeldCall::Settle).bytes();
-    assert_eq!(given.len(), 8 + 3_545 + 40 + 2);
-    assert_eq!(given[..8], [6, 0, 6, 0, 0, 0, 2, 0]);
-    assert_eq!(given[8 + 3_545..][..10], [1, 1, 2, 3, 4, 2, 2, 4, 6, 8]);
-    assert_eq!(given[8 + 3_545 + 10..][..30], [0; 30]);
+    assert_eq!(given.len(), 12 + 3_549 + 72 + 2);
+    assert_eq!(given[..12], [6, 0, 6, 0, 0, 0, 2, 0, 0, 0, 0, 0]);
+    let (store, listed) = given[12..].split_at(3_549);
+    assert_eq!(store[3..7], [0, 7, 7, 8]);
+    assert_eq!(listed[..9], [1, 1, 2, 3, 4, 0xff, 6, 7, 8]);
+    assert_eq!(listed[9..18], [2, 2, 4, 6, 8, 0, 7, 7, 8]);
+    assert_eq!(listed[18..72], [0; 54]);
     // 2 × n × U.
-    assert_eq!(given[8 + 3_545 + 40..], [12, 0]);
+    assert_eq!(listed[72..], [12, 0]);
     s.lanes[0].down = queue(1, DownKind::BareGrant, 1);
     let given = held::run(&s, HeldCall::Settle).bytes();
-    assert_eq!(given[..8], [4, 16, 0, 0, 0, 0, 0, 0]);
-    assert_eq!(given[8..8 + 3_545], held::encode_store(&s));
-    assert_eq!(given[8 + 3_545..][..40], [0; 40]);
+    assert_eq!(given[..12], [4, 16, 0, 0, 0, 0, 0, 0, 0, 0, 0, 0]);
+    assert_eq!(given[12..12 + 3_549], held::encode_store(&s));
+    assert_eq!(given[12 + 3_549..][..72], [0; 72]);
     // G more, though it is refused; 14 gives none.
-    assert_eq!(given[8 + 3_545 + 40..], [13, 0]);
+    assert_eq!(given[12 + 3_549 + 72..], [13, 0]);
     s.c = 0;
     let given = held::run(&s, HeldCall::Settle).bytes();
-    assert_eq!(given[..8], [4, 14, 0, 0, 0, 0, 0, 0]);
-    assert_eq!(given[8 + 3_545..], [0; 42]);
+    assert_eq!(given[..12], [4, 14, 0, 0, 0, 0, 0, 0, 0, 0, 0, 0]);
+    assert_eq!(given[12 + 3_549..], [0; 74]);
 }

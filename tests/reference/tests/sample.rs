@@ -1,4 +1,5 @@
-//! Document 01's sample tape, its other examples and the tape reader.
+//! Document 01's sample tape with W1's places, its other examples and the tape
+//! reader.
 
 use reference::machine;
 use reference::parts::*;
@@ -7,12 +8,12 @@ use reference::tape::{self, SAMPLE_TAPE};
 const SAMPLE_LINES: &str = "0 open
 1 wait
 2 step
-3 done 0 7
+3 done 0 7 1
 4 wait
 5 step
 6 step
 7 step
-8 done 1 7
+8 done 1 7 2
 9 wait
 10 wait
 11 refused 11
@@ -20,9 +21,9 @@ const SAMPLE_LINES: &str = "0 open
 13 step
 14 step
 15 step
-16 done 1 7
+16 done 1 7 3
 17 step
-18 done 0 0
+18 done 0 0 4
 end 19
 ";
 
@@ -61,7 +62,7 @@ fn openings() {
     }
     for (n, c, m) in [(2, 1, 1), (8, 8, 64)] {
         let s = machine::open(n, c, m).expect("in range");
-        assert_eq!((s.n, s.c, s.m, s.service), (n, c, m, None));
+        assert_eq!((s.n, s.c, s.m, s.completed, s.service), (n, c, m, 0, None));
         assert!(s.quiet() && !machine::corrupt(&s));
         for lane in s.lanes {
             assert_eq!(lane.order, [0, 1, 2, 3, 4, 5, 6, 7]);
@@ -84,7 +85,7 @@ fn words_of_one_block() {
 fn add_wraps() {
     prints(
         "00 02 01 01 / 02 00 00 ff ff ff ff / 05 00 / 07 00 / 04 00 00 01 00 00 00 / 01 00 00",
-        "0 open\n1 wait\n2 step\n3 done 0 4294967295\n4 done 0 4294967295\n5 done 0 0\nend 6\n",
+        "0 open\n1 wait\n2 step\n3 done 0 4294967295 1\n4 done 0 4294967295 2\n5 done 0 0 3\nend 6\n",
     );
 }
 
@@ -92,7 +93,7 @@ fn add_wraps() {
 fn exchange_gives_the_former_word() {
     prints(
         "00 02 01 01 / 03 01 02 05 01 00 00 / 05 01 / 07 01 / 03 01 02 09 00 00 00 / 01 01 02",
-        "0 open\n1 wait\n2 step\n3 done 1 0\n4 done 1 261\n5 done 1 9\nend 6\n",
+        "0 open\n1 wait\n2 step\n3 done 1 0 1\n4 done 1 261 2\n5 done 1 9 3\nend 6\n",
     );
 }
 
@@ -147,7 +148,7 @@ fn two_stores_to_one_word() {
     prints(
         "00 02 01 01 / 02 00 00 05 00 00 00 / 02 01 00 06 00 00 00 / \
          05 00 / 07 00 / 05 01 / 07 00 / 06 00 / 07 01 / 01 01 00",
-        "0 open\n1 wait\n2 wait\n3 step\n4 done 0 5\n5 step\n6 step\n7 step\n8 done 1 6\n9 done 1 6\nend 10\n",
+        "0 open\n1 wait\n2 wait\n3 step\n4 done 0 5 1\n5 step\n6 step\n7 step\n8 done 1 6 2\n9 done 1 6 3\nend 10\n",
     );
 }
 
@@ -159,8 +160,8 @@ fn exclude_overtaken_by_purge() {
         "00 02 01 01 / 01 00 00 / 05 00 / 07 00 / 01 01 00 / 05 01 / 07 01 / \
          04 00 00 05 00 00 00 / 04 01 00 06 00 00 00 / 05 01 / 07 00 / 06 00 / 07 01 / \
          05 00 / 07 01 / 06 01 / 07 00 / 01 00 00",
-        "0 open\n1 wait\n2 step\n3 done 0 0\n4 wait\n5 step\n6 done 1 0\n7 wait\n8 wait\n\
-         9 step\n10 step\n11 step\n12 done 1 0\n13 step\n14 step\n15 step\n16 done 0 6\n\
-         17 done 0 11\nend 18\n",
+        "0 open\n1 wait\n2 step\n3 done 0 0 1\n4 wait\n5 step\n6 done 1 0 2\n7 wait\n8 wait\n\
+         9 step\n10 step\n11 step\n12 done 1 0 3\n13 step\n14 step\n15 step\n16 done 0 6 4\n\
+         17 done 0 11 5\nend 18\n",
     );
 }

@@ -25,15 +25,16 @@ fn run(s: &mut Store, calls: &[Call]) {
     }
 }
 
-fn done(lane: u8, value: u32) -> Completion {
-    Completion { lane, value }
-}
-
-/// Settle takes these steps and gives these completions; the store after.
-fn settles(s: &Store, steps: u32, completions: &[Completion]) -> Store {
+/// Settle takes these steps and completes these lanes with these values, in
+/// the next places; the store after.
+fn settles(s: &Store, steps: u32, lanes: &[(u8, u32)]) -> Store {
     let (after, given) = settle(s).expect("not refused");
-    assert_eq!(given, Settled { steps, completions: completions.to_vec() });
+    let in_places = lanes.iter().zip(s.completed + 1..);
+    let completions =
+        in_places.map(|(&(lane, value), place)| Completion { lane, value, place }).collect();
+    assert_eq!(given, Settled { steps, completions });
     assert!(after.quiet());
+    assert_eq!(after.completed, s.completed + lanes.len() as u32);
     after
 }
 
@@ -58,7 +59,7 @@ fn two_lanes_store_to_one_word() {
     let mut s = open(2, 1, 1);
     begin(&mut s, 0, Op::Store(7), 0);
     begin(&mut s, 1, Op::Store(9), 0);
-    let after = settles(&s, 6, &[done(0, 7), done(1, 9)]);
+    let after = settles(&s, 6, &[(0, 7), (1, 9)]);
     assert!(!after.lanes[0].lines[0].valid);
     assert_eq!(after.lanes[1].lines[0].words, [9, 0, 0, 0]);
     assert_eq!(after.blocks[0].words, [7, 0, 0, 0]);
@@ -72,7 +73,7 @@ fn a_quiet_store_takes_no_step() {
     }
     let mut s = open(3, 2, 2);
     begin(&mut s, 2, Op::Add(5), 6);
-    let after = settles(&s, 2, &[done(2, 0)]);
+    let after = settles(&s, 2, &[(2, 0)]);
     assert_eq!(settles(&after, 0, &[]), after);
     // What lies past the n lanes is no part of it.
     let mut s = open(2, 1, 1);
@@ -107,16 +108,16 @@ fn completions_come_in_their_own_order() {
     run(&mut s, &[Call::Serve(2)]);
     begin(&mut s, 0, Op::Add(3), 1);
     begin(&mut s, 1, Op::Load, 4);
-    settles(&s, 1 + 4 + 2, &[done(2, 0), done(0, 8), done(1, 0)]);
+    settles(&s, 1 + 4 + 2, &[(2, 0), (0, 8), (1, 0)]);
     // A service for lane 1 is open when lanes 0 and 2 begin.
     let mut s = open(3, 1, 2);
     begin(&mut s, 0, Op::Store(5), 0);
-    s = settles(&s, 2, &[done(0, 5)]);
+    s = settles(&s, 2, &[(0, 5)]);
     begin(&mut s, 1, Op::Add(1), 0);
     run(&mut s, &[Call::Serve(1), Call::Deliver(0)]);
     begin(&mut s, 2, Op::Load, 0);
     begin(&mut s, 0, Op::Add(10), 0);
-    let after = settles(&s, 2 + 4 + 4, &[done(1, 5), done(0, 6), done(2, 16)]);
+    let after = settles(&s, 2 + 4 + 4, &[(1, 5), (0, 6), (2, 16)]);
     assert_eq!((after.blocks[0].words[0], after.blocks[0].modified), (16, false));
 }
 
@@ -130,7 +131,7 @@ fn the_bound_is_met() {
     }
     (0..8).for_each(|lane| begin(&mut s, lane, Op::Add(1), 4 * lane));
     assert_eq!(bound(&s), 128);
-    settles(&s, 128, &(0..8).map(|lane| done(lane, 0)).collect::<Vec<_>>());
+    settles(&s, 128, &(0..8).map(|lane| (lane, 0)).collect::<Vec<_>>());
 }
 
 #[test]
@@ -193,11 +194,11 @@ fn a_refusal_after_a_completion_gives_its_number_alone() {
     let mut s = open(3, 1, 2);
     s.lanes[0].waiting = waiting(true, Op::Store(4), 1);
     s.lanes[0].down = queue(1, DownKind::Grant, 0);
-    settles(&s, 1, &[done(0, 4)]);
+    settles(&s, 1, &[(0, 4)]);
     s.lanes[2].returns = queue(1, ReturnKind::Gone, 0);
     assert_eq!(settle(&s), Err(16));
     let case = held::encode_case(&s, HeldCall::Settle);
-    let mut want = vec![4, 16, 0, 0, 0, 0, 0, 0];
+    let mut want = vec![4, 16, 0, 0, 0, 0, 0, 0, 0, 0, 0, 0];
     want.extend(&case[..held::STORE_BYTES]);
     want.extend([0; held::COMPLETIONS_BYTES]);
     want.extend([2, 0]); // a grant and a return
@@ -223,8 +224,8 @@ fn check_against_calls(s: &Store) -> (u32, Result<usize, u8>) {
                 assert!(bound(&after) < bound(&now), "{step:?} does not lower the bound");
                 now = after;
                 steps += 1;
-                if let Answer::Done { lane, value } = answer {
-                    completions.push(Completion { lane, value });
+                if let Answer::Done(done) = answer {
+                    completions.push(done);
                 }
             }
         }
@@ -246,12 +247,13 @@ fn damaged(index: u64) -> Store {
     for _ in 0..rng.below(3) {
         (FAIR[rng.below(FAIR.len())].act)(&mut s, &mut rng);
     }
+    s.completed = scramble::completed(&s, &mut rng);
     s
 }
 
 #[test]
 fn random_stores_settle_within_the_bound() {
-    let (mut settled, mut several, mut refused, mut longest) = (0, 0, [0; 17], 0);
+    let (mut settled, mut several, mut refused, mut longest) = (0, 0, [0; 18], 0);
     for index in 0..60_000 {
         let (steps, given) = check_against_calls(&damaged(index));
         longest = longest.max(steps);

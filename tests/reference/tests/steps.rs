@@ -18,6 +18,11 @@ fn served(command: Command, op: Op, word: u8) -> Option<Waiting> {
     Some(Waiting { served: true, command, op, word })
 }
 
+/// Lane 1 completes.
+fn done(value: u32, place: u32) -> Answer {
+    Answer::Done(Completion { lane: 1, value, place })
+}
+
 /// The call must give this answer; the store after it.
 fn after(s: &Store, call: Call, answer: Answer) -> Store {
     assert!(!machine::corrupt(s));
@@ -49,10 +54,12 @@ fn hit_uses_the_line() {
     let mut s = Store::fresh(2, 3, 4);
     s.lanes[1].lines[1] = line(true, 2, W);
     s.lanes[1].order = [1, 2, 0, 9, 9, 9, 9, 9];
+    s.completed = 255;
     let mut want = s.clone();
+    want.completed = 256;
     want.lanes[1].lines[1].words = [11, 22, 34, 44];
     want.lanes[1].order = [2, 0, 1, 9, 9, 9, 9, 9];
-    assert_eq!(after(&s, begin(1, Op::Add(1), 10), Answer::Done { lane: 1, value: 33 }), want);
+    assert_eq!(after(&s, begin(1, Op::Add(1), 10), done(33, 256)), want);
     // A store on a hit with PRIVATE reset waits, and is no use.
     s.lanes[1].lines[1].private = false;
     let mut want = s.clone();
@@ -62,8 +69,9 @@ fn hit_uses_the_line() {
     assert_eq!(after(&s, begin(1, op, 10), Answer::Wait), want);
     // A load does not mind.
     let mut want = s.clone();
+    want.completed = 256;
     want.lanes[1].order = [2, 0, 1, 9, 9, 9, 9, 9];
-    assert_eq!(after(&s, begin(1, Op::Load, 8), Answer::Done { lane: 1, value: 11 }), want);
+    assert_eq!(after(&s, begin(1, Op::Load, 8), done(11, 256)), want);
 }
 
 #[test]
@@ -233,6 +241,7 @@ fn bare_service_closes_bare() {
 /// Lane 1 with one message to deliver.
 fn delivering(kind: DownKind, lines: &[Line]) -> Store {
     let mut s = Store::fresh(2, 3, 2);
+    s.completed = 65_535;
     s.lanes[1].lines[..lines.len()].copy_from_slice(lines);
     s.lanes[1].down.length = 1;
     s.lanes[1].down.places[0] = message(kind, 1, if kind == DownKind::Grant { X } else { [0; 4] });
@@ -273,11 +282,12 @@ fn grant_with_words_fills_the_lowest_free_line() {
     ] {
         let mut s = delivering(DownKind::Grant, &[line(true, 0, W)]);
         s.lanes[1].waiting = served(Command::ReadExclusive, op, 5);
-        let got = after(&s, Call::Deliver(1), Answer::Done { lane: 1, value });
+        let got = after(&s, Call::Deliver(1), done(value, 65_536));
         assert_eq!(got.lanes[1].lines[1], line(private, 1, words));
         assert_eq!((got.lanes[1].lines[0], got.lanes[1].lines[2].valid), (line(true, 0, W), false));
         assert_eq!(got.lanes[1].order[..3], [0, 2, 1]);
         assert_eq!((got.lanes[1].waiting, got.lanes[1].returns.length), (None, 0));
+        assert_eq!(got.completed, 65_536);
     }
 }
 
@@ -286,14 +296,14 @@ fn bare_grant_uses_the_held_line() {
     let lines = [line(true, 0, W), line(false, 1, W), line(false, 1, X)];
     let mut s = delivering(DownKind::BareGrant, &lines);
     s.lanes[1].waiting = served(Command::Exclude, Op::Add(1), 4);
-    let got = after(&s, Call::Deliver(1), Answer::Done { lane: 1, value: 11 });
+    let got = after(&s, Call::Deliver(1), done(11, 65_536));
     assert_eq!(got.lanes[1].lines[1], line(true, 1, [12, 22, 33, 44]));
     assert_eq!(got.lanes[1].lines[2], lines[2]);
     assert_eq!(got.lanes[1].order[..3], [0, 2, 1]);
     // A load resets PRIVATE, whatever its command was.
     s.lanes[1].lines[1].private = true;
     s.lanes[1].waiting = served(Command::ReadShared, Op::Load, 4);
-    let got = after(&s, Call::Deliver(1), Answer::Done { lane: 1, value: 11 });
+    let got = after(&s, Call::Deliver(1), done(11, 65_536));
     assert_eq!(got.lanes[1].lines[1], line(false, 1, W));
 }
 

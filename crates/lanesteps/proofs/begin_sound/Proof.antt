@@ -5,7 +5,7 @@ use mathlib.Core.Path.{_≡_, sym, _∙_}
 use mathlib.Core.Bool.{false}
 use borrow.Author.Tests.{le-leb, lt-leb}
 use native.Mathlib.Omega.{arith}
-use Rattle.store.specs.Places.{exhaustedOf}
+use Rattle.machine.specs.Begun.{exhaustedOf}
 use Rattle.places.proofs.Far.{far-left}
 use Rattle.commit.proofs.Bounds.{lane-bound, lines-bound, oldest-bound, begin-counted, lanes-bound}
 use Rattle.machine.specs.Change.{commitLane}

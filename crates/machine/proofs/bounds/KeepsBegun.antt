@@ -42,7 +42,7 @@ use Rattle.store.specs.declared.Block.{Block}
 use Rattle.store.specs.declared.Control.{Control}
 use Rattle.store.specs.Stores.{noLane, laneAt}
 use Rattle.store.specs.LaneSets.{goesTo}
-use Rattle.store.specs.Places.{waitingIn, begunIn}
+use Rattle.machine.specs.Begun.{waitingIn, begunIn}
 use Rattle.machine.specs.declared.LaneAnswer.{LaneAnswer}
 use Rattle.machine.specs.declared.LaneAnswer.the-variants.{Value, Waits, Stepped}
 use Rattle.machine.specs.declared.LaneStep.{LaneStep}

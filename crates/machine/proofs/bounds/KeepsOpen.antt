@@ -10,7 +10,7 @@ use Rattle.lanes.specs.UseOrder.{placeAt}
 use Rattle.lanes.specs.Waits.{idleOf}
 use Rattle.store.specs.Opening.{badShape, blankLine, blankLane, blankBlock, freshOf}
 use Rattle.store.specs.Stores.{noLane, noBlock, laneAt, blockAt}
-use Rattle.store.specs.Places.{waitingIn, begunIn}
+use Rattle.machine.specs.Begun.{waitingIn, begunIn}
 use Rattle.machine.proofs.laws.Sums.{count-zero}
 use Rattle.machine.proofs.bounds.Shape.{shape-bounds}
 use Rattle.machine.proofs.bounds.Sound.{Ordered, BlockSound}

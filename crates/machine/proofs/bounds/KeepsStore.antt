@@ -14,7 +14,7 @@ use Rattle.lanes.specs.declared.Lane.{Lane}
 use Rattle.store.specs.declared.Store.{Store}
 use Rattle.store.specs.declared.Outcome.{Outcome}
 use Rattle.store.specs.Stores.{noLane, noBlock, laneAt}
-use Rattle.store.specs.Places.{begunIn, lastPlace}
+use Rattle.machine.specs.Begun.{begunIn, lastPlace}
 use Rattle.store.specs.LaneSets.{goesTo}
 use Rattle.machine.specs.declared.LaneStep.{LaneStep}
 use Rattle.machine.specs.declared.Move.{Move}

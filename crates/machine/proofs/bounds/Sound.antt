@@ -26,7 +26,7 @@ use Rattle.store.specs.declared.Service.{Service}
 use Rattle.store.specs.declared.Control.{Control}
 use Rattle.store.specs.declared.Control.the-variants.{Free, Busy}
 use Rattle.store.specs.Stores.{laneAt, blockAt}
-use Rattle.store.specs.Places.{begunIn, lastPlace}
+use Rattle.machine.specs.Begun.{begunIn, lastPlace}
 use Rattle.machine.specs.Corruption.{badLine, badLane, badWaiting, badUse, badOrder, badFlag, badFlags, badControl, corruptOf}
 use Rattle.machine.proofs.laws.Tests.{and-right, and-never, or-never, none-of}
 use Rattle.machine.proofs.bounds.Shape.{shape-bounds, bounds-shape}

@@ -14,7 +14,7 @@ use Rattle.answers.specs.declared.Completion.{Completion}
 use Rattle.answers.specs.Refusals.{refusedOf}
 use Rattle.answers.specs.Completions.{doneIn}
 use Rattle.store.specs.declared.Store.{Store}
-use Rattle.store.specs.Places.{begunIn, lastPlace}
+use Rattle.machine.specs.Begun.{begunIn, lastPlace}
 use Rattle.machine.specs.Corruption.{corruptOf}
 use Rattle.machine.specs.Begin.{beginOf}
 use Rattle.machine.specs.Settle.{settleStep, boundOf, Progress, advance, Settlement, settleOf}

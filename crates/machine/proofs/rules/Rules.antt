@@ -27,7 +27,7 @@ use Rattle.answers.specs.Refusals.{refusedOf}
 use Rattle.store.specs.declared.Store.{Store}
 use Rattle.store.specs.declared.Outcome.{Outcome}
 use Rattle.store.specs.Stores.{laneAt, blockAt}
-use Rattle.store.specs.Places.{begunIn, lastPlace, exhaustedOf}
+use Rattle.machine.specs.Begun.{begunIn, lastPlace, exhaustedOf}
 use Rattle.store.specs.Control.{busyOf}
 use Rattle.machine.specs.declared.LaneAnswer.{LaneAnswer}
 use Rattle.machine.specs.declared.LaneAnswer.the-variants.{Value, Waits, Stepped}

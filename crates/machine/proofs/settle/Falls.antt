@@ -20,7 +20,7 @@ use Rattle.store.specs.declared.Store.{Store}
 use Rattle.store.specs.declared.Outcome.{Outcome}
 use Rattle.store.specs.Control.{busyOf}
 use Rattle.store.specs.Stores.{laneAt, blockAt}
-use Rattle.store.specs.Places.{waitingIn, begunIn}
+use Rattle.machine.specs.Begun.{waitingIn, begunIn}
 use Rattle.machine.specs.Corruption.{corruptOf}
 use Rattle.machine.specs.Change.{refuse}
 use Rattle.machine.specs.Serve.{serveOf}

@@ -14,7 +14,7 @@ use Rattle.answers.specs.declared.Refusal.the-variants.{Corrupt, Unexpected}
 use Rattle.answers.specs.Refusals.{refusedOf}
 use Rattle.answers.specs.Completions.{doneIn}
 use Rattle.store.specs.declared.Store.{Store}
-use Rattle.store.specs.Places.{waitingIn}
+use Rattle.machine.specs.Begun.{waitingIn}
 use Rattle.store.specs.Quiet.{quietOf}
 use Rattle.machine.specs.declared.Settled.the-variants.{Steps}
 use Rattle.machine.specs.Corruption.{corruptOf}

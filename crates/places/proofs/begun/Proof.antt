@@ -1,5 +1,5 @@
 -- `places::begun` meets its contract. Assumes nothing.
-use Rattle.store.specs.Places.{begunIn}
+use Rattle.machine.specs.Begun.{begunIn}
 use borrow.Author.Needs.{needs}
 use Rattle.places.proofs.begun.Statement.{statement}
 use Rattle.places.proofs.begun.Tie as tie
