@@ -58,8 +58,8 @@ counted Waits done = done
 counted Stepped done = done
 counted (LaneAnswer.Refused r) done = done
 
--- the answer of a call on lane k, by what its part came to, with that count: a completion's place is the count with itself in it. The one
--- place where a completion is made
+-- the answer of a call on lane k, by what its part came to and that count: a completion's place is the count with itself in it. No other
+-- definition makes a completion
 abbrev pub answerTo : LaneNo → ℕ → LaneAnswer → Answer
 answerTo k done (Value v) = Done (completionOf k v done)
 answerTo k done Waits = Wait

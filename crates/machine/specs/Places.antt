@@ -22,6 +22,7 @@ givenIn r = length (completionsOf r)
 abbrev pub beginsIn : Call → Reply → ℕ
 beginsIn c r = length (begunBy 0 c (isRefused r))
 
+-- what a call makes of places, and of completions so far plus operations waiting
 pub record PlacesKept (s : Store) (c : Call) : Type 0 where
   -- the completions that the call gives have the next places, in the order given, and are counted
   pub next : map (λ (x : Completion). x .place) (completionsOf (callOf s c .reply)) ≡ numbersFrom (suc (s .completions)) (givenIn (callOf s c .reply))

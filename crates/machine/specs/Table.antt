@@ -658,16 +658,16 @@ heldStores =
     []
 
 -- a store that has completed so many operations
-abbrev pub completed : ℕ → Store → Store
-completed d s = withCompletions s d
+abbrev pub counting : ℕ → Store → Store
+counting done s = withCompletions s done
 
 -- 02, W1: places at their end, 4,294,967,295. Below, the sum is completions so far plus operations waiting
 abbrev pub places : List Row
 places =
     -- a sum of 4,294,967,294: a hit has the last place, and then 17 is given, also for one that would hit
-    on (completed 4294967294 (filled 0 0 (opened 2 1 1))) (load 0 0 says done 0 0 4294967295 ∷ load 0 0 says refused 17 ∷ []) ∷
+    on (counting 4294967294 (filled 0 0 (opened 2 1 1))) (load 0 0 says done 0 0 4294967295 ∷ load 0 0 says refused 17 ∷ []) ∷
     -- .. so is an operation that waits, unserved or served, which has the last place; 6, 7 and 8 before 17
-    on (completed 4294967294 (opened 2 1 1))
+    on (counting 4294967294 (opened 2 1 1))
     (load 0 0 says wait ∷
     load 1 0 says refused 17 ∷
     load 0 0 says refused 8 ∷
@@ -679,19 +679,19 @@ places =
     load 1 0 says refused 17 ∷
     []) ∷
     -- a sum of 4,294,967,295: 17 before 12; other calls are not refused by it
-    on (completed 4294967295 (gone 0 0 (gone 0 0 (filled 0 0 (opened 2 1 2))))) (load 0 4 says refused 17 ∷ serve 0 says refused 9 ∷ []) ∷
-    on (completed 4294967295 (opened 2 1 1)) (Settle says settled 0 [] ∷ store 0 0 7 says refused 17 ∷ exchange 1 0 7 says refused 17 ∷ add 1 0 7 says refused 17 ∷ []) ∷
+    on (counting 4294967295 (gone 0 0 (gone 0 0 (filled 0 0 (opened 2 1 2))))) (load 0 4 says refused 17 ∷ serve 0 says refused 9 ∷ []) ∷
+    on (counting 4294967295 (opened 2 1 1)) (Settle says settled 0 [] ∷ store 0 0 7 says refused 17 ∷ exchange 1 0 7 says refused 17 ∷ add 1 0 7 says refused 17 ∷ []) ∷
     -- a larger sum is 14, also where the operation that waits is served
-    on (completed 4294967295 (waits (Unserved (operation 0)) (opened 2 1 1)))
+    on (counting 4294967295 (waits (Unserved (operation 0)) (opened 2 1 1)))
     (load 1 0 says refused 14 ∷ serve 0 says refused 14 ∷ return 0 says refused 14 ∷ deliver 0 says refused 14 ∷ Settle says refused 14 ∷ []) ∷
-    corrupt (completed 4294967295 (waits (Served (operation 0)) (opened 2 1 1))) ∷
-    sound (completed 4294967294 (waits (Served (operation 0)) (opened 2 1 1))) ∷
+    corrupt (counting 4294967295 (waits (Served (operation 0)) (opened 2 1 1))) ∷
+    sound (counting 4294967294 (waits (Served (operation 0)) (opened 2 1 1))) ∷
     record {
-      given = pictured (completed 4294967295 (waits (Unserved (operation 0)) (opened 2 1 1))) 20;
+      given = pictured (counting 4294967295 (waits (Unserved (operation 0)) (opened 2 1 1))) 20;
       wanted = Fills (record { answer = Filled.Refused Corrupt; buffer = replicate 20 255 });
     } ∷
     -- settle's completions have the next places in the order listed; a refused settle that had completed one leaves the count
-    on (completed 4294967293 (opened 2 1 1)) (store 0 0 7 says wait ∷ store 1 0 9 says wait ∷ Settle says settled 6 (of 0 7 4294967294 ∷ of 1 9 4294967295 ∷ []) ∷ []) ∷
+    on (counting 4294967293 (opened 2 1 1)) (store 0 0 7 says wait ∷ store 1 0 9 says wait ∷ Settle says settled 6 (of 0 7 4294967294 ∷ of 1 9 4294967295 ∷ []) ∷ []) ∷
     on (gone 1 0 (opened 2 1 2)) (load 0 0 says wait ∷ serve 0 says step ∷ Settle says refused 16 ∷ deliver 0 says done 0 0 1 ∷ []) ∷
     []
 

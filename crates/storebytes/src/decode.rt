@@ -295,7 +295,7 @@ fn control_from(bytes: &[u8], at: usize) -> Control
     })
 }
 
-// The store in the first 3,545 bytes.
+// The store in the first 3,549 bytes.
 pub fn store_from(bytes: &[u8]) -> Store
     requires { ⌜ 3549 ≤ length (now bytes) ⌝ }
 {
