@@ -659,7 +659,7 @@ heldStores =
 
 -- a store that has completed so many operations
 abbrev pub counting : ℕ → Store → Store
-counting done s = withCompletions s done
+counting number s = withCompletions s number
 
 -- 02, W1: places at their end, 4,294,967,295. Below, the sum is completions so far plus operations waiting
 abbrev pub places : List Row
