@@ -1,4 +1,4 @@
-"""A small model of document 01's machine, for the charts alone: which messages a tape's records send and take.
+"""A small model of document 01's machine (with the places of 02, W1), for the charts alone: which messages a tape's records send and take.
 
 What benchtape prints does not name messages, so the charts need it. It knows the refusals 8 to 11 only. Each answer it gives is held
 to the line that benchtape printed (tools/charts); nothing else rests on it.

@@ -1,10 +1,10 @@
-// What a call answers: 01's refusals by name, completions, and the answer itself.
+// What a call answers: the documents' refusals by name, completions, and the answer itself.
 ghost use mathlib.Core.Path.{_≡_};
 ghost use Rattle.answers.specs.Refusals.{numberOf, refusedOf};
 ghost use Rattle.answers.specs.Completions.{completionOf};
 use words::LaneNo;
 
-// Why a call is refused. Behind each: 01's number and word.
+// Why a call is refused. Behind each: its number, and 01's word.
 pub enum Refusal {
     Truncated, // 1, cut: a tape ends inside a record
     UnknownKind, // 2, stranger: no record has this kind
@@ -26,7 +26,7 @@ pub enum Refusal {
 }
 
 impl Refusal {
-    // 01's number of the refusal.
+    // The number that 01 or 02 gives the refusal.
     pub fn number(self) -> u8
         ensures { λ r. ⌜ r ≡ numberOf self ⌝ }
     {

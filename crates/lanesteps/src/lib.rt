@@ -17,9 +17,6 @@ use words::LaneNo;
 use words::Op;
 use words::WordNo;
 
-// With fewer completions than this 17 is not given, whatever waits: at most 8 operations do.
-const NEAR_END: u32 = 4294967287;
-
 // Completions so far once a lane's part is counted: a completion is one more.
 fn count(a: LaneAnswer, done: u32) -> u32
     requires { ⌜ counted a done ≤ lastPlace ⌝ }
@@ -63,7 +60,7 @@ pub fn begin_sound(s: Store, k: LaneNo, op: Op, w: WordNo) -> Outcome
     let l = t.lanes[i];
     let waiting = l.waiting;
     if waiting.idle() {
-        if NEAR_END <= t.completions && places::exhausted(t) {
+        if places::exhausted(t) {
             return commit::refused(Refusal::PlacesExhausted, t);
         }
         let r = begin::begin_lane(l, t.shape.c, op, w);

@@ -1,8 +1,8 @@
 -- The theorems, by name and type. This file only states; the proofs are where it points. One more is passed on by its name, `cases`:
--- what the definitions give is what 01 wants, row by row (specs/Table.antt); it is proved by computation from the definitions alone.
+-- what the definitions give is what 01 and 02 want, row by row (specs/Table.antt); it is proved by computation from the definitions alone.
 --
 -- The supply contract's sentence: a lane reads the last word stored, in every order in which the lanes' messages reach the
--- controller. Assumes nothing.
+-- controller, and the places of the completions run 1, 2, 3 without a gap. Assumes nothing.
 use Prim.Native.Nat.{ℕ, suc, _<_}
 use mathlib.Core.Path.{_≡_}
 use mathlib.Core.Bool.{true, false}
@@ -24,7 +24,7 @@ use Rattle.words.specs.declared.Shape.{Shape}
 use Rattle.machine.specs.Potential.{ExactSteps}
 use Rattle.machine.proofs.settle.Falls.{steps-exact}
 use Rattle.machine.proofs.settle.FallsSettle.{startAt, settle-count, repeat-ends, repeat-same}
-use Rattle.machine.proofs.places.CountsSettle.{places-kept}
+use Rattle.machine.proofs.places.PlacesCalls.{places-kept}
 use Rattle.machine.proofs.store.OrderOfMemory.{order-of-memory}
 use Rattle.machine.proofs.settle.LiveSettle.{always-settles, all-complete}
 
@@ -50,8 +50,9 @@ use Rattle.machine.proofs.settle.LiveSettle.{always-settles, all-comple
 pub demand-3 : Demand3
 demand-3 = order-of-memory
 
--- 02, W1, call by call, on every store that 14 passes, be it one that no opening gives: completions have the next places, and completions so far
--- plus operations waiting stay in 32 bits, so that no place wraps (`PlacesKept`, specs/Places.antt).
+-- 02, W1, call by call, on every store that 14 passes, be it one that no opening gives; its arrays have their declared lengths, as every store of the
+-- program has. Completions have the next places, and completions so far plus operations waiting stay in 32 bits, so that no place wraps
+-- (`PlacesKept`, specs/Places.antt).
 pub places-never-wrap : (s : Store) → corruptOf s ≡ false → Sized s → (c : Call) → PlacesKept s c
 places-never-wrap = places-kept
 

@@ -1,4 +1,4 @@
--- A store that is not corrupt stays so, and its arrays keep their lengths.
+-- A store that is not corrupt stays so, and its arrays keep their lengths; completions and operations begun are counted.
 pub mod Shape
 pub mod Sound
 pub mod Posts
@@ -15,3 +15,4 @@ pub mod KeepsRepeat
 pub mod KeepsShape
 pub mod ShapeKeeps
 pub mod SizedKeeps
+pub mod Counts

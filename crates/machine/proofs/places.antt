@@ -1,4 +1,3 @@
--- 02, W1: the places of completions, of one call and of a list of calls.
-pub mod Counts
-pub mod CountsSettle
-pub mod CountsRun
+-- 02, W1: the places of completions, of every call and of a list of calls.
+pub mod PlacesCalls
+pub mod PlacesRun

@@ -58,8 +58,8 @@ counted Waits done = done
 counted Stepped done = done
 counted (LaneAnswer.Refused r) done = done
 
--- the answer of a call on lane k, by what its part came to and that count: a completion's place is the count with itself in it. No other
--- definition makes a completion
+-- the answer of a call on lane k, by what its part came to and that count: a completion's place is the count with itself in it. No other part
+-- of a call makes a completion
 abbrev pub answerTo : LaneNo → ℕ → LaneAnswer → Answer
 answerTo k done (Value v) = Done (completionOf k v done)
 answerTo k done Waits = Wait
@@ -72,7 +72,9 @@ laneStore s k r = withCompletions (withLane s (k .0) (r .lane)) (counted (r .ans
 
 -- the lane's part of a call put back
 unfoldable pub commitLane : Store → LaneNo → LaneStep → Outcome
-commitLane s k r = record { answer = answerTo k (counted (r .answer) (s .completions)) (r .answer); store = cond (refusedIn (r .answer)) s (laneStore s k r) }
+commitLane s k r =
+    let t = laneStore s k r in
+    record { answer = answerTo k (t .completions) (r .answer); store = cond (refusedIn (r .answer)) s t }
 
 -- what stands where nothing is sent
 abbrev pub noMessage : DownMessage

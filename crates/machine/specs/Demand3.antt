@@ -1,7 +1,7 @@
 -- Demand 3, stated: the order of completion is the order of memory. One claim about every list of load, store, exchange, add,
 -- serve, return, deliver and settle calls, refused ones included, from any opening that isn't refused.
 -- The supply contract's sentence: a lane reads the last word stored, in every order in which the lanes' messages reach the
--- controller. This file only states it; proofs/Theorems.antt has the theorem. Assumes nothing.
+-- controller, and the places of the completions run 1, 2, 3 without a gap. This file only states it; proofs/Theorems.antt has the theorem. Assumes nothing.
 use Prim.Native.Nat.{ℕ, _<_}
 use mathlib.Core.Path.{_≡_}
 use mathlib.Core.Bool.{true}

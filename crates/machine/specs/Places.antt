@@ -1,5 +1,5 @@
--- 02, W1: a place on each completion. What a call makes of places, on every store that 14 passes; so no place ever wraps. This file only states
--- it; proofs/Theorems.antt has the theorem, and demand 3 says it of a whole list. Assumes nothing.
+-- 02, W1: a place on each completion. What a call makes of places, on every store that 14 passes and whose arrays have their declared lengths; so no
+-- place ever wraps. This file only states it; proofs/Theorems.antt has the theorem, and demand 3 says it of a whole list. Assumes nothing.
 use Prim.Native.Nat.{ℕ, zero, suc, _+_, _≤_}
 use mathlib.Core.Path.{_≡_}
 use mathlib.Core.List.{List, [], _∷_, map}

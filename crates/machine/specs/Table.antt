@@ -661,12 +661,16 @@ heldStores =
 abbrev pub counting : ℕ → Store → Store
 counting number s = withCompletions s number
 
+-- a store whose lane 2 has an operation
+abbrev pub past : Store → Store
+past s = withLane s 2 (withWaiting (Unserved (operation 0)) (laneAt s 2))
+
 -- 02, W1: places at their end, 4,294,967,295. Below, the sum is completions so far plus operations waiting
 abbrev pub places : List Row
 places =
     -- a sum of 4,294,967,294: a hit has the last place, and then 17 is given, also for one that would hit
     on (counting 4294967294 (filled 0 0 (opened 2 1 1))) (load 0 0 says done 0 0 4294967295 ∷ load 0 0 says refused 17 ∷ []) ∷
-    -- .. so is an operation that waits, unserved or served, which has the last place; 6, 7 and 8 before 17
+    -- .. and so while an operation waits, unserved or served, that will have the last place; 6, 7 and 8 before 17
     on (counting 4294967294 (opened 2 1 1))
     (load 0 0 says wait ∷
     load 1 0 says refused 17 ∷
@@ -690,6 +694,9 @@ places =
       given = pictured (counting 4294967295 (waits (Unserved (operation 0)) (opened 2 1 1))) 20;
       wanted = Fills (record { answer = Filled.Refused Corrupt; buffer = replicate 20 255 });
     } ∷
+    -- lanes n and above do not count: lane 2 of two has an operation
+    sound (counting 4294967295 (past (opened 2 1 1))) ∷
+    on (counting 4294967294 (past (opened 2 1 1))) (load 0 0 says wait ∷ load 1 0 says refused 17 ∷ []) ∷
     -- settle's completions have the next places in the order listed; a refused settle that had completed one leaves the count
     on (counting 4294967293 (opened 2 1 1)) (store 0 0 7 says wait ∷ store 1 0 9 says wait ∷ Settle says settled 6 (of 0 7 4294967294 ∷ of 1 9 4294967295 ∷ []) ∷ []) ∷
     on (gone 1 0 (opened 2 1 2)) (load 0 0 says wait ∷ serve 0 says step ∷ Settle says refused 16 ∷ deliver 0 says done 0 0 1 ∷ []) ∷

@@ -1,4 +1,4 @@
-// Document 01's machine is in specs/, as definitions that the calls' contracts cite. Here are the declared types that they speak
+// Document 01's machine, with document 02's requests that have landed, is in specs/, as definitions that the calls' contracts cite. Here are the declared types that they speak
 // of beside the store's own.
 use answers::Answer;
 use answers::Refusal;

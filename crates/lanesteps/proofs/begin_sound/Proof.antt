@@ -1,12 +1,8 @@
 -- `lanesteps::begin_sound` meets its contract: 6, 7, 8, 17, then the lane's part, refused or put back. Assumes nothing.
 use Prim.Native.Nat.{_*_}
-use mathlib.Core.Logic.{⊎-elim}
-use mathlib.Core.Path.{_≡_, sym, _∙_}
-use mathlib.Core.Bool.{false}
+use mathlib.Core.Path.{sym, _∙_}
 use borrow.Author.Tests.{le-leb, lt-leb}
 use native.Mathlib.Omega.{arith}
-use Rattle.machine.specs.Begun.{exhaustedOf}
-use Rattle.places.proofs.Far.{far-left}
 use Rattle.commit.proofs.Bounds.{lane-bound, lines-bound, oldest-bound, begin-counted, lanes-bound}
 use Rattle.machine.specs.Change.{commitLane}
 use Rattle.machine.specs.Begin.{beginOf}
@@ -49,7 +45,7 @@ idle-requires c κs = search needs
 
 exhausted-requires : tie.Need-exhausted-requires
 exhausted-requires c κs =
-    let at-if1 = c .before .before .before .before .before .before .before in
+    let at-if1 = c .before .before .before .before .before .before in
     let start = at-if1 .before .before in
     lanes-bound _ _ (start .pre) (at-if1 .if1 .left)
 
@@ -60,7 +56,7 @@ returns-3 : tie.Need-returns-3
 unfolding beginOf
 returns-3 c =
     let at-exhausted = c .before .before in
-    let at-idle = at-exhausted .before .before .before in
+    let at-idle = at-exhausted .before .before in
     let at-if1 = at-idle .before .before .before .before .before in
     let start = at-if1 .before .before in
     rw (
@@ -69,27 +65,27 @@ returns-3 c =
       lt-leb _ _ (at-if1 .if1 .left),
       lt-leb (4 * start .args .s .shape .m) (start .args .w .0) (omega arith),
       ← at-idle .idle .ensures,
-      at-exhausted .before .before .if3 .taken,
+      at-exhausted .before .if3 .taken,
       ← at-exhausted .exhausted .ensures,
-      c .before .if5 .taken,
+      c .before .if4 .taken,
       c .refused3 .ensures,
     )
 
 begin-lane-requires : tie.Need-begin-lane-requires
 begin-lane-requires c κs =
-    let at-if1 = c .before .before .before .before .before .before .before in
+    let at-if1 = c .before .before .before .before .before .before .before .before in
     let start = at-if1 .before .before in
     (lines-bound _ _ (start .pre) (at-if1 .if1 .left), oldest-bound _ _ (start .pre) (at-if1 .if1 .left))
 
 count-requires : tie.Need-count-requires
 count-requires c κs =
-    let at-left = c .before in
-    let at-idle = at-left .before .before in
+    let at-exhausted = c .before .before in
+    let at-idle = at-exhausted .before .before in
     let at-if1 = at-idle .before .before .before .before .before in
     let start = at-if1 .before .before in
-    let left : exhaustedOf (start .args .s) ≡ false =
-    ⊎-elim (λ w. sym (w .1 .ensures) ∙ w .2 .left) (λ w. far-left _ (lanes-bound _ _ (start .pre) (at-if1 .if1 .left)) (w .left)) (at-left .if4 .came) in
-    rw (c .begin-lane .ensures) (begin-counted _ _ (start .pre) (at-if1 .if1 .left) _ _ (idle-waiting _ (sym (at-idle .idle .ensures) ∙ at-left .before .if3 .taken)) left)
+    rw (c .begin-lane .ensures)
+    (begin-counted _ _ (start .pre) (at-if1 .if1 .left) _ _ (idle-waiting _ (sym (at-idle .idle .ensures) ∙ at-exhausted .before .if3 .taken))
+    (sym (at-exhausted .exhausted .ensures) ∙ c .before .if4 .left))
 
 answer-to-requires : tie.Need-answer-to-requires
 answer-to-requires c κs = search needs
@@ -101,27 +97,26 @@ returns-4 : tie.Need-returns-4
 unfolding beginOf commitLane
 returns-4 c =
     let at-count = c .before .before .before in
-    let at-left = at-count .before .before in
-    let at-idle = at-left .before .before in
+    let at-exhausted = at-count .before .before .before in
+    let at-idle = at-exhausted .before .before in
     let at-if1 = at-idle .before .before .before .before .before in
     let start = at-if1 .before .before in
-    let left : exhaustedOf (start .args .s) ≡ false =
-    ⊎-elim (λ w. sym (w .1 .ensures) ∙ w .2 .left) (λ w. far-left _ (lanes-bound _ _ (start .pre) (at-if1 .if1 .left)) (w .left)) (at-left .if4 .came) in
     rw (
       beginOf,
       start .pre,
       lt-leb _ _ (at-if1 .if1 .left),
       lt-leb (4 * start .args .s .shape .m) (start .args .w .0) (omega arith),
       ← at-idle .idle .ensures,
-      at-left .before .if3 .taken,
-      left,
+      at-exhausted .before .if3 .taken,
+      ← at-exhausted .exhausted .ensures,
+      at-count .before .before .if4 .left,
       ← at-count .before .begin-lane .ensures,
       commitLane,
       ← at-count .count .ensures,
       ← answer-goes (start .args .k) (at-count .count .result),
       ← c .before .before .answer-to .ensures,
       ← c .before .refused4 .ensures,
-      c .if6 .taken,
+      c .if5 .taken,
     )
 
 mul-u : tie.Need-mul-u
@@ -129,8 +124,8 @@ mul-u c = search needs
 
 element-set-from-u : tie.Need-element-set-from-u
 element-set-from-u c =
-    let at-left = c .before .before .before .before .before .before in
-    let at-if1 = at-left .before .before .before .before .before .before .before in
+    let at-exhausted = c .before .before .before .before .before .before .before in
+    let at-if1 = at-exhausted .before .before .before .before .before .before .before in
     let start = at-if1 .before .before in
     lane-bound _ _ (start .pre) (at-if1 .if1 .left)
 
@@ -138,27 +133,26 @@ returns-5 : tie.Need-returns-5
 unfolding beginOf commitLane
 returns-5 c =
     let at-count = c .before .before .before .before in
-    let at-left = at-count .before .before in
-    let at-idle = at-left .before .before in
+    let at-exhausted = at-count .before .before .before in
+    let at-idle = at-exhausted .before .before in
     let at-if1 = at-idle .before .before .before .before .before in
     let start = at-if1 .before .before in
-    let left : exhaustedOf (start .args .s) ≡ false =
-    ⊎-elim (λ w. sym (w .1 .ensures) ∙ w .2 .left) (λ w. far-left _ (lanes-bound _ _ (start .pre) (at-if1 .if1 .left)) (w .left)) (at-left .if4 .came) in
     rw (
       beginOf,
       start .pre,
       lt-leb _ _ (at-if1 .if1 .left),
       lt-leb (4 * start .args .s .shape .m) (start .args .w .0) (omega arith),
       ← at-idle .idle .ensures,
-      at-left .before .if3 .taken,
-      left,
+      at-exhausted .before .if3 .taken,
+      ← at-exhausted .exhausted .ensures,
+      at-count .before .before .if4 .left,
       ← at-count .before .begin-lane .ensures,
       commitLane,
       ← at-count .count .ensures,
       ← answer-goes (start .args .k) (at-count .count .result),
       ← c .before .before .before .answer-to .ensures,
       ← c .before .before .refused4 .ensures,
-      c .before .if6 .left,
+      c .before .if5 .left,
     )
 
 refused-requires-5 : tie.Need-refused-requires-5

@@ -34,7 +34,7 @@ use Rattle.machine.specs.Begin.{complete, waits, hit, readOf, ejectOf, e
 use Rattle.machine.proofs.laws.Tests.{on}
 use Rattle.machine.proofs.laws.Sets.{same?}
 use Rattle.machine.proofs.bounds.KeepsLane.{LaneFit, clash, join-keeps, with-line, with-returns, with-unserved, complete-keeps}
-use Rattle.machine.proofs.bounds.KeepsBegun.{begin-lane-begins, lane-begun, lane-there}
+use Rattle.machine.proofs.bounds.KeepsBegun.{begin-lane-begins}
 use Rattle.machine.proofs.bounds.KeepsStore.{Fit, lane-fit, commit-lane-keeps}
 use Rattle.machine.proofs.bounds.KeepsDeliver.{found-below}
 use Rattle.machine.proofs.rules.Rules.{begin-rule}
@@ -96,11 +96,9 @@ module _ (h c m : ℕ) (c₀ : 1 ≤ c) (c₁ : c ≤ h) (z : 1 ≤ m) (op : Op)
 pub begin-fit : (h : ℕ) (s : Store) (k : LaneNo) (op : Op) (w : WordNo) → s .shape .c ≤ h → Fit h s → Fit h (beginOf s k op w .store)
 begin-fit h s k op w b g =
     begin-rule (λ (r : Outcome). Fit h (r .store)) s k op w (λ _. g)
-    (λ r. commit-lane-keeps h s k _ g
-    (begin-lane-keeps h (s .shape .c) (s .shape .m) (g .sound .c-low) b (g .sound .m-low) op w (r .inside) (laneAt s (k .0)) (lane-fit h s g (k .0) (r .lane)))
-    (λ e.
-    let i = g .long (k .0) (r .lane) in
+    (λ r.
     let c = g .sound .c-low in
-    let d = lane-begun 1 s k (beginLane (s .shape .c) op w (laneAt s (k .0))) (r .lane) (lane-there (s .lanes) (k .0) (omega arith)) (begin-lane-begins (s .shape .c) op w (laneAt s (k .0)) (r .idle)) e in
     let z = g .sound .begun in
-    omega (arith, r .left)))
+    commit-lane-keeps h 1 s k _ (omega arith) (r .lane) g
+    (begin-lane-keeps h (s .shape .c) (s .shape .m) (g .sound .c-low) b (g .sound .m-low) op w (r .inside) (laneAt s (k .0)) (lane-fit h s g (k .0) (r .lane)))
+    (begin-lane-begins (s .shape .c) op w (laneAt s (k .0)) (r .idle)) (omega (arith, r .left)))

@@ -73,7 +73,7 @@ completes Waits = 0
 completes Stepped = 0
 completes (LaneAnswer.Refused x) = 0
 
-pub counted-more : (a : LaneAnswer) (done : ℕ) → counted a done ≡ done + completes a
+counted-more : (a : LaneAnswer) (done : ℕ) → counted a done ≡ done + completes a
 counted-more (Value v) done = refl
 counted-more Waits done = sym (add-zero done)
 counted-more Stepped done = sym (add-zero done)
@@ -194,7 +194,7 @@ unfolding close
 return-move-waits k x l b y =
     return-move-rule (λ (v : Move). waits (v .lane) ≡ waits l) k x l b y (λ _. refl) refl (λ _ _ _ _. refl) (λ _ _ _ _. refl)
 
--- completions so far plus what waits in each lane
+-- what waits in the first n lanes
 abbrev lanesWait : List Lane → ℕ → ℕ
 lanesWait ls n = sumTo (λ k. waits (getD ls k noLane)) n
 
@@ -213,7 +213,7 @@ lane-begun b s k r h l t e =
     let d = begun-sum (laneStore s k r) in
     omega arith
 
--- .. and the count of completions with it: none of these is past the operations begun
+-- .. and the count of completions after it: at most the operations begun, and b
 pub lane-counted : (b : ℕ) (s : Store) (k : LaneNo) (r : LaneStep) → k .0 < s .shape .n → LaneBegins b (laneAt s (k .0)) r →
     counted (r .answer) (s .completions) ≤ begunIn s + b
 lane-counted b s k r h t =

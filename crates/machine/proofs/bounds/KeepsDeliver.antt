@@ -33,7 +33,7 @@ use Rattle.machine.specs.declared.Ready.the-variants.{Go, No}
 use Rattle.machine.specs.Change.{refuseLane, refusedIn}
 use Rattle.machine.specs.Deliver.{shared, updateAt, purgedOf, purgeAt, claimed, fillAt, grantAt, bareAt, servedOn, grantTo, bareTo, deliverKind, deliverLane, deliverOf}
 use Rattle.machine.proofs.bounds.KeepsLane.{LaneFit, clash, with-line, complete-keeps, reply-keeps, taken-keeps, head-inside}
-use Rattle.machine.proofs.bounds.KeepsBegun.{deliver-lane-begins, lane-begun, lane-there}
+use Rattle.machine.proofs.bounds.KeepsBegun.{deliver-lane-begins}
 use Rattle.machine.proofs.bounds.KeepsStore.{Fit, lane-fit, commit-lane-keeps}
 use Rattle.machine.proofs.rules.Rules.{deliver-rule}
 
@@ -99,11 +99,9 @@ deliver-lane-keeps h c m l c₀ c₁ z g =
 pub deliver-fit : (h : ℕ) (s : Store) (k : LaneNo) → s .shape .c ≤ h → Fit h s → Fit h (deliverOf s k .store)
 deliver-fit h s k b g =
     deliver-rule (λ (r : Outcome). Fit h (r .store)) s k (λ _. g)
-    (λ _ l. commit-lane-keeps h s k _ g
-    (deliver-lane-keeps h (s .shape .c) (s .shape .m) (laneAt s (k .0)) (g .sound .c-low) b (g .sound .m-low) (lane-fit h s g (k .0) l))
-    (λ e.
-    let i = g .long (k .0) l in
+    (λ _ l.
     let c = g .sound .c-low in
-    let d = lane-begun 0 s k (deliverLane (s .shape .c) (laneAt s (k .0))) l (lane-there (s .lanes) (k .0) (omega arith)) (deliver-lane-begins (s .shape .c) (laneAt s (k .0))) e in
     let z = g .sound .begun in
-    omega arith))
+    commit-lane-keeps h 0 s k _ (omega arith) l g
+    (deliver-lane-keeps h (s .shape .c) (s .shape .m) (laneAt s (k .0)) (g .sound .c-low) b (g .sound .m-low) (lane-fit h s g (k .0) l))
+    (deliver-lane-begins (s .shape .c) (laneAt s (k .0))) (omega arith))

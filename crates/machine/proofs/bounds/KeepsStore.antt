@@ -1,5 +1,5 @@
 -- A lane, or a lane with a block, the control and a message to some lanes, put back into a store keeps it within bounds. Assumes nothing.
-use Prim.Native.Nat.{ℕ, zero, suc, _<_, _≤_}
+use Prim.Native.Nat.{ℕ, zero, suc, _+_, _<_, _≤_}
 use mathlib.Core.Path.{_≡_}
 use mathlib.Core.Bool.{Bool, false}
 use mathlib.Core.List.{List}
@@ -22,7 +22,7 @@ use Rattle.machine.specs.Change.{refusedIn, laneStore, commitLane, poste
 use Rattle.machine.proofs.laws.Sets.{set-cases}
 use Rattle.machine.proofs.bounds.Sound.{LaneSound, BlockSound, ControlSound, Sound, sound}
 use Rattle.machine.proofs.bounds.KeepsLane.{LaneFit, posted-keeps}
-use Rattle.machine.proofs.bounds.KeepsBegun.{waits, move-begun}
+use Rattle.machine.proofs.bounds.KeepsBegun.{waits, LaneBegins, lane-begun, lane-there, move-begun}
 use Rattle.machine.proofs.rules.Rules.{lane-rule, move-rule}
 
 -- a store within bounds whose lanes' use orders have at least h places
@@ -33,14 +33,16 @@ pub record Fit (h : ℕ) (s : Store) : Type 0 where
 pub lane-fit : (h : ℕ) (s : Store) → Fit h s → (k : ℕ) → k < s .shape .n → LaneFit h (s .shape .c) (s .shape .m) (laneAt s k)
 lane-fit h s g k l = record { sound = g .sound .lane k l; long = g .long k l }
 
--- lane k after its part of a call
-pub commit-lane-keeps : (h : ℕ) (s : Store) (k : LaneNo) (r : LaneStep) → Fit h s → LaneFit h (s .shape .c) (s .shape .m) (r .lane) →
-    (refusedIn (r .answer) ≡ false → begunIn (laneStore s k r) ≤ lastPlace) → Fit h (commitLane s k r .store)
-commit-lane-keeps h s k r g f d = lane-rule (λ (x : Outcome). Fit h (x .store)) s k r (λ _ _. g) put
+-- lane k after its part of a call, which begins b operations
+pub commit-lane-keeps : (h b : ℕ) (s : Store) (k : LaneNo) (r : LaneStep) → 1 ≤ h → k .0 < s .shape .n → Fit h s → LaneFit h (s .shape .c) (s .shape .m) (r .lane) →
+    LaneBegins b (laneAt s (k .0)) r → begunIn s + b ≤ lastPlace → Fit h (commitLane s k r .store)
+commit-lane-keeps h b s k r one l g f t most = lane-rule (λ (x : Outcome). Fit h (x .store)) s k r (λ _ _. g) put
   where
     put : refusedIn (r .answer) ≡ false → Fit h (laneStore s k r)
     put e =
         let a = g .sound in
+        let i = g .long (k .0) l in
+        let d = lane-begun b s k r l (lane-there (s .lanes) (k .0) (omega arith)) t e in
         record {
           sound = record {
             n-low = a .n-low;
@@ -52,7 +54,7 @@ commit-lane-keeps h s k r g f d = lane-rule (λ (x : Outcome). Fit h (x .store))
             control = a .control;
             lane = λ j l. set-cases (LaneSound (s .shape .c) (s .shape .m)) (s .lanes) (k .0) j (r .lane) noLane (λ _. f .sound) (a .lane j l);
             block = a .block;
-            begun = d e;
+            begun = omega arith;
           };
           long = λ j l. set-cases (λ (x : Lane). h ≤ length (x .order)) (s .lanes) (k .0) j (r .lane) noLane (λ _. f .long) (g .long j l);
         }

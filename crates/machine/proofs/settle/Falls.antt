@@ -37,7 +37,7 @@ use Rattle.machine.specs.Potential.{tallyOf, potentialOf, ordersFor, sen
 use Rattle.machine.proofs.settle.FallsLane.{weight, weight-most, deliver-lane-takes}
 use Rattle.machine.proofs.settle.FallsStore.{tally-sum, Advancing, commit-lane-advances, commit-move-advances}
 use Rattle.machine.proofs.settle.FallsMove.{serve-move-weighs, return-move-weighs}
-use Rattle.machine.proofs.places.Counts.{step-counts, step-begun}
+use Rattle.machine.proofs.bounds.Counts.{step-counts, step-begun}
 use Rattle.machine.proofs.rules.Rules.{serve-rule, return-rule, deliver-rule}
 use Rattle.machine.proofs.rules.RulesSettle.{step-rule}
 

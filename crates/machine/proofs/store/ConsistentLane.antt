@@ -43,11 +43,12 @@ module _ (s : Store) (f : List ℕ) (i : Consistent s f) (k : ℕ) (h : k < s .s
   pub lane-unique : (l : Lane) → Unique (s .shape .c) l → (j : ℕ) → Unique (s .shape .c) (laneAt (withLane s k l) j)
   lane-unique l u j = set-cases (Unique (s .shape .c)) (s .lanes) k j l noLane (λ _. u) (i .unique j)
 
-  -- what its lane waits for, whatever the count of completions
+  -- what its lane waits for
   pub pending-here : pendingIn s k ≡ pendingOf (laneAt s k .waiting)
   unfolding pendingIn
   pending-here = rw (lt-ltb k (s .shape .n) h)
 
+  -- .. once it is put back, whatever the count of completions
   pub lane-pending : (l : Lane) (done : ℕ) → pendingIn (withCompletions (withLane s k l) done) ≡ upd (pendingIn s) k (pendingOf (l .waiting))
   unfolding pendingIn
   lane-pending l done = fun-ext (λ j. go j (same? j k))

@@ -16,7 +16,7 @@ use Rattle.machine.proofs.bounds.SizedKeeps.{begin-sized, sized-whole}
 use Rattle.machine.proofs.list.Owes.{Paid}
 use Rattle.machine.proofs.list.Outer.{Told, outer}
 use Rattle.machine.proofs.list.OuterRun.{Keeps, run-pays}
-use Rattle.machine.proofs.places.CountsRun.{places-run}
+use Rattle.machine.proofs.places.PlacesRun.{places-run}
 use Rattle.machine.proofs.store.Consistent.{Consistent, pendingIn}
 use Rattle.machine.proofs.store.ConsistentOpen.{open-consistent, open-shape, open-rests}
 use Rattle.machine.proofs.store.ConsistentBegin.{begin-consistent}

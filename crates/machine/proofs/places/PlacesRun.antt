@@ -14,8 +14,8 @@ use Rattle.machine.specs.Calls.{Call, callOf, run, Entry, completionsOf,
 use Rattle.machine.specs.Attribution.{Attributed, LastWaits, noWaits, waitsAfter, attribute}
 use Rattle.machine.specs.Places.{numbersFrom}
 use Rattle.machine.specs.Demand3.{completed}
-use Rattle.machine.proofs.places.Counts.{Given, given-none}
-use Rattle.machine.proofs.places.CountsSettle.{given-more, call-given}
+use Rattle.machine.proofs.bounds.Counts.{Given, given-none}
+use Rattle.machine.proofs.places.PlacesCalls.{given-more, call-given}
 
 -- the completions of a history
 abbrev givenBy : List Entry → List Completion

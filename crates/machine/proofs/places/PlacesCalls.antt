@@ -3,7 +3,7 @@
 use Prim.Native.Nat.{ℕ, zero, suc, _+_, _≤_}
 use mathlib.Core.Path.{_≡_, refl, sym, ap, _∙_}
 use mathlib.Core.Bool.{Bool, true, false, cond}
-use mathlib.Core.List.{List, [], _++_, map-append}
+use mathlib.Core.List.{List, _++_, map-append}
 use lib.ListN.{length, length-append}
 use native.Mathlib.Omega.{arith}
 use native.Mathlib.Nat.{add-zero, zero-add}
@@ -27,10 +27,10 @@ use Rattle.machine.proofs.bounds.Keeps.{begin-keeps}
 use Rattle.machine.proofs.bounds.SizedKeeps.{settle-step-sized, sized-whole}
 use Rattle.machine.proofs.rules.RulesSettle.{repeat-rule}
 use Rattle.machine.proofs.settle.FallsSettle.{startAt, settle-rule}
-use Rattle.machine.proofs.places.Counts.{Given, given-none, begin-counts, serve-counts, return-counts, deliver-counts, step-counts, begin-begun, serve-begun, return-begun, deliver-begun, step-begun}
+use Rattle.machine.proofs.bounds.Counts.{Given, given-none, begin-counts, serve-counts, return-counts, deliver-counts, step-counts, begin-begun, serve-begun, return-begun, deliver-begun, step-begun}
 
 -- numbers, and then more of them
-pub numbers-more : (i a b : ℕ) → numbersFrom i (a + b) ≡ numbersFrom i a ++ numbersFrom (i + a) b
+numbers-more : (i a b : ℕ) → numbersFrom i (a + b) ≡ numbersFrom i a ++ numbersFrom (i + a) b
 unfolding numbersFrom
 numbers-more i zero b = rw (zero-add b, add-zero i)
 numbers-more i (suc a) b =

@@ -103,22 +103,22 @@ step-counts s =
     step-rule (Counts s) s (λ k _ _. deliver-counts s (lane k)) (λ _ k _ _. return-counts s (lane k)) (λ _ _ k _ _. serve-counts s (lane k)) (λ _ _ _. refused-counts s Unexpected)
 
 -- the operations begun since opening are b more, unless the outcome is a refusal
-abbrev Begun : ℕ → Store → Outcome → Type 0
-Begun b s r = begunIn (r .store) ≡ begunIn s + cond (refusedOf (r .answer)) 0 b
+abbrev BegunMore : ℕ → Store → Outcome → Type 0
+BegunMore b s r = begunIn (r .store) ≡ begunIn s + cond (refusedOf (r .answer)) 0 b
 
-refused-begun : (b : ℕ) (s : Store) (x : Refusal) → Begun b s (refuse x s)
+refused-begun : (b : ℕ) (s : Store) (x : Refusal) → BegunMore b s (refuse x s)
 refused-begun b s x = sym (add-zero (begunIn s))
 
 -- a lane's part put back
-lane-begins : (b : ℕ) (s : Store) (k : LaneNo) (r : LaneStep) → Sized s → corruptOf s ≡ false → k .0 < s .shape .n → LaneBegins b (laneAt s (k .0)) r → Begun b s (commitLane s k r)
-lane-begins b s k r g c h t = lane-rule (Begun b s) s k r (λ x _. refused-begun b s x) (λ e. rw (answer-goes k _ (r .answer), e) (lane-begun b s k r h within t e))
+lane-begins : (b : ℕ) (s : Store) (k : LaneNo) (r : LaneStep) → Sized s → corruptOf s ≡ false → k .0 < s .shape .n → LaneBegins b (laneAt s (k .0)) r → BegunMore b s (commitLane s k r)
+lane-begins b s k r g c h t = lane-rule (BegunMore b s) s k r (λ x _. refused-begun b s x) (λ e. rw (answer-goes k _ (r .answer), e) (lane-begun b s k r h within t e))
   where
     within : k .0 < length (s .lanes)
     within = let z = sound s c .n-high in let e = g .lanes in omega arith
 
-pub begin-begun : (s : Store) (k : LaneNo) (op : Op) (w : WordNo) → Sized s → Begun 1 s (beginOf s k op w)
+pub begin-begun : (s : Store) (k : LaneNo) (op : Op) (w : WordNo) → Sized s → BegunMore 1 s (beginOf s k op w)
 begin-begun s k op w g =
-    begin-rule (Begun 1 s) s k op w (refused-begun 1 s)
+    begin-rule (BegunMore 1 s) s k op w (refused-begun 1 s)
     (λ r. lane-begins 1 s k _ g (r .sound) (r .lane) (begin-lane-begins (s .shape .c) op w (laneAt s (k .0)) (r .idle)))
 
 -- no other call changes them
