@@ -3,7 +3,7 @@
 use Prim.Native.Nat.{ℕ}
 use mathlib.Core.Bool.{Bool, true, false}
 use mathlib.Core.List.{List, [], _∷_, _++_, map}
-use lib.ListN.{replicate, drop}
+use lib.ListN.{replicate, take, drop}
 use Rattle.words.specs.declared.WordNo.{WordNo}
 use Rattle.words.specs.declared.BlockNo.{BlockNo}
 use Rattle.words.specs.declared.Op.the-variants as Op
@@ -367,33 +367,6 @@ shutOut =
     record { given = Flag (quietOf (after (opened 2 1 1) (load 0 0 ∷ serve 0 ∷ deliver 0 ∷ []))); wanted = Flag true } ∷
     []
 
--- settle's bound after a list of calls
-abbrev pub bound : Store → List Call → Shown
-bound s cs = Number (boundOf (after s cs))
-
--- settle's bound R + G + 2 × Q + S + 2 × n × U
-abbrev pub bounds : List Row
-bounds =
-    record { given = bound (opened 2 1 1) []; wanted = Number 0 } ∷
-    -- U is 1, then 2 of three lanes
-    record { given = bound (opened 2 1 1) (load 0 0 ∷ []); wanted = Number 4 } ∷
-    record { given = bound (opened 3 1 1) (load 0 0 ∷ load 2 0 ∷ []); wanted = Number 12 } ∷
-    -- G is 1, then 2
-    record { given = bound (opened 2 1 1) (load 0 0 ∷ serve 0 ∷ []); wanted = Number 1 } ∷
-    record { given = bound (opened 2 1 1) (load 0 0 ∷ serve 0 ∷ load 1 0 ∷ serve 1 ∷ []); wanted = Number 2 } ∷
-    -- S is 1, and Q is 1; then S and R are 1
-    record { given = bound (opened 2 1 1) (store 0 0 7 ∷ serve 0 ∷ deliver 0 ∷ load 1 0 ∷ serve 1 ∷ []); wanted = Number 3 } ∷
-    record { given = bound (opened 2 1 1) (store 0 0 7 ∷ serve 0 ∷ deliver 0 ∷ load 1 0 ∷ serve 1 ∷ deliver 0 ∷ []); wanted = Number 2 } ∷
-    -- R and U are 1
-    record { given = bound (opened 2 1 2) (load 0 0 ∷ serve 0 ∷ deliver 0 ∷ load 0 4 ∷ []); wanted = Number 5 } ∷
-    -- all of them: the EJECT of lane 0, the grant of lane 1, the PURGE of lane 2 for lane 3, and the unserved operation of lane 0
-    record {
-      given = bound (opened 4 1 4)
-          (load 0 0 ∷ serve 0 ∷ deliver 0 ∷ load 0 4 ∷ load 2 8 ∷ serve 2 ∷ deliver 2 ∷ load 1 12 ∷ serve 1 ∷ store 3 8 7 ∷ serve 3 ∷ []);
-      wanted = Number 13;
-    } ∷
-    []
-
 -- sentences of Begin, Serve, Return, Deliver and Settle
 abbrev pub sentences : List Row
 sentences =
@@ -508,13 +481,13 @@ sentences =
     6 ∷ 0 ∷
     [])
     (opens ∷ wait ∷ step ∷ done 0 4294967295 1 ∷ done 0 4294967295 2 ∷ done 0 67305985 3 ∷ done 0 84083456 4 ∷ refused 9 ∷ []) ∷
-    -- a number of ten digits, the empty tape, 65,536 bytes and one more
+    -- a number of ten digits, the empty tape; the first byte of 65,536 bytes' text, that of line 0, and the text of one byte more
     record {
       given = Bytes (printed (0 ∷ 2 ∷ 1 ∷ 1 ∷ 2 ∷ 0 ∷ 0 ∷ 255 ∷ 255 ∷ 255 ∷ 255 ∷ 5 ∷ 0 ∷ 7 ∷ 0 ∷ []));
       wanted = Bytes (48 ∷ 32 ∷ 111 ∷ 112 ∷ 101 ∷ 110 ∷ 10 ∷ 49 ∷ 32 ∷ 119 ∷ 97 ∷ 105 ∷ 116 ∷ 10 ∷ 50 ∷ 32 ∷ 115 ∷ 116 ∷ 101 ∷ 112 ∷ 10 ∷ 51 ∷ 32 ∷ 100 ∷ 111 ∷ 110 ∷ 101 ∷ 32 ∷ 48 ∷ 32 ∷ 52 ∷ 50 ∷ 57 ∷ 52 ∷ 57 ∷ 54 ∷ 55 ∷ 50 ∷ 57 ∷ 53 ∷ 32 ∷ 49 ∷ 10 ∷ 101 ∷ 110 ∷ 100 ∷ 32 ∷ 52 ∷ 10 ∷ []);
     } ∷
     record { given = Bytes (printed []); wanted = Bytes (101 ∷ 110 ∷ 100 ∷ 32 ∷ 48 ∷ 10 ∷ []) } ∷
-    record { given = Bytes (printed (8 ∷ replicate 65535 0)); wanted = Bytes (48 ∷ 32 ∷ 114 ∷ 101 ∷ 102 ∷ 117 ∷ 115 ∷ 101 ∷ 100 ∷ 32 ∷ 50 ∷ 10 ∷ 101 ∷ 110 ∷ 100 ∷ 32 ∷ 49 ∷ 10 ∷ []) } ∷
+    record { given = Bytes (take 1 (printed (8 ∷ replicate 65535 0))); wanted = Bytes (48 ∷ []) } ∷
     record { given = Bytes (printed (8 ∷ replicate 65536 0)); wanted = Bytes (114 ∷ 101 ∷ 102 ∷ 117 ∷ 115 ∷ 101 ∷ 100 ∷ 32 ∷ 49 ∷ 51 ∷ 10 ∷ []) } ∷
     -- room for 25 bytes of text for each byte of a tape; a buffer without it is as it was
     record { given = Number textMost; wanted = Number 1638400 } ∷
@@ -538,13 +511,13 @@ serving k a awaited s = withControl s (Busy (record { lane = lane k; block = blo
 abbrev pub filled : ℕ → ℕ → Store → Store
 filled k a s = withLane s k (withLine (line 0) (filledLine (block a) zeros) (laneAt s k))
 
--- an operation on word w; lane 0 with something that waits, with as many messages in a queue as the number says, with lines i and j first in its
+-- an operation on word w; lane k with something that waits; lane 0 with as many messages in a queue as the number says, with lines i and j first in its
 -- use order; block 0 with PRESENT for lane k
 abbrev pub operation : ℕ → Operation
 operation w = record { command = ReadShared; op = Op.Load; word = record { 0 = w } }
 
-abbrev pub waits : Waiting → Store → Store
-waits x s = withLane s 0 (withWaiting x (laneAt s 0))
+abbrev pub waits : ℕ → Waiting → Store → Store
+waits k x s = withLane s k (withWaiting x (laneAt s k))
 
 abbrev pub returning : ℕ → Store → Store
 returning len s = withLane s 0 (withReturns (record { len = len; at = laneAt s 0 .returns .at }) (laneAt s 0))
@@ -559,6 +532,35 @@ ordered i j s =
 
 abbrev pub flagged : ℕ → Store → Store
 flagged k s = let b = blockAt s 0 in withBlock s 0 (withPresent (including (lane k) (b .present)) b)
+
+-- settle's bound R + G + 2 × Q + S + 2 × n × U of a store
+abbrev pub bounded : Store → ℕ → Row
+bounded s bound = record { given = Number (boundOf s); wanted = Number bound }
+
+-- a load of lane k, unserved
+abbrev pub unserved : ℕ → Store → Store
+unserved k s = waits k (Unserved (operation 0)) s
+
+abbrev pub bounds : List Row
+bounds =
+    bounded (opened 2 1 1) 0 ∷
+    -- U is 1, then 2 of three lanes; a served operation is not in it
+    bounded (unserved 0 (opened 2 1 1)) 4 ∷
+    bounded (unserved 2 (unserved 0 (opened 3 1 1))) 12 ∷
+    bounded (waits 0 (Served (operation 0)) (opened 2 1 1)) 0 ∷
+    -- G is 1, then 2: a bare grant is one
+    bounded (sent Grant 0 0 (opened 2 1 1)) 1 ∷
+    bounded (sent BareGrant 1 0 (sent Grant 0 0 (opened 2 1 1))) 2 ∷
+    -- S and Q are 1; then S and R
+    bounded (serving 1 0 1 (sent Purge 0 0 (opened 2 1 1))) 3 ∷
+    bounded (serving 1 0 1 (gone 0 0 (opened 2 1 1))) 2 ∷
+    -- R and U are 1
+    bounded (unserved 0 (gone 0 0 (opened 2 1 1))) 5 ∷
+    -- all of them are 1, of four lanes
+    bounded (unserved 0 (serving 3 2 1 (sent Purge 2 2 (sent Grant 1 3 (gone 0 0 (opened 4 1 4)))))) 13 ∷
+    -- .. and after calls
+    bounded (after (opened 2 1 1) (store 0 0 7 ∷ serve 0 ∷ deliver 0 ∷ load 1 0 ∷ serve 1 ∷ [])) 3 ∷
+    []
 
 -- a row of 14: serve finds the store corrupt, or finds nothing to serve
 abbrev pub corrupt : Store → Row
@@ -612,9 +614,9 @@ corruptStores =
     corrupt (returning 3 (opened 2 1 2)) ∷
     corrupt (sending 3 (opened 2 1 2)) ∷
     -- a waiting operation
-    corrupt (waits (Unserved (operation 8)) (opened 2 1 2)) ∷
-    corrupt (waits (Served (operation 8)) (opened 2 1 2)) ∷
-    sound (waits (Served (operation 7)) (opened 2 1 2)) ∷
+    corrupt (waits 0 (Unserved (operation 8)) (opened 2 1 2)) ∷
+    corrupt (waits 0 (Served (operation 8)) (opened 2 1 2)) ∷
+    sound (waits 0 (Served (operation 7)) (opened 2 1 2)) ∷
     -- a service: its lane, its block, the count of answers awaited
     corrupt (serving 2 0 1 (opened 2 1 2)) ∷
     corrupt (serving 0 2 1 (opened 2 1 2)) ∷
@@ -661,10 +663,6 @@ heldStores =
 abbrev pub counting : ℕ → Store → Store
 counting number s = withCompletions s number
 
--- a store whose lane 2 has an operation
-abbrev pub past : Store → Store
-past s = withLane s 2 (withWaiting (Unserved (operation 0)) (laneAt s 2))
-
 -- 02, W1: places at their end, 4,294,967,295. Below, the sum is completions so far plus operations waiting
 abbrev pub places : List Row
 places =
@@ -686,17 +684,17 @@ places =
     on (counting 4294967295 (gone 0 0 (gone 0 0 (filled 0 0 (opened 2 1 2))))) (load 0 4 says refused 17 ∷ serve 0 says refused 9 ∷ []) ∷
     on (counting 4294967295 (opened 2 1 1)) (Settle says settled 0 [] ∷ store 0 0 7 says refused 17 ∷ exchange 1 0 7 says refused 17 ∷ add 1 0 7 says refused 17 ∷ []) ∷
     -- a larger sum is 14, also where the operation that waits is served
-    on (counting 4294967295 (waits (Unserved (operation 0)) (opened 2 1 1)))
+    on (counting 4294967295 (unserved 0 (opened 2 1 1)))
     (load 1 0 says refused 14 ∷ serve 0 says refused 14 ∷ return 0 says refused 14 ∷ deliver 0 says refused 14 ∷ Settle says refused 14 ∷ []) ∷
-    corrupt (counting 4294967295 (waits (Served (operation 0)) (opened 2 1 1))) ∷
-    sound (counting 4294967294 (waits (Served (operation 0)) (opened 2 1 1))) ∷
+    corrupt (counting 4294967295 (waits 0 (Served (operation 0)) (opened 2 1 1))) ∷
+    sound (counting 4294967294 (waits 0 (Served (operation 0)) (opened 2 1 1))) ∷
     record {
-      given = pictured (counting 4294967295 (waits (Unserved (operation 0)) (opened 2 1 1))) 20;
+      given = pictured (counting 4294967295 (unserved 0 (opened 2 1 1))) 20;
       wanted = Fills (record { answer = Filled.Refused Corrupt; buffer = replicate 20 255 });
     } ∷
     -- lanes n and above do not count: lane 2 of two has an operation
-    sound (counting 4294967295 (past (opened 2 1 1))) ∷
-    on (counting 4294967294 (past (opened 2 1 1))) (load 0 0 says wait ∷ load 1 0 says refused 17 ∷ []) ∷
+    sound (counting 4294967295 (unserved 2 (opened 2 1 1))) ∷
+    on (counting 4294967294 (unserved 2 (opened 2 1 1))) (load 0 0 says wait ∷ load 1 0 says refused 17 ∷ []) ∷
     -- settle's completions have the next places in the order listed; a refused settle that had completed one leaves the count
     on (counting 4294967293 (opened 2 1 1)) (store 0 0 7 says wait ∷ store 1 0 9 says wait ∷ Settle says settled 6 (of 0 7 4294967294 ∷ of 1 9 4294967295 ∷ []) ∷ []) ∷
     on (gone 1 0 (opened 2 1 2)) (load 0 0 says wait ∷ serve 0 says step ∷ Settle says refused 16 ∷ deliver 0 says done 0 0 1 ∷ []) ∷

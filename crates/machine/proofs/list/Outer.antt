@@ -184,13 +184,18 @@ module _ (h : List Entry) (q : ℕ → Pending) (g : List ℕ) where
   completes-tied p last i f (x ∷ cs) p₁ f₁ t s =
       completes-tied (upd p (x .lane .0) Rests) last i (flatAfter f (fed (s .0) (s .1))) cs p₁ f₁ (tied-done p last (x .lane .0) (In h) i t) (s .4)
 
+  -- a first completion of its lane's last wait
+  tells-first : (p : ℕ → Pending) (last : LastWaits) (i : ℕ) (f : List ℕ) (x : Completion) (b : Begun) (xs : List Attributed) (bs : List Begun) →
+      last (x .lane .0) ≡ Of b → Tells p last i f (attributed x b ∷ xs) bs → Tells p last i f (byLane last x ∷ xs) bs
+  tells-first p last i f x b xs bs e r = rw e r
+
   -- completions one after another, each of its lane's last wait
   tells-completes : (p : ℕ → Pending) (last : LastWaits) (i : ℕ) (f : List ℕ) (cs : List Completion) (p₁ : ℕ → Pending) (f₁ : List ℕ) (xs : List Attributed) (bs : List Begun) →
       Tied (In h) p last i → Completes p f cs p₁ f₁ → Tells p₁ last i f₁ xs bs → Tells p last i f (map (byLane last) cs ++ xs) bs
   tells-completes p last i f [] p₁ f₁ xs bs t s r = rw (s .0, s .1) at r
   tells-completes p last i f (x ∷ cs) p₁ f₁ xs bs t s r =
       let o = t .held (x .lane) (s .0) (s .1) (s .2) in
-      rw (o .1 .is-last)
+      tells-first p last i f x (begunAt (o .0) (x .lane) (s .0) (s .1)) (map (byLane last) cs ++ xs) bs (o .1 .is-last)
       (tells-done p last i f x (begunAt (o .0) (x .lane) (s .0) (s .1)) (map (byLane last) cs ++ xs) bs t (o .1) refl (s .3)
       (tells-completes (upd p (x .lane .0) Rests) last i (flatAfter f (fed (s .0) (s .1))) cs p₁ f₁ xs bs (tied-done p last (x .lane .0) (In h) i t) (s .4) r))
 
