@@ -3,7 +3,7 @@
 use Prim.Native.Nat.{ℕ}
 use mathlib.Core.Bool.{Bool, true, false}
 use mathlib.Core.List.{List, [], _∷_, _++_, map}
-use lib.ListN.{replicate, take, drop}
+use lib.ListN.{replicate, drop}
 use Rattle.words.specs.declared.WordNo.{WordNo}
 use Rattle.words.specs.declared.BlockNo.{BlockNo}
 use Rattle.words.specs.declared.Op.the-variants as Op
@@ -481,13 +481,13 @@ sentences =
     6 ∷ 0 ∷
     [])
     (opens ∷ wait ∷ step ∷ done 0 4294967295 1 ∷ done 0 4294967295 2 ∷ done 0 67305985 3 ∷ done 0 84083456 4 ∷ refused 9 ∷ []) ∷
-    -- a number of ten digits, the empty tape; the first byte of 65,536 bytes' text, that of line 0, and the text of one byte more
+    -- a number of ten digits, the empty tape, 65,536 bytes and one more
     record {
       given = Bytes (printed (0 ∷ 2 ∷ 1 ∷ 1 ∷ 2 ∷ 0 ∷ 0 ∷ 255 ∷ 255 ∷ 255 ∷ 255 ∷ 5 ∷ 0 ∷ 7 ∷ 0 ∷ []));
       wanted = Bytes (48 ∷ 32 ∷ 111 ∷ 112 ∷ 101 ∷ 110 ∷ 10 ∷ 49 ∷ 32 ∷ 119 ∷ 97 ∷ 105 ∷ 116 ∷ 10 ∷ 50 ∷ 32 ∷ 115 ∷ 116 ∷ 101 ∷ 112 ∷ 10 ∷ 51 ∷ 32 ∷ 100 ∷ 111 ∷ 110 ∷ 101 ∷ 32 ∷ 48 ∷ 32 ∷ 52 ∷ 50 ∷ 57 ∷ 52 ∷ 57 ∷ 54 ∷ 55 ∷ 50 ∷ 57 ∷ 53 ∷ 32 ∷ 49 ∷ 10 ∷ 101 ∷ 110 ∷ 100 ∷ 32 ∷ 52 ∷ 10 ∷ []);
     } ∷
     record { given = Bytes (printed []); wanted = Bytes (101 ∷ 110 ∷ 100 ∷ 32 ∷ 48 ∷ 10 ∷ []) } ∷
-    record { given = Bytes (take 1 (printed (8 ∷ replicate 65535 0))); wanted = Bytes (48 ∷ []) } ∷
+    record { given = Bytes (printed (8 ∷ replicate 65535 0)); wanted = Bytes (48 ∷ 32 ∷ 114 ∷ 101 ∷ 102 ∷ 117 ∷ 115 ∷ 101 ∷ 100 ∷ 32 ∷ 50 ∷ 10 ∷ 101 ∷ 110 ∷ 100 ∷ 32 ∷ 49 ∷ 10 ∷ []) } ∷
     record { given = Bytes (printed (8 ∷ replicate 65536 0)); wanted = Bytes (114 ∷ 101 ∷ 102 ∷ 117 ∷ 115 ∷ 101 ∷ 100 ∷ 32 ∷ 49 ∷ 51 ∷ 10 ∷ []) } ∷
     -- room for 25 bytes of text for each byte of a tape; a buffer without it is as it was
     record { given = Number textMost; wanted = Number 1638400 } ∷
@@ -558,8 +558,10 @@ bounds =
     bounded (unserved 0 (gone 0 0 (opened 2 1 1))) 5 ∷
     -- all of them are 1, of four lanes
     bounded (unserved 0 (serving 3 2 1 (sent Purge 2 2 (sent Grant 1 3 (gone 0 0 (opened 4 1 4)))))) 13 ∷
-    -- .. and after calls
+    -- .. and after calls: a service and its UPDATE, then the UPDATED; an EJECT and the operation that it made room for
     bounded (after (opened 2 1 1) (store 0 0 7 ∷ serve 0 ∷ deliver 0 ∷ load 1 0 ∷ serve 1 ∷ [])) 3 ∷
+    bounded (after (opened 2 1 1) (store 0 0 7 ∷ serve 0 ∷ deliver 0 ∷ load 1 0 ∷ serve 1 ∷ deliver 0 ∷ [])) 2 ∷
+    bounded (after (opened 2 1 2) (load 0 0 ∷ serve 0 ∷ deliver 0 ∷ load 0 4 ∷ [])) 5 ∷
     []
 
 -- a row of 14: serve finds the store corrupt, or finds nothing to serve
