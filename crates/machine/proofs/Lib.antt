@@ -9,4 +9,5 @@ pub mod projection
 pub mod places
 pub mod store
 pub mod settle
+pub mod pictures
 pub mod Theorems

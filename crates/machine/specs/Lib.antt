@@ -20,4 +20,5 @@ pub mod Flags
 pub mod Demand3
 pub mod Completion
 pub mod Potential
+pub mod PictureOrder
 pub mod Table

@@ -9,7 +9,7 @@ use Rattle.words.specs.declared.BlockNo.{BlockNo}
 use Rattle.words.specs.declared.Op.the-variants as Op
 use Rattle.words.specs.Operations.{applyOf}
 use Rattle.words.specs.Lines.{filledLine}
-use Rattle.words.specs.Units.{shaped, zeros}
+use Rattle.words.specs.Units.{shaped}
 use Rattle.queues.specs.declared.DownKind.{DownKind}
 use Rattle.queues.specs.declared.DownKind.the-variants.{Purge, Grant, BareGrant}
 use Rattle.queues.specs.declared.ReturnKind.the-variants.{Gone}
@@ -495,7 +495,7 @@ sentences =
     []
 
 -- stores that no opening gives: lane k with a GONE of block a more in its return queue, with a message more in its down queue, with
--- block a in its line 0; a service for lane k
+-- block a in its line i, whose first word is w, or in its line 0; a service for lane k
 abbrev pub block : ℕ → BlockNo
 block a = record { 0 = a }
 
@@ -508,8 +508,11 @@ sent x k a s = withLane s k (posted (bareDown x (block a)) (laneAt s k))
 abbrev pub serving : ℕ → ℕ → ℕ → Store → Store
 serving k a awaited s = withControl s (Busy (record { lane = lane k; block = block a; command = ReadExclusive; awaited = awaited; bare = false }))
 
+abbrev pub copied : ℕ → ℕ → ℕ → ℕ → Store → Store
+copied k i a w s = withLane s k (withLine (line i) (filledLine (block a) (w ∷ 0 ∷ 0 ∷ 0 ∷ [])) (laneAt s k))
+
 abbrev pub filled : ℕ → ℕ → Store → Store
-filled k a s = withLane s k (withLine (line 0) (filledLine (block a) zeros) (laneAt s k))
+filled k a s = copied k 0 a 0 s
 
 -- an operation on word w; lane k with something that waits; lane 0 with as many messages in a queue as the number says, with lines i and j first in its
 -- use order; block 0 with PRESENT for lane k
@@ -578,7 +581,15 @@ pictured s size = Fills (pictureOf s (replicate size 255))
 abbrev pub stored : Store
 stored = after (opened 2 1 1) (store 1 2 258 ∷ serve 1 ∷ deliver 1 ∷ [])
 
--- the picture: its length, its bytes and those after it; 15 and 14, with the buffer as it was
+-- a store with a block in both lanes and in two lines of a lane, below a block of a lower line, and with lines between them that are not valid
+abbrev pub shared : Store
+shared = copied 0 0 1 5 (copied 0 2 0 6 (copied 1 0 0 7 (copied 1 1 0 8 (opened 2 3 2))))
+
+-- a record: lane, block and the first word, which has one byte
+abbrev pub recorded : ℕ → ℕ → ℕ → List ℕ
+recorded k a w = 16 ∷ k ∷ a ∷ w ∷ replicate 15 0
+
+-- the picture: its length, its bytes and those after it; 15 and 14, with the buffer as it was; its records by block, then by lane, then by line
 abbrev pub pictures : List Row
 pictures =
     record {
@@ -590,6 +601,10 @@ pictures =
     } ∷
     record { given = pictured stored 18; wanted = Fills (record { answer = Filled.Refused BufferTooShort; buffer = replicate 18 255 }) } ∷
     record { given = pictured (freshOf (shaped 9 1 1)) 20; wanted = Fills (record { answer = Filled.Refused Corrupt; buffer = replicate 20 255 }) } ∷
+    record {
+      given = pictured shared 77;
+      wanted = Fills (record { answer = Filled.Length 76; buffer = recorded 0 0 6 ++ recorded 1 0 7 ++ recorded 1 0 8 ++ recorded 0 1 5 ++ (255 ∷ []) });
+    } ∷
     []
 
 -- each condition of 14, and the store just within it

@@ -5,21 +5,24 @@ use native.Mathlib.Numerals.{add-one}
 use native.Mathlib.Omega.{arith}
 use mathlib.Core.Logic.{_⊎_, inl, inr}
 use mathlib.Core.Bool.{Bool, true, false, cond}
-use mathlib.Core.Path.{_≡_, refl}
+use mathlib.Core.Path.{_≡_, refl, sym, ap, _∙_}
 use mathlib.Core.List.{List, [], _++_, append-nil}
 use lib.ListN.{length, take, drop, getD, length-append, length-drop, drop-of-length-le}
 use lib.Seq.{take-all, drop-drop}
+use borrow.Author.Tests.{eq-eqb, ne-eqb}
 use Rattle.words.specs.declared.Line.{Line}
-use Rattle.words.specs.Lines.{noLine}
-use Rattle.words.specs.Folds.{countTo, sumTo, gatherTo}
+use Rattle.words.specs.Lines.{noLine, holdsOf}
+use Rattle.words.specs.Folds.{sumTo, gatherTo}
 use Rattle.words.proofs.Folds.{count-most}
-use Rattle.lanes.specs.declared.Lane.{Lane}
 use Rattle.store.specs.declared.Store.{Store}
 use Rattle.store.specs.Stores.{laneAt}
 use Rattle.machine.specs.Picture.{recordBytes, pictureBytes}
+use Rattle.machine.proofs.laws.Tests.{on}
+use Rattle.machine.proofs.laws.Sums.{sum-same, zero-sum, sum-grown, sum-swap, sum-times, sum-only}
+use Rattle.machine.proofs.bounds.Sound.{Sound}
 use Rattle.buffers.specs.Written.{written}
 use Rattle.buffers.proofs.Writing.{written-length, Wrote, wrote-then}
-use Rattle.picture.specs.Records.{lineRecord, laneRecords, recordsAt, validIn, validAt, validOf}
+use Rattle.picture.specs.Records.{lineRecord, recordsAt, blockRecords, validAt, validOf}
 
 -- gathering: none, one more, and a part is no longer than the whole
 pub gather-none : (f : ℕ → List ℕ) → gatherTo f 0 ≡ []
@@ -52,6 +55,15 @@ wrote-more f k n xs at a b l h = rw (gather-more f k) (wrote-then xs at (gatherT
 pub wrote-kept : (f : ℕ → List ℕ) (k n : ℕ) (xs : List ℕ) (at : ℕ) {r : ℕ} {after : List ℕ} →
     Wrote xs at (gatherTo f k) r after → k ≤ n → at + length (gatherTo f n) ≤ length xs → length after ≡ length xs
 wrote-kept f k n xs at w l h = rw (w .1) (written-length xs at (gatherTo f k) (omega (arith, gather-least f k n l)))
+
+-- .. so that there is room for the next part
+pub wrote-fits : (f : ℕ → List ℕ) (k n : ℕ) (xs : List ℕ) (at : ℕ) {r : ℕ} {after : List ℕ} →
+    Wrote xs at (gatherTo f k) r after → k < n → at + length (gatherTo f n) ≤ length xs → r + length (f k) ≤ length after
+wrote-fits f k n xs at w l h =
+    let e = wrote-kept f k n xs at w (omega arith) h in
+    let g = gather-next f k n l in
+    let p = w .0 in
+    omega arith
 
 -- a write from the start of a part is a write at the part's offset in the whole
 pub part-written : (xs : List ℕ) (at : ℕ) (ys : List ℕ) {part : List ℕ} → at ≤ length xs → part ≡ written (take (length xs - at) (drop at xs)) 0 ys →
@@ -88,48 +100,57 @@ pub record-length : (k : ℕ) (x : Line) → length (recordBytes k x) ≡ 19
 unfolding recordBytes
 record-length k x = refl
 
--- the record of a valid line, and of another
-pub line-valid : (k : ℕ) (x : Line) → x .valid ≡ true → lineRecord k x ≡ recordBytes k x
+-- the record of a line that has the block, and of another
+pub line-holds : (a k : ℕ) (x : Line) → holdsOf x (record { 0 = a }) ≡ true → lineRecord a k x ≡ recordBytes k x
 unfolding lineRecord
-line-valid k x e = rw e
+line-holds a k x e = rw e
 
-pub line-invalid : (k : ℕ) (x : Line) → x .valid ≡ false → lineRecord k x ≡ []
+pub line-other : (a k : ℕ) (x : Line) → holdsOf x (record { 0 = a }) ≡ false → lineRecord a k x ≡ []
 unfolding lineRecord
-line-invalid k x e = rw e
+line-other a k x e = rw e
 
-pub valid-length : (k : ℕ) (x : Line) → x .valid ≡ true → length (lineRecord k x) ≡ 19
-valid-length k x e = rw (line-valid k x e) (record-length k x)
+pub holds-length : (a k : ℕ) (x : Line) → holdsOf x (record { 0 = a }) ≡ true → length (lineRecord a k x) ≡ 19
+holds-length a k x e = rw (line-holds a k x e) (record-length k x)
 
-pub line-length : (k : ℕ) (x : Line) → length (lineRecord k x) ≡ 19 * cond (x .valid) 1 0
-unfolding lineRecord
-line-length k x = go (x .valid)
-  where
-    go : (b : Bool) → length (cond b (recordBytes k x) []) ≡ 19 * cond b 1 0
-    go true = record-length k x
-    go false = refl
-
--- .. so a lane's records have 19 for each valid line
-pub lane-length : (k : ℕ) (l : Lane) (c : ℕ) → length (laneRecords k l c) ≡ 19 * validIn l c
-unfolding gatherTo countTo
-lane-length k l zero = refl
-lane-length k l (suc c) =
-    let h = lane-length k l c in
-    let e = line-length k (getD (l .lines) c noLine) in
-    simp length-append (omega arith)
-
--- the picture is the records of the lines, lane by lane
-pub picture-lanes : (s : Store) → pictureBytes s ≡ gatherTo (recordsAt s) (s .shape .n)
+-- the picture is the records of the blocks
+pub picture-blocks : (s : Store) → pictureBytes s ≡ gatherTo (blockRecords s) (s .shape .m)
 unfolding pictureBytes lineRecord
-picture-lanes s = refl
+picture-blocks s = refl
 
-pub lanes-length : (s : Store) (n : ℕ) → length (gatherTo (recordsAt s) n) ≡ 19 * sumTo (validAt s) n
+-- the length of a gathered list
+gather-length : (f : ℕ → List ℕ) (n : ℕ) → length (gatherTo f n) ≡ sumTo (λ j. length (f j)) n
 unfolding gatherTo sumTo
-lanes-length s zero = refl
-lanes-length s (suc n) =
-    let h = lanes-length s n in
-    let e = lane-length n (laneAt s n) (s .shape .c) in
-    simp length-append (omega arith)
+gather-length f zero = refl
+gather-length f (suc n) = let h = gather-length f n in simp length-append (omega arith)
 
--- .. and its length 19 for each valid line
-pub picture-length : (s : Store) → length (pictureBytes s) ≡ 19 * validOf s
-picture-length s = rw (picture-lanes s) (lanes-length s (s .shape .n))
+-- over all m blocks a line has 19 bytes if it is valid
+line-length : (k m : ℕ) (x : Line) → (x .valid ≡ true → x .block .0 < m) → sumTo (λ a. length (lineRecord a k x)) m ≡ cond (x .valid) 19 0
+line-length k m x h = on (x .valid)
+    (λ v. let e : cond (x .valid) 19 0 ≡ 19 = rw v in
+    sum-only (λ a. length (lineRecord a k x)) m (x .block .0) (h v) (λ a n. ap length (line-other a k x (rw (v, ne-eqb (x .block .0) a (λ q. n (sym q)))))) ∙
+    (holds-length (x .block .0) k x (rw (v, eq-eqb (x .block .0) (x .block .0) refl)) ∙ sym e))
+    (λ v. let e : cond (x .valid) 19 0 ≡ 0 = rw v in zero-sum (λ a. length (lineRecord a k x)) m (λ a _. ap length (line-other a k x (rw v))) ∙ sym e)
+
+-- .. so the picture has 19 for each valid line
+abbrev sizeAt : Store → ℕ → ℕ → ℕ → ℕ
+sizeAt s a k i = length (lineRecord a k (getD (laneAt s k .lines) i noLine))
+
+lane-length : (s : Store) → Sound s → (k : ℕ) → k < s .shape .n → sumTo (λ a. sumTo (sizeAt s a k) (s .shape .c)) (s .shape .m) ≡ 19 * validAt s k
+lane-length s g k h =
+    let sizes : ℕ → ℕ = λ i. cond (getD (laneAt s k .lines) i noLine .valid) 19 0 in
+    let swapped = sum-swap (λ a. sizeAt s a k) (s .shape .m) (s .shape .c) in
+    let each = sum-same sizes (λ i. sumTo (λ a. sizeAt s a k i) (s .shape .m)) (s .shape .c)
+    (λ i l. line-length k (s .shape .m) (getD (laneAt s k .lines) i noLine) (g .lane k h .lines i l)) in
+    let all = sum-grown (λ _. 0) sizes (λ i. getD (laneAt s k .lines) i noLine .valid) 19 (s .shape .c) (λ j _. omega arith) in
+    let none = zero-sum (λ _. 0) (s .shape .c) (λ _ _. refl) in
+    omega arith
+
+block-length : (s : Store) (a : ℕ) → length (blockRecords s a) ≡ sumTo (λ k. sumTo (sizeAt s a k) (s .shape .c)) (s .shape .n)
+block-length s a = gather-length (recordsAt s a) (s .shape .n) ∙ sum-same _ _ (s .shape .n) (λ k _. gather-length _ (s .shape .c))
+
+pub picture-length : (s : Store) → Sound s → length (pictureBytes s) ≡ 19 * validOf s
+picture-length s g =
+    ap length (picture-blocks s) ∙ (gather-length (blockRecords s) (s .shape .m) ∙
+    (sum-same _ _ (s .shape .m) (λ a _. block-length s a) ∙
+    (sum-swap (λ a k. sumTo (sizeAt s a k) (s .shape .c)) (s .shape .m) (s .shape .n) ∙
+    (sum-same (λ k. 19 * validAt s k) _ (s .shape .n) (lane-length s g) ∙ sum-times 19 (validAt s) (s .shape .n)))))

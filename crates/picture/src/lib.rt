@@ -6,11 +6,12 @@ ghost use Prim.Native.Nat.{_+_, _≤_};
 ghost use lib.ListN.{length};
 ghost use Rattle.buffers.specs.Written.{written};
 ghost use Rattle.machine.specs.Picture.{wordBytes, recordBytes, pictureBytes, pictureOf};
-ghost use Rattle.picture.specs.Records.{lineRecord, laneRecords, validIn, validOf};
+ghost use Rattle.picture.specs.Records.{lineRecord, laneRecords, blockRecords, validIn, validOf};
 use answers::Refusal;
 use lanes::Lane;
 use machine::Filled;
 use store::Store;
+use words::BlockNo;
 use words::LaneNo;
 use words::Line;
 
@@ -87,50 +88,66 @@ fn write_record(part: &mut [u8], k: LaneNo, x: Line)
     write_word(part, fourth, x.words[3]);
 }
 
-// The record of a line, where it is valid, into the part of the buffer that starts at its offset; the next offset.
-fn write_line(buffer: &mut [u8], at: usize, k: LaneNo, x: Line) -> usize
-    requires { ⌜ at + length (lineRecord (k .0) x) ≤ length (now buffer) ⌝ }
-    ensures { λ r. ⌜ (r ≡ at + length (lineRecord (k .0) x)) × (now (buffer .exit) ≡ written (now (buffer .entry)) at (lineRecord (k .0) x)) ⌝ }
+// The record of a line, where it is valid and has block a, into the part of the buffer that starts at its offset; the next offset.
+fn write_line(buffer: &mut [u8], at: usize, a: BlockNo, k: LaneNo, x: Line) -> usize
+    requires { ⌜ at + length (lineRecord (a .0) (k .0) x) ≤ length (now buffer) ⌝ }
+    ensures { λ r. ⌜ (r ≡ at + length (lineRecord (a .0) (k .0) x)) × (now (buffer .exit) ≡ written (now (buffer .entry)) at (lineRecord (a .0) (k .0) x)) ⌝ }
 {
-    if x.valid {
+    if x.holds(a) {
         write_record(&mut buffer[at..], k, x);
         return at + RECORD;
     }
     at
 }
 
-// The records of lane k.
-fn write_lane(buffer: &mut [u8], at: usize, k: LaneNo, l: Lane, c: u8) -> usize
-    requires { ⌜ (c ≤ 8) × (at + length (laneRecords (k .0) l c) ≤ length (now buffer)) ⌝ }
-    ensures { λ r. ⌜ (r ≡ at + length (laneRecords (k .0) l c)) × (now (buffer .exit) ≡ written (now (buffer .entry)) at (laneRecords (k .0) l c)) ⌝ }
+// The records of block a in lane k.
+fn write_lane(buffer: &mut [u8], at: usize, a: BlockNo, k: LaneNo, l: Lane, c: u8) -> usize
+    requires { ⌜ (c ≤ 8) × (at + length (laneRecords (a .0) (k .0) l c) ≤ length (now buffer)) ⌝ }
+    ensures { λ r. ⌜ (r ≡ at + length (laneRecords (a .0) (k .0) l c)) × (now (buffer .exit) ≡ written (now (buffer .entry)) at (laneRecords (a .0) (k .0) l c)) ⌝ }
 {
     let mut place = at;
     let mut i: u8 = 0;
     while i < c {
         let j = i as usize;
-        let x = l.lines[j];
-        let next = write_line(buffer, place, k, x);
+        let line = l.lines[j];
+        let next = write_line(buffer, place, a, k, line);
         place = next;
         i += 1;
     }
     place
 }
 
-// The records of all lanes.
-fn write_lanes(buffer: &mut [u8], s: Store) -> usize
-    requires { ⌜ (s .shape .n ≤ 8) × (s .shape .c ≤ 8) × (length (pictureBytes s) ≤ length (now buffer)) ⌝ }
-    ensures { λ r. ⌜ (r ≡ length (pictureBytes s)) × (now (buffer .exit) ≡ written (now (buffer .entry)) 0 (pictureBytes s)) ⌝ }
+// The records of block a.
+fn write_block(buffer: &mut [u8], at: usize, a: BlockNo, s: Store) -> usize
+    requires { ⌜ (s .shape .n ≤ 8) × (s .shape .c ≤ 8) × (at + length (blockRecords s (a .0)) ≤ length (now buffer)) ⌝ }
+    ensures { λ r. ⌜ (r ≡ at + length (blockRecords s (a .0))) × (now (buffer .exit) ≡ written (now (buffer .entry)) at (blockRecords s (a .0))) ⌝ }
 {
     let n = s.shape.n;
     let c = s.shape.c;
-    let mut place: usize = 0;
+    let mut place = at;
     let mut k: u8 = 0;
     while k < n {
         let i = k as usize;
         let l = s.lanes[i];
-        let next = write_lane(buffer, place, LaneNo(k), l, c);
+        let next = write_lane(buffer, place, a, LaneNo(k), l, c);
         place = next;
         k += 1;
+    }
+    place
+}
+
+// The records of all blocks.
+fn write_blocks(buffer: &mut [u8], s: Store) -> usize
+    requires { ⌜ (s .shape .n ≤ 8) × (s .shape .c ≤ 8) × (length (pictureBytes s) ≤ length (now buffer)) ⌝ }
+    ensures { λ r. ⌜ (r ≡ length (pictureBytes s)) × (now (buffer .exit) ≡ written (now (buffer .entry)) 0 (pictureBytes s)) ⌝ }
+{
+    let m = s.shape.m;
+    let mut place: usize = 0;
+    let mut a: u8 = 0;
+    while a < m {
+        let next = write_block(buffer, place, BlockNo(a), s);
+        place = next;
+        a += 1;
     }
     place
 }
@@ -147,6 +164,6 @@ pub fn picture(s: Store, buffer: &mut [u8]) -> Filled
     if buffer.len() < needed {
         return Filled::Refused(Refusal::BufferTooShort);
     }
-    let end = write_lanes(buffer, s);
+    let end = write_blocks(buffer, s);
     Filled::Length(end)
 }

@@ -5,6 +5,7 @@ use crate::conditions;
 use crate::held::{self, HeldAnswer, HeldCall};
 use crate::machine;
 use crate::parts::*;
+use crate::pictures;
 use crate::places;
 use crate::settle;
 use crate::situations;
@@ -46,6 +47,7 @@ fn meets(case: &Case) -> Vec<String> {
     let named = situations::met(s, call, &answer).into_iter().chain(places::met(s, call, &answer));
     let mut met: Vec<String> = named.map(str::to_string).collect();
     met.extend(few_left(s, call, &answer));
+    met.extend(pictures::tells_all(s, &answer).then(|| "picture that tells all".to_string()));
     met.push(match &answer {
         HeldAnswer::Machine(Answer::Done { .. }) => format!("{kind} done {}", taken(s, call)),
         HeldAnswer::Machine(answer) => format!("{kind} {answer:?} {}", taken(s, call)),

@@ -1,6 +1,6 @@
-//! A reference of the lane store of document 01 with W1 of document 02, written
-//! from the documents and their readings only, with generators of tapes, of
-//! lists of calls and of held stores.
+//! A reference of the lane store of document 01 with W1 and W2 of document 02,
+//! written from the documents and their readings only, with generators of tapes,
+//! of lists of calls and of held stores.
 
 pub mod bounds;
 pub mod choice;
@@ -15,6 +15,7 @@ pub mod list_maker;
 pub mod lists;
 pub mod machine;
 pub mod parts;
+pub mod pictures;
 pub mod places;
 pub mod rng;
 pub mod scramble;

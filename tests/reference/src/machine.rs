@@ -64,8 +64,8 @@ pub fn picture(store: &Store, buffer: &mut [u8]) -> Result<usize, u8> {
     if corrupt(store) {
         return Err(CORRUPT);
     }
-    let lanes = (0..store.n).zip(&store.lanes);
-    let bytes: Vec<u8> = lanes.flat_map(|(k, lane)| lane_picture(k, lane, store.c)).collect();
+    let lines = picture_lines(store).into_iter();
+    let bytes: Vec<u8> = lines.flat_map(|(k, line)| picture_record(k, line)).collect();
     if buffer.len() < bytes.len() {
         return Err(BUFFER_SHORT);
     }
@@ -73,10 +73,16 @@ pub fn picture(store: &Store, buffer: &mut [u8]) -> Result<usize, u8> {
     Ok(bytes.len())
 }
 
-/// The picture's records of one lane.
-fn lane_picture(k: u8, lane: &Lane, c: u8) -> Vec<u8> {
-    let valid = lane.lines[..usize::from(c)].iter().filter(|line| line.valid);
-    valid.flat_map(|line| picture_record(k, line)).collect()
+/// The valid lines by block, then by lane, then by line, each with its lane.
+fn picture_lines(s: &Store) -> Vec<(u8, &Line)> {
+    let mut valid = Vec::new();
+    for (k, lane) in (0..s.n).zip(&s.lanes) {
+        for (i, line) in (0..s.c).zip(&lane.lines).filter(|(_, line)| line.valid) {
+            valid.push((k, i, line));
+        }
+    }
+    valid.sort_by_key(|&(k, i, line)| (line.block, k, i));
+    valid.into_iter().map(|(k, _, line)| (k, line)).collect()
 }
 
 fn picture_record(k: u8, line: &Line) -> Vec<u8> {

@@ -4,6 +4,7 @@ use crate::conditions::{self, REASONS, UNEXPECTED_REASONS};
 use crate::events::{Events, EVENTS};
 use crate::held::{HeldAnswer, HeldCall, PICTURE_KIND, SETTLE_KIND};
 use crate::parts::*;
+use crate::pictures;
 use crate::places;
 use crate::settle;
 use crate::situations;
@@ -123,6 +124,7 @@ pub struct Cases {
     pub damages: BTreeMap<&'static str, (usize, usize)>,
     pub situations: BTreeMap<&'static str, usize>,
     pub places: BTreeMap<&'static str, usize>,
+    pub pictures: BTreeMap<&'static str, usize>,
     /// Settles that were not refused, by the count of completions.
     pub settled: BTreeMap<usize, usize>,
     /// Refused settles, by the reason of 14 and of 16.
@@ -143,6 +145,9 @@ impl Cases {
         }
         for name in places::met(&case.store, case.call, answer) {
             *self.places.entry(name).or_default() += 1;
+        }
+        for name in pictures::met(&case.store, answer) {
+            *self.pictures.entry(name).or_default() += 1;
         }
         let reasons = conditions::corrupt_reasons(&case.store);
         add_reasons(&mut self.reasons, &reasons);
@@ -240,6 +245,8 @@ impl Display for Cases {
         self.fmt_refused(f)?;
         writeln!(f, "places:")?;
         fmt_counts(f, &places::NAMES, &self.places)?;
+        writeln!(f, "pictures, not refused:")?;
+        fmt_counts(f, &pictures::NAMES, &self.pictures)?;
         for kind in HELD_KINDS {
             writeln!(f, "{}:{}", kind_name(kind), self.answers_of(kind))?;
         }

@@ -7,6 +7,7 @@ use reference::damage::{CORRUPTING, FAIR};
 use reference::held::{self, HeldAnswer, HeldCall, SETTLE_KIND};
 use reference::list_maker::SHAPES;
 use reference::machine;
+use reference::pictures;
 use reference::places;
 use reference::rng::Rng;
 use reference::situations;
@@ -178,6 +179,7 @@ fn cases_cover_what_they_must() {
         let met = |name| summary.situations.get(name).copied().unwrap_or(0);
         assert!(situations::NAMES.iter().all(|name| met(name) >= 10));
         check_places(&summary);
+        check_pictures(&summary);
         check_settles(&summary);
         check_pairs(&summary);
     }
@@ -203,6 +205,7 @@ fn chosen_cases_are_few_and_meet_much() {
     assert!(UNEXPECTED_REASONS.iter().all(|reason| alone(reason) > 0));
     assert!(situations::NAMES.iter().all(|name| summary.situations.contains_key(name)));
     assert!(places::NAMES.iter().all(|name| summary.places.contains_key(name)));
+    assert!(pictures::NAMES.iter().all(|name| summary.pictures.contains_key(name)));
     assert!(summary.undone.1 > 0, "no settle was refused after a completion");
     assert!((0..=8).all(|count| summary.settled.contains_key(&count)), "{:?}", summary.settled);
 }
@@ -221,6 +224,14 @@ fn check_places(summary: &Cases) {
         };
         let count = summary.places.get(name).copied().unwrap_or(0);
         assert!(count >= least, "{name}: {count}");
+    }
+}
+
+/// W2: pictures tell the order of the records from wrong ones.
+fn check_pictures(summary: &Cases) {
+    for name in pictures::NAMES {
+        let count = summary.pictures.get(name).copied().unwrap_or(0);
+        assert!(count >= 100, "{name}: {count}");
     }
 }
 

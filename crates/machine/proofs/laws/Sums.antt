@@ -77,6 +77,27 @@ sum-grown f g p u (suc n) e =
     let c = count-times u (countTo p n) (p n) in
     omega arith
 
+-- a sum of sums, and sums over two numbers in either order
+pub sum-plus : (f g : ℕ → ℕ) (n : ℕ) → sumTo (λ j. f j + g j) n ≡ sumTo f n + sumTo g n
+unfolding sumTo
+sum-plus f g zero = refl
+sum-plus f g (suc n) = let a = sum-plus f g n in omega arith
+
+pub sum-swap : (f : ℕ → ℕ → ℕ) (m n : ℕ) → sumTo (λ a. sumTo (f a) n) m ≡ sumTo (λ k. sumTo (λ a. f a k) m) n
+unfolding sumTo
+sum-swap f zero n = sym (zero-sum (λ _. 0) n (λ _ _. refl))
+sum-swap f (suc m) n = let a = sum-swap f m n in let b = sum-plus (λ k. sumTo (λ a. f a k) m) (f m) n in omega arith
+
+-- a factor of all terms
+pub sum-times : (u : ℕ) (f : ℕ → ℕ) (n : ℕ) → sumTo (λ j. u * f j) n ≡ u * sumTo f n
+unfolding sumTo
+sum-times u f zero = sym (mul-zero u)
+sum-times u f (suc n) = let a = sum-times u f n in let b = mul-add u (sumTo f n) (f n) in omega arith
+
+-- all terms but one are 0
+pub sum-only : (g : ℕ → ℕ) (n k : ℕ) → k < n → ((j : ℕ) → j ≢ k → g j ≡ 0) → sumTo g n ≡ g k
+sum-only g n k h e = let a = sum-change (λ _. 0) g n k h e in let z = zero-sum (λ _. 0) n (λ _ _. refl) in omega arith
+
 -- a count is a sum
 pub count-sum : (p : ℕ → Bool) (n : ℕ) → countTo p n ≡ sumTo (λ k. cond (p k) 1 0) n
 unfolding sumTo countTo

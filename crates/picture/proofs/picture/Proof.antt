@@ -1,4 +1,4 @@
--- `picture::picture` meets its contract: corrupt, then too short; else all lanes are written. Assumes nothing.
+-- `picture::picture` meets its contract: corrupt, then too short; else all blocks are written. Assumes nothing.
 use native.Mathlib.Omega.{arith}
 use mathlib.Core.Path.{refl, sym, _∙_}
 use Rattle.machine.proofs.bounds.Sound.{sound}
@@ -23,29 +23,35 @@ mul-needed c = let s = sound (c .before .before .before .before .args .s) (sym (
     let n = s .n-high in omega arith
 
 returns-2 : tie.Need-returns-2
-returns-2 c = let l = picture-length (c .before .before .before .before .before .args .s) in
-    rw (picture-short (c .before .before .before .before .before .args .s) (c .before .before .before .before .before .args .buffer .now) (sym (c .before .before .before .corrupt .ensures) ∙ c .before .before .if1 .left) (omega arith)) (refl, refl)
+returns-2 c =
+    let at-if1 = c .before .before in
+    let at-corrupt = at-if1 .before in
+    let start = at-corrupt .before .before in
+    let e = sym (at-corrupt .corrupt .ensures) ∙ at-if1 .if1 .left in
+    let l = picture-length (start .args .s) (sound (start .args .s) e) in
+    rw (picture-short (start .args .s) (start .args .buffer .now) e (omega arith)) (refl, refl)
 
-write-lanes-requires : tie.Need-write-lanes-requires
-write-lanes-requires c κs =
+write-blocks-requires : tie.Need-write-blocks-requires
+write-blocks-requires c κs =
     let at-if1 = c .before .before .before in
     let at-corrupt = at-if1 .before in
     let start = at-corrupt .before .before in
     let s = sound (start .args .s) (sym (at-corrupt .corrupt .ensures) ∙ at-if1 .if1 .left) in
-    let l = picture-length (start .args .s) in (s .n-high, s .c-high, omega arith)
+    let l = picture-length (start .args .s) s in (s .n-high, s .c-high, omega arith)
 
 same-length : tie.Need-same-length
 same-length c = search needs
 
 returns-3 : tie.Need-returns-3
 returns-3 c =
-    let at-write-lanes = c .before .before in
-    let at-if1 = at-write-lanes .before .before .before .before in
+    let at-write-blocks = c .before .before in
+    let at-if1 = at-write-blocks .before .before .before .before in
     let at-corrupt = at-if1 .before in
     let start = at-corrupt .before .before in
-    let l = picture-length (start .args .s) in
-    rw (picture-fits (start .args .s) (start .args .buffer .now) (sym (at-corrupt .corrupt .ensures) ∙ at-if1 .if1 .left) (omega arith))
-    (rw (at-write-lanes .write-lanes .ensures .0), at-write-lanes .write-lanes .ensures .1)
+    let e = sym (at-corrupt .corrupt .ensures) ∙ at-if1 .if1 .left in
+    let l = picture-length (start .args .s) (sound (start .args .s) e) in
+    rw (picture-fits (start .args .s) (start .args .buffer .now) e (omega arith))
+    (rw (at-write-blocks .write-blocks .ensures .0), at-write-blocks .write-blocks .ensures .1)
 
 pub picture-spec : {M : Type 1} → statement M
 picture-spec =
@@ -56,6 +62,6 @@ picture-spec =
     valid-lines-requires
     mul-needed
     returns-2
-    write-lanes-requires
+    write-blocks-requires
     same-length
     returns-3)

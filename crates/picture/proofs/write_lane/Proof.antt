@@ -1,38 +1,43 @@
 -- `picture::write_lane` meets its contract: a turn of the loop writes one line. Assumes nothing.
-use Rattle.picture.proofs.Records.{gather-none, gather-next, wrote-more, wrote-kept}
-use native.Mathlib.Omega.{arith}
 use Prim.Native.Nat.{_-_, _≤_}
-use borrow.Author.Needs.{needs}
+use native.Mathlib.Omega.{arith}
 use mathlib.Core.Path.{_≡_}
 use lib.ListN.{getD}
+use borrow.Author.Needs.{needs}
 use Rattle.words.specs.Lines.{noLine}
 use Rattle.buffers.proofs.Writing.{Wrote, written-none}
 use Rattle.picture.specs.Records.{lineRecord, laneRecords}
-use Rattle.picture.proofs.Records.{gather-none, gather-next, wrote-more}
+use Rattle.picture.proofs.Records.{gather-none, wrote-more, wrote-kept, wrote-fits}
 use Rattle.picture.proofs.write_lane.Statement.{statement}
 use Rattle.picture.proofs.write_lane.Tie as tie
 
 abbrev Inv-loop : tie.InvT-loop
-Inv-loop buffer₀ at k c l place₀ i₀ buffer place i = (i ≤ c) × Wrote buffer₀ at (laneRecords (k .0) l i) place buffer
+Inv-loop buffer₀ at a k c l place₀ i₀ buffer place i = (i ≤ c) × Wrote buffer₀ at (laneRecords (a .0) (k .0) l i) place buffer
 
 abbrev μ-loop : tie.MeasureT-loop
-μ-loop buffer₀ at k c l place₀ i₀ buffer place i = c - i
+μ-loop buffer₀ at a k c l place₀ i₀ buffer place i = c - i
 
 loop-holds : tie.Need-loop-holds Inv-loop μ-loop
-loop-holds c = (omega arith, rw (gather-none (λ i. lineRecord (c .before .args .k .0) (getD (c .before .args .t4 .lines) i noLine))) (omega arith, written-none _ _))
+loop-holds c =
+    let g = c .before .args in
+    (omega arith, rw (gather-none (λ i. lineRecord (g .a .0) (g .k .0) (getD (g .t5 .lines) i noLine))) (omega arith, written-none _ _))
 
 cast-j : tie.Need-cast-j Inv-loop μ-loop
 cast-j c = search needs
 
-mul-x : tie.Need-mul-x Inv-loop μ-loop
-mul-x c = search needs
+mul-line : tie.Need-mul-line Inv-loop μ-loop
+mul-line c = search needs
 
-element-copy-out-x : tie.Need-element-copy-out-x Inv-loop μ-loop
-element-copy-out-x c = search needs
+element-copy-out-line : tie.Need-element-copy-out-line Inv-loop μ-loop
+element-copy-out-line c = search needs
 
 write-line-requires : tie.Need-write-line-requires Inv-loop μ-loop
-write-line-requires c κs = let g = gather-next (λ i. lineRecord (c .before .before .before .before .before .args .k .0) (getD (c .before .before .before .before .before .args .t4 .lines) i noLine)) (c .before .before .before .loop .i) (c .before .before .before .before .before .args .c) (c .before .before .loop-test .taken) in
-    let e = wrote-kept (λ i. lineRecord (c .before .before .before .before .before .args .k .0) (getD (c .before .before .before .before .before .args .t4 .lines) i noLine)) (c .before .before .before .loop .i) (c .before .before .before .before .before .args .c) (c .before .before .before .before .before .args .buffer .now) (c .before .before .before .before .before .args .at) (c .before .before .before .loop .inv .1) (c .before .before .before .loop .inv .0) (c .before .before .before .before .before .pre .1) in omega arith
+write-line-requires c κs =
+    let at-loop = c .before .before .before in
+    let start = at-loop .before .before in
+    let g = start .args in
+    wrote-fits (λ i. lineRecord (g .a .0) (g .k .0) (getD (g .t5 .lines) i noLine)) (at-loop .loop .i) (g .c) (g .buffer .now) (g .at)
+    (at-loop .loop .inv .1) (omega arith) (start .pre .1)
 
 add-i : tie.Need-add-i Inv-loop μ-loop
 add-i c = search needs
@@ -48,7 +53,12 @@ loop-again c =
     (omega arith, wrote-more _ _ (start .args .c) _ _ (at-loop .loop .inv .1) (at-write-line .write-line .ensures) (omega arith) (start .pre .1))
 
 same-length : tie.Need-same-length Inv-loop μ-loop
-same-length c = wrote-kept (λ i. lineRecord (c .before .before .before .args .k .0) (getD (c .before .before .before .args .t4 .lines) i noLine)) (c .before .loop .i) (c .before .before .before .args .c) (c .before .before .before .args .buffer .now) (c .before .before .before .args .at) (c .before .loop .inv .1) (c .before .loop .inv .0) (c .before .before .before .pre .1)
+same-length c =
+    let at-loop = c .before in
+    let start = at-loop .before .before in
+    let g = start .args in
+    wrote-kept (λ i. lineRecord (g .a .0) (g .k .0) (getD (g .t5 .lines) i noLine)) (at-loop .loop .i) (g .c) (g .buffer .now) (g .at)
+    (at-loop .loop .inv .1) (at-loop .loop .inv .0) (start .pre .1)
 
 returns : tie.Need-returns Inv-loop μ-loop
 returns c = let e : c .before .loop .i ≡ c .before .before .before .args .c = omega arith in rw (← e) (c .before .loop .inv .1)
@@ -61,8 +71,8 @@ write-lane-spec =
     μ-loop
     loop-holds
     cast-j
-    mul-x
-    element-copy-out-x
+    mul-line
+    element-copy-out-line
     write-line-requires
     add-i
     loop-less

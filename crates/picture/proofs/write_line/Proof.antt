@@ -1,14 +1,16 @@
--- `picture::write_line` meets its contract: a valid line is one record, another nothing. Assumes nothing.
+-- `picture::write_line` meets its contract: a line that has the block is one record, another nothing. Assumes nothing.
 use Prim.Native.Nat.{_+_, _≤_}
-use lib.ListN.{length, length-take, length-drop}
-use Rattle.picture.proofs.Records.{part-written, line-valid, line-invalid, valid-length}
 use native.Mathlib.Omega.{arith}
-use Rattle.buffers.proofs.Writing.{written-none}
-use Rattle.picture.proofs.Records.{record-length, part-written}
-use lib.ListN.{length}
+use mathlib.Core.Path.{sym, _∙_}
+use lib.ListN.{length, length-take, length-drop}
 use borrow.Author.Needs.{needs}
+use Rattle.buffers.proofs.Writing.{written-none}
+use Rattle.picture.proofs.Records.{part-written, record-length, line-holds, line-other, holds-length}
 use Rattle.picture.proofs.write_line.Statement.{statement}
 use Rattle.picture.proofs.write_line.Tie as tie
+
+holds-requires : tie.Need-holds-requires
+holds-requires c κs = search needs
 
 sub-write-record : tie.Need-sub-write-record
 sub-write-record c = search needs
@@ -20,7 +22,11 @@ part-write-record-end : tie.Need-part-write-record-end
 part-write-record-end c = search needs
 
 write-record-requires : tie.Need-write-record-requires
-write-record-requires c κs = let l = valid-length (c .before .before .before .args .k .0) (c .before .before .before .args .x) (c .before .if1 .taken) in simp (length-take, length-drop) (omega arith)
+write-record-requires c κs =
+    let at-if1 = c .before in
+    let start = at-if1 .before .before .before in
+    let l = holds-length (start .args .a .0) (start .args .k .0) (start .args .x) (sym (at-if1 .before .holds .ensures) ∙ at-if1 .if1 .taken) in
+    simp (length-take, length-drop) (omega arith)
 
 add-result : tie.Need-add-result
 add-result c = search needs
@@ -31,19 +37,23 @@ same-length c = search needs
 returns : tie.Need-returns
 returns c =
     let at-if1 = c .before .before .before .before in
-    let start = at-if1 .before .before in
-    let l = valid-length (start .args .k .0) (start .args .x) (at-if1 .if1 .taken) in
+    let start = at-if1 .before .before .before in
+    let h = sym (at-if1 .before .holds .ensures) ∙ at-if1 .if1 .taken in
+    let l = holds-length (start .args .a .0) (start .args .k .0) (start .args .x) h in
     let e : start .args .at + 19 ≤ length (start .args .buffer .now) = omega arith in
-    rw (line-valid (start .args .k .0) (start .args .x) (at-if1 .if1 .taken))
+    rw (line-holds (start .args .a .0) (start .args .k .0) (start .args .x) h)
     (omega (arith, record-length (start .args .k .0) (start .args .x)), part-written _ _ _ (omega arith) (c .before .before .write-record .ensures))
 
 returns-2 : tie.Need-returns-2
-returns-2 c = rw (line-invalid (c .before .before .args .k .0) (c .before .before .args .x) (c .if1 .left)) (omega arith, written-none _ _)
+returns-2 c =
+    let start = c .before .before .before in
+    rw (line-other (start .args .a .0) (start .args .k .0) (start .args .x) (sym (c .before .holds .ensures) ∙ c .if1 .left)) (omega arith, written-none _ _)
 
 pub write-line-spec : {M : Type 1} → statement M
 write-line-spec =
     tie.close
     (tie.spec
+    holds-requires
     sub-write-record
     part-write-record-start
     part-write-record-end

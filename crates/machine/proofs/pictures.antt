@@ -1,0 +1,3 @@
+-- 02, W2: the order of the picture's records.
+pub mod Gathers
+pub mod PictureOrder
