@@ -582,8 +582,8 @@ abbrev pub stored : Store
 stored = after (opened 2 1 1) (store 1 2 258 ∷ serve 1 ∷ deliver 1 ∷ [])
 
 -- a store with a block in both lanes and in two lines of a lane, below a block of a lower line, and with lines between them that are not valid
-abbrev pub shared : Store
-shared = copied 0 0 1 5 (copied 0 2 0 6 (copied 1 0 0 7 (copied 1 1 0 8 (opened 2 3 2))))
+abbrev pub sharing : Store
+sharing = copied 0 0 1 5 (copied 0 2 0 6 (copied 1 0 0 7 (copied 1 1 0 8 (opened 2 3 2))))
 
 -- a record: lane, block and the first word, which has one byte
 abbrev pub recorded : ℕ → ℕ → ℕ → List ℕ
@@ -602,7 +602,7 @@ pictures =
     record { given = pictured stored 18; wanted = Fills (record { answer = Filled.Refused BufferTooShort; buffer = replicate 18 255 }) } ∷
     record { given = pictured (freshOf (shaped 9 1 1)) 20; wanted = Fills (record { answer = Filled.Refused Corrupt; buffer = replicate 20 255 }) } ∷
     record {
-      given = pictured shared 77;
+      given = pictured sharing 77;
       wanted = Fills (record { answer = Filled.Length 76; buffer = recorded 0 0 6 ++ recorded 1 0 7 ++ recorded 1 0 8 ++ recorded 0 1 5 ++ (255 ∷ []) });
     } ∷
     []
