@@ -19,13 +19,14 @@ use Rattle.machine.specs.Demand3.{Demand3, begun, operations}
 use Rattle.machine.specs.Places.{PlacesKept}
 use Rattle.machine.specs.Completion.{AlwaysSettles, SettleBound}
 use Rattle.machine.specs.Sized.{Sized}
-use Rattle.machine.specs.PictureOrder.{InOrder, SamePictures}
+use Rattle.machine.specs.PictureOrder.{PictureInOrder, OneOrder, SamePictures}
 pub use Rattle.machine.proofs.Table.{cases}
 use Rattle.words.specs.declared.Shape.{Shape}
 use Rattle.machine.specs.Potential.{ExactSteps}
 use Rattle.machine.proofs.settle.Falls.{steps-exact}
 use Rattle.machine.proofs.settle.FallsSettle.{startAt, settle-count, repeat-ends, repeat-same}
 use Rattle.machine.proofs.places.PlacesCalls.{places-kept}
+use Rattle.machine.proofs.pictures.OneOrder.{one-order}
 use Rattle.machine.proofs.pictures.PictureOrder.{in-order, same-pictures}
 use Rattle.machine.proofs.store.OrderOfMemory.{order-of-memory}
 use Rattle.machine.proofs.settle.LiveSettle.{always-settles, all-complete}
@@ -58,12 +59,16 @@ demand-3 = order-of-memory
 pub places-never-wrap : (s : Store) → corruptOf s ≡ false → Sized s → (c : Call) → PlacesKept s c
 places-never-wrap = places-kept
 
--- 02, W2: the picture of a store that is not corrupt. Its records are sorted by block, then by lane, then by line; they are of valid lines alone, and each valid line
--- has exactly one (`InOrder`, specs/PictureOrder.antt).
-pub picture-in-order : (s : Store) → corruptOf s ≡ false → InOrder s
+-- 02, W2: the bytes of a picture that isn't refused. Its records are sorted by block, then by lane, then by line; they are of valid lines alone, and each valid
+-- line has exactly one (`InOrder`, specs/PictureOrder.antt).
+pub picture-in-order : PictureInOrder
 picture-in-order = in-order
 
--- .. and two pictures of one store are the same file, whatever stood in the lent buffers.
+-- .. no free order is left: only one list of bytes is so of each store,
+pub no-free-order : OneOrder
+no-free-order = one-order
+
+-- .. and so two pictures of one store are the same file, whatever stood in the lent buffers.
 pub pictures-same : SamePictures
 pictures-same = same-pictures
 

@@ -1,5 +1,6 @@
--- Laws of tests, lists, sums and updates, and of a use order.
+-- Laws of tests, lines, lists, sums and updates, and of a use order.
 pub mod Tests
+pub mod Lines
 pub mod Sets
 pub mod Counts
 pub mod Sums

@@ -581,9 +581,9 @@ pictured s size = Fills (pictureOf s (replicate size 255))
 abbrev pub stored : Store
 stored = after (opened 2 1 1) (store 1 2 258 ∷ serve 1 ∷ deliver 1 ∷ [])
 
--- a store with a block in both lanes and in two lines of a lane, below a block of a lower line, and with lines between them that are not valid
+-- a store with block 0 in both lanes and in two lines of lane 0, of which the second was used before the first; with lines that are not valid, and valid ones past line c and lane n
 abbrev pub sharing : Store
-sharing = copied 0 0 1 5 (copied 0 2 0 6 (copied 1 0 0 7 (copied 1 1 0 8 (opened 2 3 2))))
+sharing = copied 0 0 0 5 (copied 0 1 0 6 (copied 1 0 0 7 (copied 0 2 1 8 (copied 0 3 0 9 (copied 2 0 0 10 (ordered 1 0 (opened 2 3 2)))))))
 
 -- a record: lane, block and the first word, which has one byte
 abbrev pub recorded : ℕ → ℕ → ℕ → List ℕ
@@ -603,7 +603,7 @@ pictures =
     record { given = pictured (freshOf (shaped 9 1 1)) 20; wanted = Fills (record { answer = Filled.Refused Corrupt; buffer = replicate 20 255 }) } ∷
     record {
       given = pictured sharing 77;
-      wanted = Fills (record { answer = Filled.Length 76; buffer = recorded 0 0 6 ++ recorded 1 0 7 ++ recorded 1 0 8 ++ recorded 0 1 5 ++ (255 ∷ []) });
+      wanted = Fills (record { answer = Filled.Length 76; buffer = recorded 0 0 5 ++ recorded 0 0 6 ++ recorded 1 0 7 ++ recorded 0 1 8 ++ (255 ∷ []) });
     } ∷
     []
 

@@ -9,7 +9,6 @@ use mathlib.Core.Path.{_≡_, refl, sym, ap, _∙_}
 use mathlib.Core.List.{List, [], _++_, append-nil}
 use lib.ListN.{length, take, drop, getD, length-append, length-drop, drop-of-length-le}
 use lib.Seq.{take-all, drop-drop}
-use borrow.Author.Tests.{eq-eqb, ne-eqb}
 use Rattle.words.specs.declared.Line.{Line}
 use Rattle.words.specs.Lines.{noLine, holdsOf}
 use Rattle.words.specs.Folds.{sumTo, gatherTo}
@@ -18,6 +17,7 @@ use Rattle.store.specs.declared.Store.{Store}
 use Rattle.store.specs.Stores.{laneAt}
 use Rattle.machine.specs.Picture.{recordBytes, pictureBytes}
 use Rattle.machine.proofs.laws.Tests.{on}
+use Rattle.machine.proofs.laws.Lines.{valid-holds, invalid-holds, other-holds}
 use Rattle.machine.proofs.laws.Sums.{sum-same, zero-sum, sum-grown, sum-swap, sum-times, sum-only}
 use Rattle.machine.proofs.bounds.Sound.{Sound}
 use Rattle.buffers.specs.Written.{written}
@@ -42,7 +42,7 @@ gather-least f k (suc n) h = go (eq-or-lt-of-le h) (λ l. gather-least f k n l)
     go (inl q) r = rw q (omega arith)
     go (inr q) r = let l = r (omega arith) in simp length-append (omega arith)
 
-pub gather-next : (f : ℕ → List ℕ) (k n : ℕ) → k < n → length (gatherTo f k) + length (f k) ≤ length (gatherTo f n)
+gather-next : (f : ℕ → List ℕ) (k n : ℕ) → k < n → length (gatherTo f k) + length (f k) ≤ length (gatherTo f n)
 gather-next f k n h = let l : length (gatherTo f k ++ f k) ≤ length (gatherTo f n) = rw (← gather-more f k) (gather-least f (k + 1) n (omega arith)) in
     omega (arith, length-append (gatherTo f k) (f k))
 
@@ -127,14 +127,16 @@ gather-length f (suc n) = let h = gather-length f n in simp length-append (omega
 line-length : (k m : ℕ) (x : Line) → (x .valid ≡ true → x .block .0 < m) → sumTo (λ a. length (lineRecord a k x)) m ≡ cond (x .valid) 19 0
 line-length k m x h = on (x .valid)
     (λ v. let e : cond (x .valid) 19 0 ≡ 19 = rw v in
-    sum-only (λ a. length (lineRecord a k x)) m (x .block .0) (h v) (λ a n. ap length (line-other a k x (rw (v, ne-eqb (x .block .0) a (λ q. n (sym q)))))) ∙
-    (holds-length (x .block .0) k x (rw (v, eq-eqb (x .block .0) (x .block .0) refl)) ∙ sym e))
-    (λ v. let e : cond (x .valid) 19 0 ≡ 0 = rw v in zero-sum (λ a. length (lineRecord a k x)) m (λ a _. ap length (line-other a k x (rw v))) ∙ sym e)
+    sum-only (λ a. length (lineRecord a k x)) m (x .block .0) (h v) (λ a n. ap length (line-other a k x (other-holds x (record { 0 = a }) (λ q. n (sym q))))) ∙
+    (holds-length (x .block .0) k x (valid-holds x (x .block) v refl) ∙ sym e))
+    (λ v. let e : cond (x .valid) 19 0 ≡ 0 = rw v in
+    zero-sum (λ a. length (lineRecord a k x)) m (λ a _. ap length (line-other a k x (invalid-holds x (record { 0 = a }) v))) ∙ sym e)
 
--- .. so the picture has 19 for each valid line
+-- the bytes that line i of lane k has among block a's
 abbrev sizeAt : Store → ℕ → ℕ → ℕ → ℕ
 sizeAt s a k i = length (lineRecord a k (getD (laneAt s k .lines) i noLine))
 
+-- .. so a lane has 19 for each valid line
 lane-length : (s : Store) → Sound s → (k : ℕ) → k < s .shape .n → sumTo (λ a. sumTo (sizeAt s a k) (s .shape .c)) (s .shape .m) ≡ 19 * validAt s k
 lane-length s g k h =
     let sizes : ℕ → ℕ = λ i. cond (getD (laneAt s k .lines) i noLine .valid) 19 0 in
@@ -148,6 +150,7 @@ lane-length s g k h =
 block-length : (s : Store) (a : ℕ) → length (blockRecords s a) ≡ sumTo (λ k. sumTo (sizeAt s a k) (s .shape .c)) (s .shape .n)
 block-length s a = gather-length (recordsAt s a) (s .shape .n) ∙ sum-same _ _ (s .shape .n) (λ k _. gather-length _ (s .shape .c))
 
+-- .. and the picture
 pub picture-length : (s : Store) → Sound s → length (pictureBytes s) ≡ 19 * validOf s
 picture-length s g =
     ap length (picture-blocks s) ∙ (gather-length (blockRecords s) (s .shape .m) ∙

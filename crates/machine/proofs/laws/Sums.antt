@@ -78,7 +78,7 @@ sum-grown f g p u (suc n) e =
     omega arith
 
 -- a sum of sums, and sums over two numbers in either order
-pub sum-plus : (f g : ℕ → ℕ) (n : ℕ) → sumTo (λ j. f j + g j) n ≡ sumTo f n + sumTo g n
+sum-plus : (f g : ℕ → ℕ) (n : ℕ) → sumTo (λ j. f j + g j) n ≡ sumTo f n + sumTo g n
 unfolding sumTo
 sum-plus f g zero = refl
 sum-plus f g (suc n) = let a = sum-plus f g n in omega arith

@@ -7,7 +7,7 @@ use mathlib.Core.Bool.{Bool, true, false, not, cond}
 use mathlib.Core.List.{List}
 use lib.ListN.{length, getD, set}
 use lib.Seq.{getD-set-same, getD-set-other}
-use borrow.Author.Tests.{not-true, eqb-true, eq-eqb, ne-eqb}
+use borrow.Author.Tests.{not-true}
 use native.Mathlib.Omega.{arith}
 use Rattle.words.specs.declared.LineNo.{LineNo}
 use Rattle.words.specs.declared.BlockNo.{BlockNo}
@@ -19,6 +19,7 @@ use Rattle.lanes.specs.declared.Found.the-variants.{At, Nothing}
 use Rattle.lanes.specs.Search.{lineAt, firstFrom, searchOf, vacantOf}
 use Rattle.lanes.proofs.Firsts.{first-bound, first-passes}
 use Rattle.machine.proofs.laws.Tests.{on}
+use Rattle.machine.proofs.laws.Lines.{holds-valid, valid-holds}
 use Rattle.machine.proofs.laws.Sets.{same?}
 use Rattle.machine.proofs.bounds.KeepsLane.{clash}
 use Rattle.machine.proofs.bounds.KeepsDeliver.{found-below}
@@ -34,19 +35,6 @@ Unique c l =
 -- a block's number is all of it
 pub same-block : (a b : BlockNo) → a .0 ≡ b .0 → a ≡ b
 same-block a b e = λ i. record { 0 = e i }
-
--- a line that holds a block is valid with it, and the other way round
-pub holds-valid : (x : Line) (a : BlockNo) → holdsOf x a ≡ true → (x .valid ≡ true) × (x .block .0 ≡ a .0)
-holds-valid x a e = on (x .valid) (λ v. (v, eqb-true _ _ (rw v at e))) (λ v. clash (cc (rw v at e)))
-
-pub valid-holds : (x : Line) (a : BlockNo) → x .valid ≡ true → x .block .0 ≡ a .0 → holdsOf x a ≡ true
-valid-holds x a v e = rw (v, eq-eqb (x .block .0) (a .0) e)
-
-pub invalid-holds : (x : Line) (a : BlockNo) → x .valid ≡ false → holdsOf x a ≡ false
-invalid-holds x a v = rw v
-
-pub other-holds : (x : Line) (a : BlockNo) → x .block .0 ≢ a .0 → holdsOf x a ≡ false
-other-holds x a n = on (x .valid) (λ v. rw (v, ne-eqb (x .block .0) (a .0) n)) (λ v. rw v)
 
 -- no line passes the test
 first-none-of : (p : Line → Bool) (ls : List Line) (n k : ℕ) → ((j : ℕ) → k ≤ j → j < k + n → p (getD ls j noLine) ≡ false) → firstFrom p ls n k ≡ Nothing

@@ -46,7 +46,8 @@ use Rattle.machine.proofs.bounds.KeepsBegin.{all-valid}
 use Rattle.machine.proofs.protocol.BlockState.{Status, Invalid, Shared, Modified, held, dirty, Seen, keepIf, returnAbout, downAbout, waitingOn, seen, valueDone}
 use Rattle.machine.proofs.protocol.Moves.{hitSeen, waitSeen, evictSeen, ejection}
 use Rattle.machine.proofs.projection.Queued.{queuedReturns, queuedDowns, push-returns, keep-join}
-use Rattle.machine.proofs.projection.Searches.{Unique, Changed, set-changed, Alone, replace-alone, SameLine, unique-changed, changed-found, changed-gone, changed-other, holds-valid, valid-holds, other-holds, found-holds, none-holds, search-at}
+use Rattle.machine.proofs.laws.Lines.{holds-valid, valid-holds, other-holds}
+use Rattle.machine.proofs.projection.Searches.{Unique, Changed, set-changed, Alone, replace-alone, SameLine, unique-changed, changed-found, changed-gone, changed-other, found-holds, none-holds, search-at}
 
 -- what block a sees of a lane whose line of it is x, and of one that has no line of it
 abbrev pub heldAs : BlockNo → Line → Lane → Seen

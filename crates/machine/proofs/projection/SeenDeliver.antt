@@ -46,7 +46,8 @@ use Rattle.machine.proofs.bounds.KeepsLane.{clash}
 use Rattle.machine.proofs.protocol.BlockState.{Status, Invalid, Shared, Modified, held, Seen, keepIf, returnAbout, downAbout, statusAt, wordsAt, waitingOn, seen, wordsDone, valueDone}
 use Rattle.machine.proofs.protocol.Moves.{answerSeen, updateSeen, purgeSeen, grantSeen}
 use Rattle.machine.proofs.projection.Queued.{queuedReturns, queuedDowns, take-downs, keep-head, keep-tail}
-use Rattle.machine.proofs.projection.Searches.{Unique, Changed, set-changed, Alone, replace-alone, fill-alone, SameLine, unique-changed, changed-found, changed-gone, changed-other, holds-valid, valid-holds, invalid-holds, other-holds, found-holds, vacant-invalid}
+use Rattle.machine.proofs.laws.Lines.{holds-valid, valid-holds, invalid-holds, other-holds}
+use Rattle.machine.proofs.projection.Searches.{Unique, Changed, set-changed, Alone, replace-alone, fill-alone, SameLine, unique-changed, changed-found, changed-gone, changed-other, found-holds, vacant-invalid}
 use Rattle.machine.proofs.projection.SeenBegin.{held-line, seen-held, seen-none, seen-same, waiting-here, waiting-other, push-room, returns-here, returns-other, complete-unique, complete-here, complete-others, RefusedCase}
 
 -- the block of the head of a lane's down queue, and the queue after it has left

@@ -49,7 +49,8 @@ use Rattle.machine.specs.Sized.{LaneSized}
 use Rattle.machine.proofs.laws.Tests.{on}
 use Rattle.machine.proofs.laws.Sets.{set-cases}
 use Rattle.machine.proofs.projection.Queued.{queuedReturns, push-returns}
-use Rattle.machine.proofs.projection.Searches.{holds-valid, found-holds, vacant-invalid}
+use Rattle.machine.proofs.laws.Lines.{holds-valid}
+use Rattle.machine.proofs.projection.Searches.{found-holds, vacant-invalid}
 use Rattle.machine.proofs.projection.SeenBegin.{evicted, push-room}
 use Rattle.machine.proofs.settle.Live.{ejectCount, hasRoom, LaneLive}
 

@@ -28,7 +28,8 @@ use Rattle.machine.proofs.bounds.SizedKeeps.{open-sized}
 use Rattle.machine.proofs.protocol.BlockState.{Invalid, seen, blockNo, project}
 use Rattle.machine.proofs.protocol.Invariant.{Inv}
 use Rattle.machine.proofs.protocol.BlockQuiet.{Blank, blank-inv}
-use Rattle.machine.proofs.projection.Searches.{Unique, search-none, invalid-holds}
+use Rattle.machine.proofs.laws.Lines.{invalid-holds}
+use Rattle.machine.proofs.projection.Searches.{Unique, search-none}
 use Rattle.machine.proofs.store.Consistent.{Consistent, pendingOf, pendingIn}
 
 -- what holds of the blank lane and of none holds of each lane of an opening

@@ -33,7 +33,8 @@ use Rattle.machine.proofs.list.Owes.{Rests}
 use Rattle.machine.proofs.protocol.BlockState.{Status, Invalid, Shared, Modified, held, dirty, statusAt, wordsAt, seen, blockNo, project}
 use Rattle.machine.proofs.protocol.Invariant.{Inv, viewOf}
 use Rattle.machine.proofs.protocol.BlockQuiet.{quiet-view}
-use Rattle.machine.proofs.projection.Searches.{found-holds, search-at, holds-valid, valid-holds}
+use Rattle.machine.proofs.laws.Lines.{holds-valid, valid-holds}
+use Rattle.machine.proofs.projection.Searches.{found-holds, search-at}
 use Rattle.machine.proofs.projection.SeenBegin.{held-line}
 use Rattle.machine.proofs.store.Consistent.{Consistent, pendingIn}
 use Rattle.machine.proofs.rules.Rules.{idle-waiting}
