@@ -133,9 +133,9 @@ times-none : (k i : ℕ) (f : ℕ → List Copy) (n : ℕ) → ((l : ℕ) → ti
 times-none k i f n e = times-gather k i f n ∙ zero-sum (λ l. timesIn k i (f l)) n (λ l _. e l)
 
 -- a line's copy is of that line, and of its block, alone
-line-other : (s : Store) (k i a l j : ℕ) → (eqb l k && eqb j i) ≡ false → timesIn k i (lineCopies s a l j) ≡ 0
+line-apart : (s : Store) (k i a l j : ℕ) → (eqb l k && eqb j i) ≡ false → timesIn k i (lineCopies s a l j) ≡ 0
 unfolding timesIn
-line-other s k i a l j e = by-cond (λ xs. timesIn k i xs ≡ 0) (holdsOf (lineIn s l j) (record { 0 = a })) _ _ (rw e) refl
+line-apart s k i a l j e = by-cond (λ xs. timesIn k i xs ≡ 0) (holdsOf (lineIn s l j) (record { 0 = a })) _ _ (rw e) refl
 
 line-elsewhere : (s : Store) (k i a l j : ℕ) → holdsOf (lineIn s l j) (record { 0 = a }) ≡ false → timesIn k i (lineCopies s a l j) ≡ 0
 unfolding timesIn
@@ -155,10 +155,10 @@ valid-once s k i h l v b =
     (times-one k i (lineCopies s a k) (s .shape .c) i l (line-none a) ∙ line-once s k i a (valid-holds (lineIn s k i) (record { 0 = a }) v refl)))
   where
     line-none : (a j : ℕ) → j ≢ i → timesIn k i (lineCopies s a k j) ≡ 0
-    line-none a j n = line-other s k i a k j (rw (eq-eqb k k refl, ne-eqb j i n))
+    line-none a j n = line-apart s k i a k j (rw (eq-eqb k k refl, ne-eqb j i n))
 
     lane-none : (a j : ℕ) → j ≢ k → timesIn k i (laneCopies s a j) ≡ 0
-    lane-none a j n = times-none k i (lineCopies s a j) (s .shape .c) (λ p. line-other s k i a j p (rw (ne-eqb j k n)))
+    lane-none a j n = times-none k i (lineCopies s a j) (s .shape .c) (λ p. line-apart s k i a j p (rw (ne-eqb j k n)))
 
     own-none : (a : ℕ) → a ≢ lineIn s k i .block .0 → (p : ℕ) → (p ≡ i) ⊎ (p ≢ i) → timesIn k i (lineCopies s a k p) ≡ 0
     own-none a n p (inl e) = line-elsewhere s k i a k p (rw e (other-holds (lineIn s k i) (record { 0 = a }) (λ q. n (sym q))))

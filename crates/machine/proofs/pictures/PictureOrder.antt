@@ -18,12 +18,12 @@ use Rattle.machine.proofs.pictures.Copies.{bytes-in-order}
 use Rattle.machine.proofs.pictures.OneOrder.{one-order}
 
 -- a picture that isn't refused is of a store that is not corrupt, begins with these bytes and gives their length
-record Given (s : Store) (l : ℕ) (buffer : List ℕ) : Type 0 where
+record Pictured (s : Store) (l : ℕ) (buffer : List ℕ) : Type 0 where
   sound : corruptOf s ≡ false
   size : l ≡ length (pictureBytes s)
   bytes : take l buffer ≡ pictureBytes s
 
-picture-given : (s : Store) (b : List ℕ) (l : ℕ) → pictureOf s b .answer ≡ Length l → Given s l (pictureOf s b .buffer)
+picture-given : (s : Store) (b : List ℕ) (l : ℕ) → pictureOf s b .answer ≡ Length l → Pictured s l (pictureOf s b .buffer)
 unfolding pictureOf
 picture-given s b l = pick P (corruptOf s) _ _ (λ _ e. clash (cc))
     (λ g. by-cond P (ltb (length b) (length p)) _ _ (λ e. clash (cc))
@@ -33,7 +33,7 @@ picture-given s b l = pick P (corruptOf s) _ _ (λ _ e. clash (cc))
     p = pictureBytes s
 
     P : Filling → Type 0
-    P x = x .answer ≡ Length l → Given s l (x .buffer)
+    P x = x .answer ≡ Length l → Pictured s l (x .buffer)
 
 pub in-order : PictureInOrder
 in-order s b l e = let g = picture-given s b l e in rw (g .bytes) (bytes-in-order s (g .sound))
