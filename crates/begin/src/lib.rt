@@ -5,7 +5,7 @@ ghost use mathlib.Core.Path.{_≡_};
 ghost use Prim.Native.Nat.{_≤_, _<_};
 ghost use Rattle.lanes.specs.UseOrder.{placeAt};
 ghost use Rattle.machine.specs.Change.{refuseLane, refusedIn};
-ghost use Rattle.machine.specs.Begin.{complete, waits, hit, readOf, ejectOf, evict, miss, beginLane};
+ghost use Rattle.machine.specs.Begin.{completeWith, complete, waits, hit, readOf, ejectOf, evict, miss, beginLane};
 use answers::Refusal;
 use lanes::Command;
 use lanes::Found;
@@ -43,14 +43,12 @@ pub fn refused(a: LaneAnswer) -> bool
     }
 }
 
-// The operation is done on line x, which comes to stand at i: a use of that line, and the lane waits no more.
-pub fn complete(l: Lane, c: u8, i: LineNo, x: Line, op: Op, w: WordNo) -> LaneStep
-    requires { ⌜ (c ≤ 8) × (i .0 < 8) ⌝ }
-    ensures { λ r. ⌜ r ≡ complete c i x op w l ⌝ }
+// The operation is done on line x, which comes to stand at i; the lane waits no more, and its use order is another.
+pub fn complete_with(l: Lane, order: [LineNo; 8], i: LineNo, x: Line, op: Op, w: WordNo) -> LaneStep
+    requires { ⌜ i .0 < 8 ⌝ }
+    ensures { λ r. ⌜ r ≡ completeWith order i x op w l ⌝ }
 {
     let p = x.perform(op, w);
-    let former = l.order;
-    let order = lanes::used(former, c, i);
     let v = p.value;
     let j = i.0 as usize;
     let y = p.line;
@@ -62,6 +60,16 @@ pub fn complete(l: Lane, c: u8, i: LineNo, x: Line, op: Op, w: WordNo) -> LaneSt
         answer: LaneAnswer::Value(v),
         lane: u,
     }
+}
+
+// .. a use of that line.
+pub fn complete(l: Lane, c: u8, i: LineNo, x: Line, op: Op, w: WordNo) -> LaneStep
+    requires { ⌜ (c ≤ 8) × (i .0 < 8) ⌝ }
+    ensures { λ r. ⌜ r ≡ complete c i x op w l ⌝ }
+{
+    let former = l.order;
+    let order = lanes::used(former, c, i);
+    complete_with(l, order, i, x, op, w)
 }
 
 // The lane waits with a command.

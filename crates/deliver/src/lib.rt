@@ -4,6 +4,7 @@
 ghost use mathlib.Core.Path.{_≡_};
 ghost use Prim.Native.Nat.{_≤_};
 ghost use Rattle.lanes.specs.Search.{searchOf, vacantOf};
+ghost use Rattle.lanes.specs.UseOrder.{LoadsOldest};
 ghost use Rattle.machine.specs.Deliver.{reply, updateAt, purgedOf, purgeAt, claimed, fillAt, grantAt, bareAt, servedOn, grantTo, bareTo, deliverKind, deliverLane};
 use answers::Refusal;
 use lanes::Found;
@@ -103,7 +104,7 @@ fn claim(x: Line, op: Op) -> Line
 // A grant's words come into the lowest-numbered line that is not valid.
 fn fill(l: Lane, c: u8, m: DownMessage, o: Operation) -> LaneStep
     requires { ⌜ c ≤ 8 ⌝ }
-    ensures { λ r. ⌜ r ≡ fillAt (vacantOf l c) c m o l ⌝ }
+    ensures { λ r. ⌜ r ≡ fillAt LoadsOldest (vacantOf l c) c m o l ⌝ }
 {
     let Found::At(i) = l.vacant(c) else {
         return begin::refuse(l, Refusal::Unexpected);
@@ -118,14 +119,16 @@ fn fill(l: Lane, c: u8, m: DownMessage, o: Operation) -> LaneStep
     };
     let op = o.op;
     let w = o.word;
+    let former = l.order;
+    let order = lanes::inserted(former, c, i, op);
     let filled = claim(x, op);
-    begin::complete(l, c, i, filled, op, w)
+    begin::complete_with(l, order, i, filled, op, w)
 }
 
 // A grant with words, for operation o.
 fn grant(l: Lane, c: u8, m: DownMessage, o: Operation) -> LaneStep
     requires { ⌜ c ≤ 8 ⌝ }
-    ensures { λ r. ⌜ r ≡ grantAt (searchOf l c (m .block)) c m o l ⌝ }
+    ensures { λ r. ⌜ r ≡ grantAt LoadsOldest (searchOf l c (m .block)) c m o l ⌝ }
 {
     let a = m.block;
     let Found::At(_) = l.search(c, a) else {
@@ -171,7 +174,7 @@ fn served_on(x: Waiting, a: BlockNo) -> Ready
 // A grant with words.
 fn grant_to(l: Lane, c: u8, m: DownMessage) -> LaneStep
     requires { ⌜ c ≤ 8 ⌝ }
-    ensures { λ r. ⌜ r ≡ grantTo (servedOn (l .waiting) (m .block)) c m l ⌝ }
+    ensures { λ r. ⌜ r ≡ grantTo LoadsOldest (servedOn (l .waiting) (m .block)) c m l ⌝ }
 {
     let waiting = l.waiting;
     let a = m.block;
@@ -197,7 +200,7 @@ fn bare_to(l: Lane, c: u8, m: DownMessage) -> LaneStep
 // What a message does in a lane that has taken it.
 fn receive(l: Lane, c: u8, m: DownMessage) -> LaneStep
     requires { ⌜ c ≤ 8 ⌝ }
-    ensures { λ r. ⌜ r ≡ deliverKind (m .kind) c m l ⌝ }
+    ensures { λ r. ⌜ r ≡ deliverKind LoadsOldest (m .kind) c m l ⌝ }
 {
     let kind = m.kind;
     let a = m.block;
@@ -212,7 +215,7 @@ fn receive(l: Lane, c: u8, m: DownMessage) -> LaneStep
 // The lane's part of deliver. A refused message stays in its queue.
 pub fn deliver_lane(l: Lane, c: u8) -> LaneStep
     requires { ⌜ c ≤ 8 ⌝ }
-    ensures { λ r. ⌜ r ≡ deliverLane c l ⌝ }
+    ensures { λ r. ⌜ r ≡ deliverLane LoadsOldest c l ⌝ }
 {
     let downs = l.downs;
     if downs.len == 0 {

@@ -4,7 +4,7 @@ ghost use mathlib.Core.Path.{_≡_};
 ghost use Prim.Native.Nat.{_≤_, _<_};
 ghost use Rattle.lanes.specs.Lanes.{withWaiting};
 ghost use Rattle.lanes.specs.Search.{searchOf, vacantOf};
-ghost use Rattle.lanes.specs.UseOrder.{carryOf, usedOf};
+ghost use Rattle.lanes.specs.UseOrder.{LoadsOldest, carryOf, usedOf, oldestOf, insertedOf};
 ghost use Rattle.lanes.specs.Waits.{idleOf, unservedOf};
 use queues::DownQueue;
 use queues::ReturnQueue;
@@ -118,17 +118,17 @@ impl Lane {
     }
 }
 
-// Places k and k + 1 of a use order change over where place k names line i.
-fn carry(o: [LineNo; 8], k: usize, i: LineNo) -> [LineNo; 8]
-    requires { ⌜ k < 7 ⌝ }
-    ensures { λ r. ⌜ r ≡ carryOf i k o ⌝ }
+// Places k and k + 1 of a use order change over where place j names line i.
+fn carry(o: [LineNo; 8], j: usize, k: usize, i: LineNo) -> [LineNo; 8]
+    requires { ⌜ (j < 8) × (k < 7) ⌝ }
+    ensures { λ r. ⌜ r ≡ carryOf i j k o ⌝ }
 {
-    let x = o[k];
+    let x = o[j];
     if x.0 == i.0 {
-        let j = k + 1;
+        let next = k + 1;
         let mut t = o;
-        t[k] = o[j];
-        t[j] = x;
+        t[k] = o[next];
+        t[next] = o[k];
         return t;
     }
     o
@@ -143,9 +143,36 @@ pub fn used(order: [LineNo; 8], c: u8, i: LineNo) -> [LineNo; 8]
     let mut o = order;
     let mut k: usize = 0;
     while k + 1 < n {
-        let t = carry(o, k, i);
+        let t = carry(o, k, k, i);
         o = t;
         k += 1;
     }
     o
+}
+
+// The use order of c lines after line i went in as the oldest.
+fn oldest(order: [LineNo; 8], c: u8, i: LineNo) -> [LineNo; 8]
+    requires { ⌜ c ≤ 8 ⌝ }
+    ensures { λ r. ⌜ r ≡ oldestOf c i order ⌝ }
+{
+    let mut o = order;
+    let mut j = c as usize;
+    while 1 < j {
+        j -= 1;
+        let k = j - 1;
+        let t = carry(o, j, k, i);
+        o = t;
+    }
+    o
+}
+
+// The use order of c lines after line i was filled for an operation.
+pub fn inserted(order: [LineNo; 8], c: u8, i: LineNo, op: Op) -> [LineNo; 8]
+    requires { ⌜ c ≤ 8 ⌝ }
+    ensures { λ r. ⌜ r ≡ insertedOf LoadsOldest op c i order ⌝ }
+{
+    if op.is_load() {
+        return oldest(order, c, i);
+    }
+    used(order, c, i)
 }

@@ -8,6 +8,7 @@ use mathlib.Core.Path.{_≡_}
 use mathlib.Core.Bool.{true, false}
 use mathlib.Core.List.{List, [], _∷_, _++_, List·Memᴰ}
 use native.Mathlib.Omega.{arith}
+use Rattle.lanes.specs.UseOrder.{Insertion}
 use Rattle.answers.specs.declared.Answer.the-variants.{Opened}
 use Rattle.store.specs.declared.Store.{Store}
 use Rattle.store.specs.Opening.{openOf}
@@ -56,7 +57,7 @@ demand-3 = order-of-memory
 -- 02, W1, call by call, on every store that 14 passes, be it one that no opening gives; its arrays have their declared lengths, as every store of the
 -- program has. Completions have the next places, and completions so far plus operations waiting stay in 32 bits, so that no place wraps
 -- (`PlacesKept`, specs/Places.antt).
-pub places-never-wrap : (s : Store) → corruptOf s ≡ false → Sized s → (c : Call) → PlacesKept s c
+pub places-never-wrap : (ins : Insertion) (s : Store) → corruptOf s ≡ false → Sized s → (c : Call) → PlacesKept ins s c
 places-never-wrap = places-kept
 
 -- 02, W2: the bytes of a picture that isn't refused. Its records are sorted by block, then by lane, then by line; they are of valid lines alone, and each valid
@@ -78,9 +79,9 @@ pub settle-succeeds : AlwaysSettles
 settle-succeeds = always-settles
 
 -- .. so that every operation that was begun completes: after any list of calls and one settle there is none that has not.
-pub begun-completes : (shape : Shape) (calls : List Call) → openOf shape .answer ≡ Opened → (b : Begun) →
-    List·Memᴰ b (begun (run (openOf shape .store) (calls ++ (Settle ∷ [])) .history)) →
-    List·Memᴰ b (operations (run (openOf shape .store) (calls ++ (Settle ∷ [])) .history))
+pub begun-completes : (ins : Insertion) (shape : Shape) (calls : List Call) → openOf shape .answer ≡ Opened → (b : Begun) →
+    List·Memᴰ b (begun (run ins (openOf shape .store) (calls ++ (Settle ∷ [])) .history)) →
+    List·Memᴰ b (operations (run ins (openOf shape .store) (calls ++ (Settle ∷ [])) .history))
 begun-completes = all-complete
 
 -- 01's bound: the count of a settle that isn't refused is at most R + G + 2 × Q + S + 2 × n × U (`boundOf`, specs/Settle.antt), on every
@@ -91,13 +92,13 @@ settle-bound = settle-count
 
 -- To the exact step: each deliver, return and serve that isn't refused takes 1 from R + G + 2 × Q + S + 2 × U, and each order that a serve
 -- sends adds 2 (`ExactSteps`, specs/Potential.antt). The bound follows, since a serve's orders are fewer than the lanes.
-pub settle-step-exact : (s : Store) → corruptOf s ≡ false → Sized s → ExactSteps s
+pub settle-step-exact : (ins : Insertion) (s : Store) → corruptOf s ≡ false → Sized s → ExactSteps ins s
 settle-step-exact = steps-exact
 
 -- "Settle repeats .. it ends when the store is quiet": the definition repeats boundOf + 1 times at most, and that cuts nothing off. So
 -- many repetitions have ended, with a quiet store or a refused step, and any more give the same.
-pub settle-ends : (s : Store) → corruptOf s ≡ false → Sized s → ended (repeatStep (suc (boundOf s)) (startAt s)) ≡ true
+pub settle-ends : (ins : Insertion) (s : Store) → corruptOf s ≡ false → Sized s → ended (repeatStep ins (suc (boundOf s)) (startAt s)) ≡ true
 settle-ends = repeat-ends
 
-pub settle-not-cut : (more : ℕ) (s : Store) → corruptOf s ≡ false → Sized s → boundOf s < more → repeatStep more (startAt s) ≡ repeatStep (suc (boundOf s)) (startAt s)
-settle-not-cut more s e z h = repeat-same more (suc (boundOf s)) (startAt s) e z h (omega arith)
+pub settle-not-cut : (ins : Insertion) (more : ℕ) (s : Store) → corruptOf s ≡ false → Sized s → boundOf s < more → repeatStep ins more (startAt s) ≡ repeatStep ins (suc (boundOf s)) (startAt s)
+settle-not-cut ins more s e z h = repeat-same ins more (suc (boundOf s)) (startAt s) e z h (omega arith)

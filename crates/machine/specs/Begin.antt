@@ -1,6 +1,7 @@
 -- 01, "Begin": load, store v, exchange v, add v; 02, W1: 17. Assumes nothing.
 use Prim.Native.Nat.{ℕ, _*_}
 use mathlib.Core.Bool.{cond, _||_}
+use mathlib.Core.List.{List}
 use lib.Dec.{leb}
 use Rattle.words.specs.declared.LaneNo.{LaneNo}
 use Rattle.words.specs.declared.LineNo.{LineNo}
@@ -37,17 +38,17 @@ use Rattle.machine.specs.Change.{refuse, refuseLane, guarded, commitLane
 abbrev pub performed : LineNo → Line → Op → WordNo → Lane → Lane
 performed i x op w l = withLine i (performOf x op w .line) l
 
--- a use of line i
-abbrev pub useLine : ℕ → LineNo → Lane → Lane
-useLine c i l = withOrder (usedOf c i (l .order)) l
-
 -- an operation that completes waits no more
 abbrev pub waitsNoMore : Lane → Lane
 waitsNoMore l = withWaiting Idle l
 
--- Completing does the operation on that word of the line, gives the value so got, and is a use of the line
-unfoldable pub complete : ℕ → LineNo → Line → Op → WordNo → Lane → LaneStep
-complete c i x op w l = record { answer = Value (performOf x op w .value); lane = waitsNoMore (useLine c i (performed i x op w l)) }
+-- Completing does the operation on that word of the line and gives the value so got; the use order is o after it
+unfoldable pub completeWith : List LineNo → LineNo → Line → Op → WordNo → Lane → LaneStep
+completeWith o i x op w l = record { answer = Value (performOf x op w .value); lane = waitsNoMore (withOrder o (performed i x op w l)) }
+
+-- .. and is a use of the line
+abbrev pub complete : ℕ → LineNo → Line → Op → WordNo → Lane → LaneStep
+complete c i x op w l = completeWith (usedOf c i (l .order)) i x op w l
 
 -- the lane waits with a command
 abbrev pub waits : Command → Op → WordNo → Lane → LaneStep

@@ -1,9 +1,10 @@
--- The calls of demand 3 and what a list of them gives. Assumes nothing.
+-- The calls of demand 3 and what a list of them gives, under either insertion of a fill (02, W3). Assumes nothing.
 use mathlib.Core.Bool.{Bool, true, false}
 use mathlib.Core.List.{List, [], _∷_}
 use Rattle.words.specs.declared.LaneNo.{LaneNo}
 use Rattle.words.specs.declared.WordNo.{WordNo}
 use Rattle.words.specs.declared.Op.{Op}
+use Rattle.lanes.specs.UseOrder.{Insertion}
 use Rattle.answers.specs.declared.Answer.{Answer}
 use Rattle.answers.specs.declared.Answer.the-variants.{Opened, Done, Wait, Step}
 use Rattle.answers.specs.declared.Completion.{Completion}
@@ -45,12 +46,12 @@ abbrev pub settledCall : Settlement → Called
 settledCall r = record { reply = SettledWith (r .answer) (r .completions); store = r .store }
 
 -- each call gives what its contract says
-unfoldable pub callOf : Store → Call → Called
-callOf s (Begin k op w) = answeredCall (beginOf s k op w)
-callOf s (Serve k) = answeredCall (serveOf s k)
-callOf s (Return k) = answeredCall (returnOf s k)
-callOf s (Deliver k) = answeredCall (deliverOf s k)
-callOf s Settle = settledCall (settleOf s)
+unfoldable pub callOf : Insertion → Store → Call → Called
+callOf ins s (Begin k op w) = answeredCall (beginOf s k op w)
+callOf ins s (Serve k) = answeredCall (serveOf s k)
+callOf ins s (Return k) = answeredCall (returnOf s k)
+callOf ins s (Deliver k) = answeredCall (deliverOf ins s k)
+callOf ins s Settle = settledCall (settleOf ins s)
 
 -- a call with its answer
 pub record Entry : Type 0 where
@@ -63,11 +64,11 @@ pub record Run : Type 0 where
   pub store : Store
 
 -- each call on the store that the last one left, refused ones included
-unfoldable pub run : Store → List Call → Run
-run s [] = record { history = []; store = s }
-run s (c ∷ cs) =
-    let r = callOf s c in
-    let rest = run (r .store) cs in
+unfoldable pub run : Insertion → Store → List Call → Run
+run ins s [] = record { history = []; store = s }
+run ins s (c ∷ cs) =
+    let r = callOf ins s c in
+    let rest = run ins (r .store) cs in
     record { history = record { call = c; reply = r .reply } ∷ rest .history; store = rest .store }
 
 -- a call gives the completions in its answer, settle in the order it lists them; a refused call gives none

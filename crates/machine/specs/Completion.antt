@@ -6,6 +6,7 @@ use mathlib.Core.Path.{_≡_}
 use mathlib.Core.Bool.{true}
 use mathlib.Core.List.{List}
 use Rattle.words.specs.declared.Shape.{Shape}
+use Rattle.lanes.specs.UseOrder.{Insertion}
 use Rattle.answers.specs.declared.Answer.the-variants.{Opened}
 use Rattle.store.specs.declared.Store.{Store}
 use Rattle.store.specs.Opening.{openOf}
@@ -16,15 +17,17 @@ use Rattle.machine.specs.Calls.{Call, run}
 use Rattle.machine.specs.Sized.{Sized}
 
 -- settle answers with its count, and leaves a quiet store
-pub record Settles (s : Store) : Type 0 where
+pub record Settles (ins : Insertion) (s : Store) : Type 0 where
   pub count : ℕ
-  pub answer : settleOf s .answer ≡ Steps count
-  pub quiet : quietOf (settleOf s .store) ≡ true
+  pub answer : settleOf ins s .answer ≡ Steps count
+  pub quiet : quietOf (settleOf ins s .store) ≡ true
 
 -- .. after any list of calls from any opening that isn't refused
 abbrev pub AlwaysSettles : Type 0
-AlwaysSettles = (shape : Shape) (calls : List Call) → openOf shape .answer ≡ Opened → Settles (run (openOf shape .store) calls .store)
+AlwaysSettles =
+    (ins : Insertion) (shape : Shape) (calls : List Call) → openOf shape .answer ≡ Opened →
+    Settles ins (run ins (openOf shape .store) calls .store)
 
 -- The count is at most R + G + 2 × Q + S + 2 × n × U; the store may be one that no opening gives, of arrays with their declared lengths
 abbrev pub SettleBound : Type 0
-SettleBound = (s : Store) → Sized s → (count : ℕ) → settleOf s .answer ≡ Steps count → count ≤ boundOf s
+SettleBound = (ins : Insertion) (s : Store) → Sized s → (count : ℕ) → settleOf ins s .answer ≡ Steps count → count ≤ boundOf s

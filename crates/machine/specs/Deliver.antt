@@ -1,4 +1,4 @@
--- 01, "Deliver k". Assumes nothing.
+-- 01, "Deliver k"; 02, W3: which place a fill gives its line is the first argument of what fills. Assumes nothing.
 use Prim.Native.Nat.{ℕ}
 use mathlib.Core.Bool.{false, not, cond}
 use lib.Dec.{eqb}
@@ -23,6 +23,7 @@ use Rattle.lanes.specs.declared.Waiting.the-variants.{Idle, Unserved, Served}
 use Rattle.lanes.specs.declared.Found.{Found}
 use Rattle.lanes.specs.declared.Found.the-variants.{At, Nothing}
 use Rattle.lanes.specs.Search.{lineAt, searchOf, vacantOf}
+use Rattle.lanes.specs.UseOrder.{Insertion, insertedOf}
 use Rattle.lanes.specs.Lanes.{withReturns, withDowns, withLine}
 use Rattle.answers.specs.declared.Refusal.the-variants.{NothingPending, QueueFull, Unexpected}
 use Rattle.store.specs.declared.Store.{Store}
@@ -33,7 +34,7 @@ use Rattle.machine.specs.declared.LaneStep.{LaneStep}
 use Rattle.machine.specs.declared.Ready.{Ready}
 use Rattle.machine.specs.declared.Ready.the-variants.{Go, No}
 use Rattle.machine.specs.Change.{refuseLane, guarded, commitLane, refusedIn}
-use Rattle.machine.specs.Begin.{complete}
+use Rattle.machine.specs.Begin.{completeWith, complete}
 
 -- an answer joins the lane's return queue; 12 where that is full
 unfoldable pub reply : ReturnMessage → Lane → LaneStep
@@ -65,15 +66,15 @@ abbrev pub claimed : Op → Line → Line
 claimed op x = withPrivate (not (isLoad op)) x
 
 -- A grant with words fills the lowest-numbered line that is not valid, and the operation completes; 16 with no free line
-abbrev pub fillAt : Found → ℕ → DownMessage → Operation → Lane → LaneStep
-fillAt (At i) c x o l =
-    complete c i (claimed (o .op) (filledLine (x .block) (x .words))) (o .op) (o .word) l
-fillAt Nothing c x o l = refuseLane Unexpected l
+abbrev pub fillAt : Insertion → Found → ℕ → DownMessage → Operation → Lane → LaneStep
+fillAt ins (At i) c x o l =
+    completeWith (insertedOf ins (o .op) c i (l .order)) i (claimed (o .op) (filledLine (x .block) (x .words))) (o .op) (o .word) l
+fillAt ins Nothing c x o l = refuseLane Unexpected l
 
 -- 16 for a grant with words on a held block
-abbrev pub grantAt : Found → ℕ → DownMessage → Operation → Lane → LaneStep
-grantAt (At i) c x o l = refuseLane Unexpected l
-grantAt Nothing c x o l = fillAt (vacantOf l c) c x o l
+abbrev pub grantAt : Insertion → Found → ℕ → DownMessage → Operation → Lane → LaneStep
+grantAt ins (At i) c x o l = refuseLane Unexpected l
+grantAt ins Nothing c x o l = fillAt ins (vacantOf l c) c x o l
 
 -- a bare grant uses the held line, and the operation completes; 16 on a block not held
 abbrev pub bareAt : Found → ℕ → Operation → Lane → LaneStep
@@ -86,32 +87,32 @@ servedOn Idle a = No Unexpected
 servedOn (Unserved o) a = No Unexpected
 servedOn (Served o) a = cond (eqb (blockOf (o .word) .0) (a .0)) (Go o) (No Unexpected)
 
-abbrev pub grantTo : Ready → ℕ → DownMessage → Lane → LaneStep
-grantTo (No r) c x l = refuseLane r l
-grantTo (Go o) c x l = grantAt (searchOf l c (x .block)) c x o l
+abbrev pub grantTo : Insertion → Ready → ℕ → DownMessage → Lane → LaneStep
+grantTo ins (No r) c x l = refuseLane r l
+grantTo ins (Go o) c x l = grantAt ins (searchOf l c (x .block)) c x o l
 
 abbrev pub bareTo : Ready → ℕ → DownMessage → Lane → LaneStep
 bareTo (No r) c x l = refuseLane r l
 bareTo (Go o) c x l = bareAt (searchOf l c (x .block)) c o l
 
 -- what a message does in a lane that has taken it
-abbrev pub deliverKind : DownKind → ℕ → DownMessage → Lane → LaneStep
-deliverKind Update c x l = updateAt (searchOf l c (x .block)) (x .block) l
-deliverKind Purge c x l = purgeAt (searchOf l c (x .block)) (x .block) l
-deliverKind Grant c x l = grantTo (servedOn (l .waiting) (x .block)) c x l
-deliverKind BareGrant c x l = bareTo (servedOn (l .waiting) (x .block)) c x l
+abbrev pub deliverKind : Insertion → DownKind → ℕ → DownMessage → Lane → LaneStep
+deliverKind ins Update c x l = updateAt (searchOf l c (x .block)) (x .block) l
+deliverKind ins Purge c x l = purgeAt (searchOf l c (x .block)) (x .block) l
+deliverKind ins Grant c x l = grantTo ins (servedOn (l .waiting) (x .block)) c x l
+deliverKind ins BareGrant c x l = bareTo (servedOn (l .waiting) (x .block)) c x l
 
 -- on a refusal the lane is as it was, with the message still in its queue
 abbrev pub orAsBefore : Lane → LaneStep → LaneStep
 orAsBefore l r = record { answer = r .answer; lane = cond (refusedIn (r .answer)) l (r .lane) }
 
 -- 9; then lane k takes the head of its down queue
-unfoldable pub deliverLane : ℕ → Lane → LaneStep
-deliverLane c l =
+unfoldable pub deliverLane : Insertion → ℕ → Lane → LaneStep
+deliverLane ins c l =
     let x = headDown (l .downs) in
     cond (emptyAt (l .downs .len)) (refuseLane NothingPending l)
-    (orAsBefore l (deliverKind (x .kind) c x (withDowns (takeDown (l .downs) .queue) l)))
+    (orAsBefore l (deliverKind ins (x .kind) c x (withDowns (takeDown (l .downs) .queue) l)))
 
 -- 14, 6, 9, 16, 12
-unfoldable pub deliverOf : Store → LaneNo → Outcome
-deliverOf s k = guarded s k (commitLane s k (deliverLane (s .shape .c) (laneAt s (k .0))))
+unfoldable pub deliverOf : Insertion → Store → LaneNo → Outcome
+deliverOf ins s k = guarded s k (commitLane s k (deliverLane ins (s .shape .c) (laneAt s (k .0))))

@@ -1,5 +1,6 @@
 -- Demand 3, stated: the order of completion is the order of memory. One claim about every list of load, store, exchange, add,
--- serve, return, deliver and settle calls, refused ones included, from any opening that isn't refused.
+-- serve, return, deliver and settle calls, refused ones included, from any opening that isn't refused, under either insertion of a fill
+-- (02, W3; the program's is LoadsOldest).
 -- The supply contract's sentence: a lane reads the last word stored, in every order in which the lanes' messages reach the
 -- controller, and the places of the completions run 1, 2, 3 without a gap. This file only states it; proofs/Theorems.antt has the theorem. Assumes nothing.
 use Prim.Native.Nat.{ℕ, _<_}
@@ -8,6 +9,7 @@ use mathlib.Core.Bool.{true}
 use mathlib.Core.List.{List, [], _∷_, map, List·Memᴰ}
 use lib.ListN.{length}
 use Rattle.words.specs.declared.Shape.{Shape}
+use Rattle.lanes.specs.UseOrder.{Insertion}
 use Rattle.answers.specs.declared.Answer.the-variants.{Opened}
 use Rattle.store.specs.declared.Store.{Store}
 use Rattle.store.specs.Opening.{openOf}
@@ -68,5 +70,5 @@ pub record Coherent (shape : Shape) (h : List Entry) (s : Store) : Type 0 where
 -- demand 3
 abbrev pub Demand3 : Type 0
 Demand3 =
-    (shape : Shape) (calls : List Call) → openOf shape .answer ≡ Opened →
-    Coherent shape (run (openOf shape .store) calls .history) (run (openOf shape .store) calls .store)
+    (ins : Insertion) (shape : Shape) (calls : List Call) → openOf shape .answer ≡ Opened →
+    Coherent shape (run ins (openOf shape .store) calls .history) (run ins (openOf shape .store) calls .store)

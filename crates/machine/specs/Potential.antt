@@ -5,6 +5,7 @@ use mathlib.Core.Path.{_≡_}
 use mathlib.Core.Bool.{false, cond}
 use Rattle.words.specs.declared.LaneNo.{LaneNo}
 use Rattle.words.specs.Units.{blockOf}
+use Rattle.lanes.specs.UseOrder.{Insertion}
 use Rattle.lanes.specs.declared.Waiting.{Waiting}
 use Rattle.lanes.specs.declared.Waiting.the-variants.{Idle, Unserved, Served}
 use Rattle.answers.specs.Refusals.{refusedOf}
@@ -48,8 +49,8 @@ abbrev pub Costs : ℕ → Store → Outcome → Type 0
 Costs orders s r = refusedOf (r .answer) ≡ false → potentialOf (r .store) + 1 ≡ potentialOf s + 2 * orders
 
 -- only a serve sends orders; a step of settle is one of the three
-pub record ExactSteps (s : Store) : Type 0 where
-  pub deliver : (k : LaneNo) → Costs 0 s (deliverOf s k)
+pub record ExactSteps (ins : Insertion) (s : Store) : Type 0 where
+  pub deliver : (k : LaneNo) → Costs 0 s (deliverOf ins s k)
   pub return : (k : LaneNo) → Costs 0 s (returnOf s k)
   pub serve : (k : LaneNo) → Costs (ordersFor s k (laneAt s (k .0) .waiting)) s (serveOf s k)
-  pub step : Costs (sentIn (s .control) (settleStep s .store .control)) s (settleStep s)
+  pub step : Costs (sentIn (s .control) (settleStep ins s .store .control)) s (settleStep ins s)

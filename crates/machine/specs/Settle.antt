@@ -1,4 +1,4 @@
--- 01, "Settle". Assumes nothing.
+-- 01, "Settle"; 02, W3: which place a fill gives its line is the first argument of its steps. Assumes nothing.
 use Prim.Native.Nat.{ℕ, zero, suc, _+_, _*_}
 use mathlib.Core.Bool.{Bool, true, false, not, cond, _||_, _&&_}
 use mathlib.Core.List.{List, [], _++_}
@@ -10,6 +10,7 @@ use Rattle.queues.specs.declared.DownKind.{DownKind}
 use Rattle.queues.specs.declared.DownKind.the-variants.{Update, Purge, Grant, BareGrant}
 use Rattle.queues.specs.declared.DownQueue.{DownQueue}
 use Rattle.queues.specs.Queues.{capacity, noDown}
+use Rattle.lanes.specs.UseOrder.{Insertion}
 use Rattle.lanes.specs.Waits.{unservedOf}
 use Rattle.answers.specs.declared.Answer.{Answer}
 use Rattle.answers.specs.declared.Answer.the-variants.{Opened, Done, Wait, Step}
@@ -36,12 +37,12 @@ abbrev pub lane : ℕ → LaneNo
 lane k = record { 0 = k }
 
 -- deliver to the lowest lane with a filled down queue; else return from the lowest with a filled return queue; else serve the lowest unserved; 16 where there is none of these
-unfoldable pub settleStep : Store → Outcome
-settleStep s =
+unfoldable pub settleStep : Insertion → Store → Outcome
+settleStep ins s =
     let d = lowestTo (λ k. ltb 0 (laneAt s k .downs .len)) (s .shape .n) in
     let r = lowestTo (λ k. ltb 0 (laneAt s k .returns .len)) (s .shape .n) in
     let u = lowestTo (λ k. unservedOf (laneAt s k .waiting)) (s .shape .n) in
-    cond (ltb d (s .shape .n)) (deliverOf s (lane d))
+    cond (ltb d (s .shape .n)) (deliverOf ins s (lane d))
     (cond (ltb r (s .shape .n)) (returnOf s (lane r)) (cond (ltb u (s .shape .n)) (serveOf s (lane u)) (refuse Unexpected s)))
 
 -- R: messages in return queues
@@ -88,9 +89,9 @@ pub record Progress : Type 0 where
   pub store : Store
 
 -- one step more
-unfoldable pub advance : Progress → Progress
-advance p =
-    let r = settleStep (p .store) in
+unfoldable pub advance : Insertion → Progress → Progress
+advance ins p =
+    let r = settleStep ins (p .store) in
     record { count = suc (p .count); completions = p .completions ++ doneIn (r .answer); answer = r .answer; store = r .store }
 
 -- It ends when the store is quiet, or where a step is refused
@@ -98,9 +99,9 @@ unfoldable pub ended : Progress → Bool
 ended p = refusedOf (p .answer) || quietOf (p .store)
 
 -- Settle repeats, here at most the given number of times: boundOf many, and the one that is refused by 16 where the store is stuck
-unfoldable pub repeatStep : ℕ → Progress → Progress
-repeatStep zero p = p
-repeatStep (suc more) p = let r = repeatStep more (advance p) in cond (ended p) p r
+unfoldable pub repeatStep : Insertion → ℕ → Progress → Progress
+repeatStep ins zero p = p
+repeatStep ins (suc more) p = let r = repeatStep ins more (advance ins p) in cond (ended p) p r
 
 -- what settle gives: the step count or the refusal, the completions in order, the store after it
 pub record Settlement : Type 0 where
@@ -127,7 +128,7 @@ unlessRefused Step s r = r
 unlessRefused (Answer.Refused n) s r = refuseSettle n s
 
 -- 14, then the numbers of its steps
-unfoldable pub settleOf : Store → Settlement
-settleOf s =
-    let p = repeatStep (suc (boundOf s)) (record { count = 0; completions = []; answer = Step; store = s }) in
+unfoldable pub settleOf : Insertion → Store → Settlement
+settleOf ins s =
+    let p = repeatStep ins (suc (boundOf s)) (record { count = 0; completions = []; answer = Step; store = s }) in
     cond (corruptOf s) (refuseSettle Corrupt s) (unlessRefused (p .answer) s (reached s p))

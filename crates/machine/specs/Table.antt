@@ -3,7 +3,8 @@
 use Prim.Native.Nat.{ℕ}
 use mathlib.Core.Bool.{Bool, true, false}
 use mathlib.Core.List.{List, [], _∷_, _++_, map}
-use lib.ListN.{replicate, drop}
+use lib.ListN.{length, replicate, drop}
+use Rattle.words.specs.declared.LineNo.{LineNo}
 use Rattle.words.specs.declared.WordNo.{WordNo}
 use Rattle.words.specs.declared.BlockNo.{BlockNo}
 use Rattle.words.specs.declared.Op.the-variants as Op
@@ -19,6 +20,7 @@ use Rattle.lanes.specs.declared.Command.the-variants.{ReadShared, ReadExclusive
 use Rattle.lanes.specs.declared.Operation.{Operation}
 use Rattle.lanes.specs.declared.Waiting.{Waiting}
 use Rattle.lanes.specs.declared.Waiting.the-variants.{Unserved, Served}
+use Rattle.lanes.specs.UseOrder.{Insertion, Newest, LoadsOldest}
 use Rattle.lanes.specs.Lanes.{withWaiting, withReturns, withDowns, withLine, withOrder}
 use Rattle.answers.specs.declared.Answer.{Answer}
 use Rattle.answers.specs.declared.Answer.the-variants.{Opened, Done, Wait, Step, Refused}
@@ -54,7 +56,7 @@ pub data Said : Type 0 where
   refused : ℕ → Said
   settled : ℕ → List Completion → Said
 
--- what a row shows: the answer of an opening with n, c and m of its store, the answers of a list of calls or of a tape, bytes, a word, a number, a flag, or what a lent buffer is filled with
+-- what a row shows: the answer of an opening with n, c and m of its store, the answers of a list of calls or of a tape, bytes, a word, a number, a flag, a use order, or what a lent buffer is filled with
 pub data Shown : Type 0 where
   Opening : Said → ℕ → ℕ → ℕ → Shown
   Says : List Said → Shown
@@ -62,6 +64,7 @@ pub data Shown : Type 0 where
   Word : ℕ → Shown
   Number : ℕ → Shown
   Flag : Bool → Shown
+  Order : List ℕ → Shown
   Fills : Filling → Shown
 
 pub record Row : Type 0 where
@@ -123,9 +126,9 @@ deliver k = Deliver (lane k)
 abbrev pub of : ℕ → ℕ → ℕ → Completion
 of k v p = completionOf (lane k) v p
 
--- the store after a list of calls
+-- the store after a list of calls under the program's insertion of a fill
 abbrev pub after : Store → List Call → Store
-after s cs = run s cs .store
+after s cs = run LoadsOldest s cs .store
 
 -- a call, and what it must say
 pub record Turn : Type 0 where
@@ -136,12 +139,16 @@ infix 90 _says_
 abbrev pub _says_ : Call → Said → Turn
 x says y = record { call = x; says = y }
 
--- a row of calls one after the other
-abbrev pub on : Store → List Turn → Row
-on s ts = record {
-  given = Says (map (λ (e : Entry). said (e .reply)) (run s (map (λ (t : Turn). t .call) ts) .history));
+-- a row of calls one after the other, under an insertion of a fill
+abbrev pub under : Insertion → Store → List Turn → Row
+under ins s ts = record {
+  given = Says (map (λ (e : Entry). said (e .reply)) (run ins s (map (λ (t : Turn). t .call) ts) .history));
   wanted = Says (map (λ (t : Turn). t .says) ts);
 }
+
+-- .. under the program's
+abbrev pub on : Store → List Turn → Row
+on s ts = under LoadsOldest s ts
 
 -- "A whole tape", its bytes
 unfoldable pub wholeTape : List ℕ
@@ -428,18 +435,18 @@ sentences =
     load 0 0 says done 0 0 5 ∷
     load 0 4 says wait ∷
     []) ∷
-    -- a fill is a use too: the line of block 2 was filled last, so block 0 is given up
+    -- a store's fill is a use too: the line of block 2 was filled last, so block 0 is given up
     on (opened 2 2 3)
-    (load 0 0 says wait ∷
-    Settle says settled 2 (of 0 0 1 ∷ []) ∷
-    load 0 4 says wait ∷
-    Settle says settled 2 (of 0 0 2 ∷ []) ∷
-    load 0 0 says done 0 0 3 ∷
-    load 0 8 says wait ∷
-    Settle says settled 3 (of 0 0 4 ∷ []) ∷
-    load 0 4 says wait ∷
-    Settle says settled 3 (of 0 0 5 ∷ []) ∷
-    load 0 8 says done 0 0 6 ∷
+    (store 0 0 1 says wait ∷
+    Settle says settled 2 (of 0 1 1 ∷ []) ∷
+    store 0 4 2 says wait ∷
+    Settle says settled 2 (of 0 2 2 ∷ []) ∷
+    load 0 0 says done 0 1 3 ∷
+    store 0 8 3 says wait ∷
+    Settle says settled 3 (of 0 3 4 ∷ []) ∷
+    store 0 4 4 says wait ∷
+    Settle says settled 3 (of 0 4 5 ∷ []) ∷
+    load 0 8 says done 0 3 6 ∷
     load 0 0 says wait ∷
     []) ∷
     -- the lowest-numbered line that is not valid is filled
@@ -514,7 +521,7 @@ copied k i a w s = withLane s k (withLine (line i) (filledLine (block a) (w ∷ 
 abbrev pub filled : ℕ → ℕ → Store → Store
 filled k a s = copied k 0 a 0 s
 
--- an operation on word w; lane k with something that waits; lane 0 with as many messages in a queue as the number says, with lines i and j first in its
+-- an operation on word w; lane k with something that waits; lane 0 with as many messages in a queue as the number says, with these lines first in its
 -- use order; block 0 with PRESENT for lane k
 abbrev pub operation : ℕ → Operation
 operation w = record { command = ReadShared; op = Op.Load; word = record { 0 = w } }
@@ -528,10 +535,10 @@ returning len s = withLane s 0 (withReturns (record { len = len; at = laneAt s 0
 abbrev pub sending : ℕ → Store → Store
 sending len s = withLane s 0 (withDowns (record { len = len; at = laneAt s 0 .downs .at }) (laneAt s 0))
 
-abbrev pub ordered : ℕ → ℕ → Store → Store
-ordered i j s =
+abbrev pub ordered : List ℕ → Store → Store
+ordered is s =
     let l = laneAt s 0 in
-    withLane s 0 (withOrder (line i ∷ line j ∷ drop 2 (l .order)) l)
+    withLane s 0 (withOrder (map line is ++ drop (length is) (l .order)) l)
 
 abbrev pub flagged : ℕ → Store → Store
 flagged k s = let b = blockAt s 0 in withBlock s 0 (withPresent (including (lane k) (b .present)) b)
@@ -583,7 +590,7 @@ stored = after (opened 2 1 1) (store 1 2 258 ∷ serve 1 ∷ deliver 1 ∷ [])
 
 -- a store with block 0 in both lanes and in two lines of lane 0, of which the second was used before the first; with lines that are not valid, and valid ones past line c and lane n
 abbrev pub sharing : Store
-sharing = copied 0 0 0 5 (copied 0 1 0 6 (copied 1 0 0 7 (copied 0 2 1 8 (copied 0 3 0 9 (copied 2 0 0 10 (ordered 1 0 (opened 2 3 2)))))))
+sharing = copied 0 0 0 5 (copied 0 1 0 6 (copied 1 0 0 7 (copied 0 2 1 8 (copied 0 3 0 9 (copied 2 0 0 10 (ordered (1 ∷ 0 ∷ []) (opened 2 3 2)))))))
 
 -- a record: lane, block and the first word, which has one byte
 abbrev pub recorded : ℕ → ℕ → ℕ → List ℕ
@@ -643,9 +650,9 @@ corruptStores =
     corrupt (flagged 2 (opened 2 1 2)) ∷
     sound (flagged 1 (opened 2 1 2)) ∷
     -- a use order that names a line twice, and one that names none of the c lines
-    corrupt (ordered 0 0 (opened 2 2 2)) ∷
-    corrupt (ordered 2 0 (opened 2 2 2)) ∷
-    sound (ordered 1 0 (opened 2 2 2)) ∷
+    corrupt (ordered (0 ∷ 0 ∷ []) (opened 2 2 2)) ∷
+    corrupt (ordered (2 ∷ 0 ∷ []) (opened 2 2 2)) ∷
+    sound (ordered (1 ∷ 0 ∷ []) (opened 2 2 2)) ∷
     []
 
 -- refusals of such stores
@@ -717,6 +724,65 @@ places =
     on (gone 1 0 (opened 2 1 2)) (load 0 0 says wait ∷ serve 0 says step ∷ Settle says refused 16 ∷ deliver 0 says done 0 0 1 ∷ []) ∷
     []
 
+-- lane 0's use order after a list of calls: of three lines, those given, and the places past c, which stay
+abbrev pub inOrder : Insertion → Store → List Call → List ℕ → Row
+inOrder ins s cs is = record {
+  given = Order (map (λ (i : LineNo). i .0) (laneAt (run ins s cs .store) 0 .order));
+  wanted = Order (is ++ (3 ∷ 4 ∷ 5 ∷ 6 ∷ 7 ∷ []));
+}
+
+-- an operation of lane 0 that misses, and its grant
+abbrev pub filling : Call → List Call
+filling x = x ∷ serve 0 ∷ deliver 0 ∷ []
+
+-- a lane of three lines works on blocks 0 and 1 and counts the stock of blocks 2, 3 and 4; then it loads block 0 again
+abbrev pub counted : Said → List Turn
+counted again =
+    load 0 0 says wait ∷
+    Settle says settled 2 (of 0 0 1 ∷ []) ∷
+    load 0 4 says wait ∷
+    Settle says settled 2 (of 0 0 2 ∷ []) ∷
+    load 0 0 says done 0 0 3 ∷
+    load 0 4 says done 0 0 4 ∷
+    load 0 8 says wait ∷
+    Settle says settled 2 (of 0 0 5 ∷ []) ∷
+    load 0 12 says wait ∷
+    Settle says settled 3 (of 0 0 6 ∷ []) ∷
+    load 0 16 says wait ∷
+    Settle says settled 3 (of 0 0 7 ∷ []) ∷
+    load 0 0 says again ∷
+    []
+
+-- 02, W3: a line filled for a load goes in as the oldest, and that completion is no use; under 01's rule it went in as the newest
+abbrev pub insertions : List Row
+insertions =
+    -- the stock count gives up what it filled, and block 0 is still there
+    under LoadsOldest (opened 2 3 5) (counted (done 0 0 8)) ∷
+    under Newest (opened 2 3 5) (counted wait) ∷
+    -- the same of a tape, two lines and one block counted
+    reads
+    (0 ∷ 2 ∷ 2 ∷ 3 ∷ 1 ∷ 0 ∷ 0 ∷ 5 ∷ 0 ∷ 7 ∷ 0 ∷ 1 ∷ 0 ∷ 0 ∷ 1 ∷ 0 ∷ 4 ∷ 5 ∷ 0 ∷ 7 ∷ 0 ∷ 1 ∷ 0 ∷ 8 ∷ 6 ∷ 0 ∷ 5 ∷ 0 ∷ 7 ∷ 0 ∷ 1 ∷ 0 ∷ 0 ∷ [])
+    (opens ∷ wait ∷ step ∷ done 0 0 1 ∷ done 0 0 2 ∷ wait ∷ step ∷ done 0 0 3 ∷ wait ∷ step ∷ step ∷ done 0 0 4 ∷ done 0 0 5 ∷ []) ∷
+    -- line 0 is filled: for a load it goes before all others, be they valid or not, and those before it move up by one
+    inOrder LoadsOldest (copied 0 1 1 0 (copied 0 2 2 0 (ordered (1 ∷ 2 ∷ 0 ∷ []) (opened 2 3 3)))) (filling (load 0 0)) (0 ∷ 1 ∷ 2 ∷ []) ∷
+    inOrder LoadsOldest (ordered (2 ∷ 0 ∷ 1 ∷ []) (opened 2 3 1)) (filling (load 0 0)) (0 ∷ 2 ∷ 1 ∷ []) ∷
+    inOrder LoadsOldest (ordered (0 ∷ 2 ∷ 1 ∷ []) (opened 2 3 1)) (filling (load 0 0)) (0 ∷ 2 ∷ 1 ∷ []) ∷
+    inOrder Newest (ordered (2 ∷ 0 ∷ 1 ∷ []) (opened 2 3 1)) (filling (load 0 0)) (2 ∷ 1 ∷ 0 ∷ []) ∷
+    -- for the other operations it is a use, under either rule
+    inOrder LoadsOldest (ordered (2 ∷ 0 ∷ 1 ∷ []) (opened 2 3 1)) (filling (store 0 0 7)) (2 ∷ 1 ∷ 0 ∷ []) ∷
+    inOrder LoadsOldest (ordered (2 ∷ 0 ∷ 1 ∷ []) (opened 2 3 1)) (filling (exchange 0 0 7)) (2 ∷ 1 ∷ 0 ∷ []) ∷
+    inOrder LoadsOldest (ordered (2 ∷ 0 ∷ 1 ∷ []) (opened 2 3 1)) (filling (add 0 0 7)) (2 ∷ 1 ∷ 0 ∷ []) ∷
+    inOrder Newest (ordered (2 ∷ 0 ∷ 1 ∷ []) (opened 2 3 1)) (filling (store 0 0 7)) (2 ∷ 1 ∷ 0 ∷ []) ∷
+    -- the next completion on the line makes it the newest, a load's hit too
+    inOrder LoadsOldest (ordered (2 ∷ 0 ∷ 1 ∷ []) (opened 2 3 1)) (filling (load 0 0) ++ (load 0 0 ∷ [])) (2 ∷ 1 ∷ 0 ∷ []) ∷
+    inOrder LoadsOldest (ordered (2 ∷ 0 ∷ 1 ∷ []) (opened 2 3 1)) (filling (load 0 0) ++ filling (store 0 0 7)) (2 ∷ 1 ∷ 0 ∷ []) ∷
+    -- a bare grant fills nothing: its completion is a use, of a load too
+    inOrder LoadsOldest (sent BareGrant 0 0 (waits 0 (Served (operation 0)) (filled 0 0 (ordered (2 ∷ 0 ∷ 1 ∷ []) (opened 2 3 1))))) (deliver 0 ∷ []) (2 ∷ 1 ∷ 0 ∷ []) ∷
+    -- orders are no use, nor is giving up a line
+    inOrder LoadsOldest (sent Purge 0 0 (filled 0 0 (ordered (2 ∷ 0 ∷ 1 ∷ []) (opened 2 3 1)))) (deliver 0 ∷ []) (2 ∷ 0 ∷ 1 ∷ []) ∷
+    inOrder LoadsOldest (copied 0 0 0 0 (copied 0 1 1 0 (copied 0 2 2 0 (ordered (2 ∷ 0 ∷ 1 ∷ []) (opened 2 3 4))))) (load 0 12 ∷ []) (2 ∷ 0 ∷ 1 ∷ []) ∷
+    []
+
 -- the table
 unfoldable pub rows : List Row
-rows = casesOf01 ++ races ++ shutOut ++ bounds ++ sentences ++ pictures ++ corruptStores ++ heldStores ++ places
+rows = casesOf01 ++ races ++ shutOut ++ bounds ++ sentences ++ pictures ++ corruptStores ++ heldStores ++ places ++ insertions

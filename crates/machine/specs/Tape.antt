@@ -8,6 +8,7 @@ use Rattle.words.specs.declared.Shape.{Shape}
 use Rattle.records.specs.declared.Record.{Record}
 use Rattle.records.specs.declared.Record.the-variants as Record
 use Rattle.records.specs.Records.{parseOf}
+use Rattle.lanes.specs.UseOrder.{LoadsOldest}
 use Rattle.answers.specs.declared.Answer.{Answer}
 use Rattle.answers.specs.declared.Answer.the-variants.{Opened}
 use Rattle.answers.specs.declared.Refusal.the-variants.{Truncated, UnknownKind, NotOpen, AlreadyOpen, InvalidShape}
@@ -43,7 +44,7 @@ recordOf s (Record.Open shape) = openRecord s shape
 recordOf s (Record.Begin k op w) = whenOpen s (beginOf s k op w)
 recordOf s (Record.Serve k) = whenOpen s (serveOf s k)
 recordOf s (Record.Return k) = whenOpen s (returnOf s k)
-recordOf s (Record.Deliver k) = whenOpen s (deliverOf s k)
+recordOf s (Record.Deliver k) = whenOpen s (deliverOf LoadsOldest s k)
 
 -- the answers to a tape's records one after the other, here at most the given number of them; one store serves all of them
 unfoldable pub replayFrom : ℕ → Store → List ℕ → List Answer

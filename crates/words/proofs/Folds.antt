@@ -8,7 +8,7 @@ use mathlib.Core.Logic.{_⊎_, inl, inr}
 use mathlib.Core.Bool.{Bool, true, false, _||_, cond, true≢false}
 use mathlib.Core.Path.{_≡_, refl, sym, _∙_}
 use mathlib.Core.List.{List, [], _∷_}
-use Rattle.words.specs.Folds.{upTo, anyTo, countTo, anyOf}
+use Rattle.words.specs.Folds.{upTo, downTo, anyTo, countTo, anyOf}
 
 -- one number is below another, or is not
 pub below? : (j k : ℕ) → (j < k) ⊎ (k ≤ j)
@@ -27,6 +27,28 @@ upTo-none f a = refl
 pub upTo-more {ℓ} : {A : Type ℓ} (f : ℕ → A → A) (a : A) (k : ℕ) {b r : A} → b ≡ upTo f k a → r ≡ f k b → r ≡ upTo f (k + 1) a
 unfolding upTo
 upTo-more f a k p q = q ∙ rw (add-one, p)
+
+-- what each turn keeps, the whole loop keeps
+pub upTo-keeps : {A : Type 0} (P : A → Type 0) (f : ℕ → A → A) (n : ℕ) (a : A) → ((k : ℕ) (b : A) → k < n → P b → P (f k b)) → P a → P (upTo f n a)
+unfolding upTo
+upTo-keeps P f zero a h p = p
+upTo-keeps P f (suc n) a h p = h n (upTo f n a) (omega arith) (upTo-keeps P f n a (λ k b l. h k b (omega arith)) p)
+
+-- .. and the loop that goes down
+pub downTo-keeps : {A : Type 0} (P : A → Type 0) (f : ℕ → A → A) (n : ℕ) (a : A) → ((k : ℕ) (b : A) → k < n → P b → P (f k b)) → P a → P (downTo f n a)
+unfolding downTo
+downTo-keeps P f zero a h p = p
+downTo-keeps P f (suc n) a h p = downTo-keeps P f n (f n a) (λ k b l. h k b (omega arith)) (h n a (omega arith) p)
+
+-- the loop that goes down: no turn is left
+pub downTo-none {ℓ} : {A : Type ℓ} (f : ℕ → A → A) (a : A) → a ≡ downTo f 0 a
+unfolding downTo
+downTo-none f a = refl
+
+-- .. and a turn: what is left after it
+pub downTo-more {ℓ} : {A : Type ℓ} (f : ℕ → A → A) (k : ℕ) (b : A) {r : A} → r ≡ f k b → downTo f (k + 1) b ≡ downTo f k r
+unfolding downTo
+downTo-more f k b p = rw (add-one, p)
 
 or-false : (a b : Bool) → a ≡ false → b ≡ false → (a || b) ≡ false
 or-false a b p q = rw (p, q)

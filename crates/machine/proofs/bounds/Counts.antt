@@ -16,6 +16,7 @@ use Rattle.words.specs.Units.{blockOf}
 use Rattle.queues.specs.declared.ReturnMessage.{ReturnMessage}
 use Rattle.lanes.specs.declared.Lane.{Lane}
 use Rattle.lanes.specs.declared.Operation.{Operation}
+use Rattle.lanes.specs.UseOrder.{Insertion}
 use Rattle.answers.specs.declared.Completion.{Completion}
 use Rattle.answers.specs.declared.Refusal.{Refusal}
 use Rattle.answers.specs.declared.Refusal.the-variants.{Unexpected}
@@ -95,12 +96,12 @@ serve-counts s k = serve-rule (Counts s) s k (refused-counts s) (λ o _. move-co
 pub return-counts : (s : Store) (k : LaneNo) → Counts s (returnOf s k)
 return-counts s k = return-rule (Counts s) s k (refused-counts s) (λ _. move-counts s k _ _ (return-move-none k _ _ _ _))
 
-pub deliver-counts : (s : Store) (k : LaneNo) → Counts s (deliverOf s k)
-deliver-counts s k = deliver-rule (Counts s) s k (refused-counts s) (λ _ _. lane-counts s k _)
+pub deliver-counts : (ins : Insertion) (s : Store) (k : LaneNo) → Counts s (deliverOf ins s k)
+deliver-counts ins s k = deliver-rule ins (Counts s) s k (refused-counts s) (λ _ _. lane-counts s k _)
 
-pub step-counts : (s : Store) → Counts s (settleStep s)
-step-counts s =
-    step-rule (Counts s) s (λ k _ _. deliver-counts s (lane k)) (λ _ k _ _. return-counts s (lane k)) (λ _ _ k _ _. serve-counts s (lane k)) (λ _ _ _. refused-counts s Unexpected)
+pub step-counts : (ins : Insertion) (s : Store) → Counts s (settleStep ins s)
+step-counts ins s =
+    step-rule ins (Counts s) s (λ k _ _. deliver-counts ins s (lane k)) (λ _ k _ _. return-counts s (lane k)) (λ _ _ k _ _. serve-counts s (lane k)) (λ _ _ _. refused-counts s Unexpected)
 
 -- the operations begun since opening are b more, unless the outcome is a refusal
 abbrev BegunMore : ℕ → Store → Outcome → Type 0
@@ -135,15 +136,15 @@ serve-begun s k =
 pub return-begun : (s : Store) (k : LaneNo) → Same s (returnOf s k)
 return-begun s k = return-rule (Same s) s k (λ _. refl) (λ _. move-same s k _ _ (return-move-waits k _ (laneAt s (k .0)) _ (s .control)))
 
-pub deliver-begun : (s : Store) (k : LaneNo) → Sized s → Same s (deliverOf s k)
-deliver-begun s k g =
-    deliver-rule (Same s) s k (λ _. refl)
-    (λ c h. lane-begins 0 s k _ g c h (deliver-lane-begins (s .shape .c) (laneAt s (k .0))) ∙ none (begunIn s) (refusedOf (commitLane s k _ .answer)))
+pub deliver-begun : (ins : Insertion) (s : Store) (k : LaneNo) → Sized s → Same s (deliverOf ins s k)
+deliver-begun ins s k g =
+    deliver-rule ins (Same s) s k (λ _. refl)
+    (λ c h. lane-begins 0 s k _ g c h (deliver-lane-begins ins (s .shape .c) (laneAt s (k .0))) ∙ none (begunIn s) (refusedOf (commitLane s k _ .answer)))
   where
     none : (n : ℕ) (b : Bool) → n + cond b 0 0 ≡ n
     none n true = add-zero n
     none n false = add-zero n
 
-pub step-begun : (s : Store) → Sized s → Same s (settleStep s)
-step-begun s g =
-    step-rule (Same s) s (λ k _ _. deliver-begun s (lane k) g) (λ _ k _ _. return-begun s (lane k)) (λ _ _ k _ _. serve-begun s (lane k)) (λ _ _ _. refl)
+pub step-begun : (ins : Insertion) (s : Store) → Sized s → Same s (settleStep ins s)
+step-begun ins s g =
+    step-rule ins (Same s) s (λ k _ _. deliver-begun ins s (lane k) g) (λ _ k _ _. return-begun s (lane k)) (λ _ _ k _ _. serve-begun s (lane k)) (λ _ _ _. refl)

@@ -13,6 +13,7 @@ use Rattle.words.specs.declared.LaneNo.{LaneNo}
 use Rattle.words.specs.declared.WordNo.{WordNo}
 use Rattle.words.specs.declared.Op.{Op}
 use Rattle.words.specs.declared.Shape.{Shape}
+use Rattle.lanes.specs.UseOrder.{Insertion}
 use Rattle.store.specs.declared.Store.{Store}
 use Rattle.store.specs.Opening.{badShape, freshOf}
 use Rattle.store.specs.Stores.{laneAt}
@@ -53,8 +54,8 @@ serve-keeps s k e = not-corrupt (serveOf s k .store) (serve-fit 0 s k (any-fit s
 pub return-keeps : (s : Store) (k : LaneNo) → corruptOf s ≡ false → corruptOf (returnOf s k .store) ≡ false
 return-keeps s k e = not-corrupt (returnOf s k .store) (return-fit 0 s k (any-fit s e) .sound)
 
-pub deliver-keeps : (s : Store) (k : LaneNo) → corruptOf s ≡ false → Whole s → corruptOf (deliverOf s k .store) ≡ false
-deliver-keeps s k e h = not-corrupt (deliverOf s k .store) (deliver-fit 8 s k (sound s e .c-high) (fit s e h) .sound)
+pub deliver-keeps : (ins : Insertion) (s : Store) (k : LaneNo) → corruptOf s ≡ false → Whole s → corruptOf (deliverOf ins s k .store) ≡ false
+deliver-keeps ins s k e h = not-corrupt (deliverOf ins s k .store) (deliver-fit ins 8 s k (sound s e .c-high) (fit s e h) .sound)
 
 pub open-whole : (shape : Shape) → badShape shape ≡ false → Whole (freshOf shape)
 open-whole shape e = open-fit shape e .long
@@ -71,6 +72,6 @@ pub return-whole : (s : Store) (k : LaneNo) → Whole s → Whole (returnOf s k 
 unfolding returnOf
 return-whole s k h = on (corruptOf s) (λ e. rw e h) (λ e. return-fit 8 s k (fit s e h) .long)
 
-pub deliver-whole : (s : Store) (k : LaneNo) → Whole s → Whole (deliverOf s k .store)
+pub deliver-whole : (ins : Insertion) (s : Store) (k : LaneNo) → Whole s → Whole (deliverOf ins s k .store)
 unfolding deliverOf
-deliver-whole s k h = on (corruptOf s) (λ e. rw e h) (λ e. deliver-fit 8 s k (sound s e .c-high) (fit s e h) .long)
+deliver-whole ins s k h = on (corruptOf s) (λ e. rw e h) (λ e. deliver-fit ins 8 s k (sound s e .c-high) (fit s e h) .long)

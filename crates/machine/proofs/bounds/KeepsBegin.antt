@@ -33,6 +33,7 @@ use Rattle.machine.specs.declared.LaneStep.{LaneStep}
 use Rattle.machine.specs.Begin.{complete, waits, hit, readOf, ejectOf, evict, missWith, miss, beginAt, beginLane, beginOf}
 use Rattle.machine.proofs.laws.Tests.{on}
 use Rattle.machine.proofs.laws.Sets.{same?}
+use Rattle.machine.proofs.laws.Orders.{used-kept}
 use Rattle.machine.proofs.bounds.KeepsLane.{LaneFit, clash, join-keeps, with-line, with-returns, with-unserved, complete-keeps}
 use Rattle.machine.proofs.bounds.KeepsBegun.{begin-lane-begins}
 use Rattle.machine.proofs.bounds.KeepsStore.{Fit, lane-fit, commit-lane-keeps}
@@ -61,7 +62,7 @@ module _ (h c m : ℕ) (c₀ : 1 ≤ c) (c₁ : c ≤ h) (z : 1 ≤ m) (op : Op)
   unfolding hit
   hit-keeps i p =
       by-cond (λ (r : LaneStep). LaneFit h c m (r .lane)) (isLoad op || lineAt l i .private) (complete c i (lineAt l i) op w l) (waits Exclude op w l)
-      (complete-keeps h c m l g i (lineAt l i) op w c₀ c₁ (g .sound .lines (i .0) p))
+      (complete-keeps h c m l g _ i (lineAt l i) op w c₀ c₁ (g .sound .lines (i .0) p) (used-kept c i (l .order)))
       (with-unserved h c m l g (record { command = Exclude; op = op; word = w }) b)
 
   -- the line given up is valid, so its block is one of the store's

@@ -32,7 +32,7 @@ use Rattle.lanes.specs.declared.Waiting.the-variants.{Idle, Unserved, Served}
 use Rattle.lanes.specs.declared.Found.{Found}
 use Rattle.lanes.specs.declared.Found.the-variants.{At, Nothing}
 use Rattle.lanes.specs.Search.{lineAt, searchOf, vacantOf}
-use Rattle.lanes.specs.UseOrder.{placeAt}
+use Rattle.lanes.specs.UseOrder.{Insertion, placeAt}
 use Rattle.lanes.specs.Waits.{idleOf}
 use Rattle.lanes.specs.Lanes.{withDowns}
 use Rattle.answers.specs.declared.Refusal.{Refusal}
@@ -50,7 +50,7 @@ use Rattle.machine.specs.declared.Move.{Move}
 use Rattle.machine.specs.declared.Ready.{Ready}
 use Rattle.machine.specs.declared.Ready.the-variants.{Go, No}
 use Rattle.machine.specs.Change.{refuseLane, refusedIn, counted, laneStore, posted, postTo, postAll, movedStore}
-use Rattle.machine.specs.Begin.{complete, hit, ejectOf, evict, missWith, miss, beginAt, beginLane}
+use Rattle.machine.specs.Begin.{completeWith, complete, hit, ejectOf, evict, missWith, miss, beginAt, beginLane}
 use Rattle.machine.specs.Begin as begin
 use Rattle.machine.specs.Serve.{close, serveMove}
 use Rattle.machine.specs.Return.{returnMove}
@@ -87,9 +87,9 @@ refused-begins : (b : ℕ) (l : Lane) (n : Refusal) → LaneBegins b l (refuseLa
 refused-begins b l n e = absurd (true≢false e)
 
 -- an operation completes: one that the lane waited for, or the one that begins
-complete-begins : (b c : ℕ) (i : LineNo) (x : Line) (op : Op) (w : WordNo) (l : Lane) → waits l + b ≡ 1 → LaneBegins b l (complete c i x op w l)
-unfolding complete
-complete-begins b c i x op w l h e = sym h
+complete-begins : (b : ℕ) (o : List LineNo) (i : LineNo) (x : Line) (op : Op) (w : WordNo) (l : Lane) → waits l + b ≡ 1 → LaneBegins b l (completeWith o i x op w l)
+unfolding completeWith
+complete-begins b o i x op w l h e = sym h
 
 module _ (c : ℕ) (op : Op) (w : WordNo) (l : Lane) (idle : l .waiting ≡ Idle) where
   -- the lane waits for nothing, and now for one operation
@@ -100,7 +100,7 @@ module _ (c : ℕ) (op : Op) (w : WordNo) (l : Lane) (idle : l .waiting ≡ Idle
   unfolding hit
   hit-begins i =
       by-cond (LaneBegins 1 l) (isLoad op || lineAt l i .private) (complete c i (lineAt l i) op w l) (begin.waits Exclude op w l)
-      (complete-begins 1 c i (lineAt l i) op w l begins-one) (λ _. sym begins-one)
+      (complete-begins 1 _ i (lineAt l i) op w l begins-one) (λ _. sym begins-one)
 
   evict-begins : (i : LineNo) → LaneBegins 1 l (evict i op w l)
   unfolding evict
@@ -127,7 +127,7 @@ unfolding reply
 reply-begins y l t h =
     by-cond (LaneBegins 0 l) (pushReturn (t .returns) y .full) (refuseLane QueueFull t) _ (λ e. absurd (true≢false e)) (λ _. omega arith)
 
-module _ (c : ℕ) (l : Lane) where
+module _ (ins : Insertion) (c : ℕ) (l : Lane) where
   update-begins : (a : BlockNo) (f : Found) → LaneBegins 0 l (updateAt f a l)
   update-begins a (At i) = reply-begins _ l _ refl
   update-begins a Nothing = reply-begins _ l l refl
@@ -141,24 +141,24 @@ module _ (c : ℕ) (l : Lane) where
     waited-one : waits l + 0 ≡ 1
     waited-one = rw (waiting-waits l (Served o) served) refl
 
-    fill-begins : (x : DownMessage) (f : Found) → LaneBegins 0 l (fillAt f c x o l)
-    fill-begins x (At i) = complete-begins 0 c i _ (o .op) (o .word) l waited-one
+    fill-begins : (x : DownMessage) (f : Found) → LaneBegins 0 l (fillAt ins f c x o l)
+    fill-begins x (At i) = complete-begins 0 _ i _ (o .op) (o .word) l waited-one
     fill-begins x Nothing = refused-begins 0 l Unexpected
 
-    grant-begins : (x : DownMessage) (f : Found) → LaneBegins 0 l (grantAt f c x o l)
+    grant-begins : (x : DownMessage) (f : Found) → LaneBegins 0 l (grantAt ins f c x o l)
     grant-begins x (At i) = refused-begins 0 l Unexpected
     grant-begins x Nothing = fill-begins x (vacantOf l c)
 
     bare-begins : (f : Found) → LaneBegins 0 l (bareAt f c o l)
-    bare-begins (At i) = complete-begins 0 c i _ (o .op) (o .word) l waited-one
+    bare-begins (At i) = complete-begins 0 _ i _ (o .op) (o .word) l waited-one
     bare-begins Nothing = refused-begins 0 l Unexpected
 
   -- .. or is refused
-  grants-begin : (x : DownMessage) (w : Waiting) → l .waiting ≡ w → LaneBegins 0 l (grantTo (servedOn w (x .block)) c x l)
+  grants-begin : (x : DownMessage) (w : Waiting) → l .waiting ≡ w → LaneBegins 0 l (grantTo ins (servedOn w (x .block)) c x l)
   grants-begin x Idle e = refused-begins 0 l Unexpected
   grants-begin x (Unserved o) e = refused-begins 0 l Unexpected
   grants-begin x (Served o) e =
-      by-cond (λ (r : Ready). LaneBegins 0 l (grantTo r c x l)) (eqb (blockOf (o .word) .0) (x .block .0)) (Go o) (No Unexpected)
+      by-cond (λ (r : Ready). LaneBegins 0 l (grantTo ins r c x l)) (eqb (blockOf (o .word) .0) (x .block .0)) (Go o) (No Unexpected)
       (grant-begins o e x (searchOf l c (x .block))) (refused-begins 0 l Unexpected)
 
   bares-begin : (x : DownMessage) (w : Waiting) → l .waiting ≡ w → LaneBegins 0 l (bareTo (servedOn w (x .block)) c x l)
@@ -169,18 +169,18 @@ module _ (c : ℕ) (l : Lane) where
       (bare-begins o e (searchOf l c (x .block))) (refused-begins 0 l Unexpected)
 
   -- what a message does in a lane that has taken it
-  kind-begins : (y : DownKind) (x : DownMessage) → LaneBegins 0 l (deliverKind y c x l)
+  kind-begins : (y : DownKind) (x : DownMessage) → LaneBegins 0 l (deliverKind ins y c x l)
   kind-begins Update x = update-begins (x .block) (searchOf l c (x .block))
   kind-begins Purge x = purge-begins (x .block) (searchOf l c (x .block))
   kind-begins Grant x = grants-begin x (l .waiting) refl
   kind-begins BareGrant x = bares-begin x (l .waiting) refl
 
 -- the lane's part of deliver
-pub deliver-lane-begins : (c : ℕ) (l : Lane) → LaneBegins 0 l (deliverLane c l)
+pub deliver-lane-begins : (ins : Insertion) (c : ℕ) (l : Lane) → LaneBegins 0 l (deliverLane ins c l)
 unfolding deliverLane
-deliver-lane-begins c l =
+deliver-lane-begins ins c l =
     pick (LaneBegins 0 l) (emptyAt (l .downs .len)) (refuseLane NothingPending l) _ (λ _. refused-begins 0 l NothingPending)
-    (λ _ e. rw e (kind-begins c (withDowns (takeDown (l .downs) .queue) l) (headDown (l .downs) .kind) (headDown (l .downs)) e))
+    (λ _ e. rw e (kind-begins ins c (withDowns (takeDown (l .downs) .queue) l) (headDown (l .downs) .kind) (headDown (l .downs)) e))
 
 -- memory's part: the lane waits on
 pub serve-move-waits : (k : LaneNo) (o : Operation) (l : Lane) (b : Block) (x : Control) → l .waiting ≡ Unserved o → waits (serveMove k o l b x .lane) ≡ waits l

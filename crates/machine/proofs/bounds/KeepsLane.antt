@@ -26,11 +26,11 @@ use Rattle.lanes.specs.declared.Operation.{Operation}
 use Rattle.lanes.specs.declared.Waiting.the-variants.{Unserved, Served}
 use Rattle.lanes.specs.Lanes.{withWaiting, withReturns, withDowns, withLine}
 use Rattle.machine.specs.Change.{posted}
-use Rattle.machine.specs.Begin.{complete}
+use Rattle.machine.specs.Begin.{completeWith}
 use Rattle.machine.specs.Deliver.{reply}
 use Rattle.machine.proofs.laws.Tests.{on}
 use Rattle.machine.proofs.laws.Sets.{same?, set-cases, set-here}
-use Rattle.machine.proofs.laws.Orders.{used-length, used-keeps}
+use Rattle.machine.proofs.laws.Orders.{Kept}
 use Rattle.machine.proofs.bounds.Sound.{Queued, LaneSound}
 
 -- what cannot be
@@ -120,21 +120,21 @@ module _ (h c m : ℕ) (l : Lane) (g : LaneFit h c m l) where
         long = g .long;
       }
 
-  -- an operation completes on a line
-  pub complete-keeps : (i : LineNo) (x : Line) (op : Op) (w : WordNo) → 1 ≤ c → c ≤ h → (x .valid ≡ true → x .block .0 < m) →
-      LaneFit h c m (complete c i x op w l .lane)
-  unfolding complete
-  complete-keeps i x op w p q b =
+  -- an operation completes on a line, whatever the use order is after it
+  pub complete-keeps : (o : List LineNo) (i : LineNo) (x : Line) (op : Op) (w : WordNo) → 1 ≤ c → c ≤ h → (x .valid ≡ true → x .block .0 < m) →
+      Kept c (l .order) o → LaneFit h c m (completeWith o i x op w l .lane)
+  unfolding completeWith
+  complete-keeps o i x op w p q b k =
       let r = g .long in
-      let e = used-length c i (l .order) in
+      let e = k .0 in
       record {
         sound = record {
           lines = λ j y. set-cases (λ (z : Line). z .valid ≡ true → z .block .0 < m) (l .lines) (i .0) j (performOf x op w .line) noLine (λ _. b) (g .sound .lines j y);
-          order = used-keeps c i (l .order) p (omega arith) (g .sound .order);
+          order = k .1 p (omega arith) (g .sound .order);
           returns = g .sound .returns;
           downs = g .sound .downs;
-          unserved = λ o y. clash (cc);
-          served = λ o y. clash (cc);
+          unserved = λ v y. clash (cc);
+          served = λ v y. clash (cc);
         };
         long = omega arith;
       }

@@ -5,6 +5,7 @@ use Rattle.words.specs.declared.BlockNo.{BlockNo}
 use Rattle.words.specs.declared.WordNo.{WordNo}
 use Rattle.words.specs.declared.Op.{Op}
 use Rattle.words.specs.Units.{blockOf}
+use Rattle.lanes.specs.UseOrder.{Insertion}
 use Rattle.store.specs.declared.Store.{Store}
 use Rattle.store.specs.declared.Outcome.{Outcome}
 use Rattle.machine.specs.declared.LaneStep.{LaneStep}
@@ -34,5 +35,5 @@ serve-shape s k = serve-rule (λ (r : Outcome). SameShape s (r .store)) s k (λ 
 pub return-shape : (s : Store) (k : LaneNo) → SameShape s (returnOf s k .store)
 return-shape s k = return-rule (λ (r : Outcome). SameShape s (r .store)) s k (λ _. refl) (λ _. move-shape s k _ _)
 
-pub deliver-shape : (s : Store) (k : LaneNo) → SameShape s (deliverOf s k .store)
-deliver-shape s k = deliver-rule (λ (r : Outcome). SameShape s (r .store)) s k (λ _. refl) (λ _ _. lane-shape s k _)
+pub deliver-shape : (ins : Insertion) (s : Store) (k : LaneNo) → SameShape s (deliverOf ins s k .store)
+deliver-shape ins s k = deliver-rule ins (λ (r : Outcome). SameShape s (r .store)) s k (λ _. refl) (λ _ _. lane-shape s k _)

@@ -1,6 +1,7 @@
 -- Every call of demand 3, settle too, keeps the shape. Assumes nothing.
 use Prim.Native.Nat.{ℕ, suc}
 use mathlib.Core.Path.{refl, _∙_}
+use Rattle.lanes.specs.UseOrder.{Insertion}
 use Rattle.store.specs.declared.Store.{Store}
 use Rattle.store.specs.declared.Outcome.{Outcome}
 use Rattle.machine.specs.Settle.{settleStep, boundOf, Progress, advance, repeatStep, Settlement, settleOf, lane}
@@ -9,26 +10,26 @@ use Rattle.machine.proofs.bounds.KeepsShape.{SameShape, begin-shape, se
 use Rattle.machine.proofs.settle.FallsSettle.{startAt, settle-rule}
 use Rattle.machine.proofs.rules.RulesSettle.{step-rule, repeat-rule}
 
-step-shape : (s : Store) → SameShape s (settleStep s .store)
-step-shape s =
-    step-rule (λ (r : Outcome). SameShape s (r .store)) s (λ k _ _. deliver-shape s (lane k)) (λ _ k _ _. return-shape s (lane k)) (λ _ _ k _ _. serve-shape s (lane k))
+step-shape : (ins : Insertion) (s : Store) → SameShape s (settleStep ins s .store)
+step-shape ins s =
+    step-rule ins (λ (r : Outcome). SameShape s (r .store)) s (λ k _ _. deliver-shape ins s (lane k)) (λ _ k _ _. return-shape s (lane k)) (λ _ _ k _ _. serve-shape s (lane k))
     (λ _ _ _. refl)
 
-advance-shape : (p : Progress) → SameShape (p .store) (advance p .store)
+advance-shape : (ins : Insertion) (p : Progress) → SameShape (p .store) (advance ins p .store)
 unfolding advance
-advance-shape p = step-shape (p .store)
+advance-shape ins p = step-shape ins (p .store)
 
-repeat-shape : (n : ℕ) (p : Progress) → SameShape (p .store) (repeatStep n p .store)
-repeat-shape n p =
-    repeat-rule (λ (r : Progress). SameShape (p .store) (r .store)) (λ q _ h. advance-shape q ∙ h) n p refl
+repeat-shape : (ins : Insertion) (n : ℕ) (p : Progress) → SameShape (p .store) (repeatStep ins n p .store)
+repeat-shape ins n p =
+    repeat-rule ins (λ (r : Progress). SameShape (p .store) (r .store)) (λ q _ h. advance-shape ins q ∙ h) n p refl
 
-settle-shape : (s : Store) → SameShape s (settleOf s .store)
-settle-shape s = settle-rule (λ (r : Settlement). SameShape s (r .store)) s (λ r. refl) (λ _ _ _. repeat-shape (suc (boundOf s)) (startAt s))
+settle-shape : (ins : Insertion) (s : Store) → SameShape s (settleOf ins s .store)
+settle-shape ins s = settle-rule ins (λ (r : Settlement). SameShape s (r .store)) s (λ r. refl) (λ _ _ _. repeat-shape ins (suc (boundOf s)) (startAt s))
 
-pub call-shape : (s : Store) (x : Call) → SameShape s (callOf s x .store)
+pub call-shape : (ins : Insertion) (s : Store) (x : Call) → SameShape s (callOf ins s x .store)
 unfolding callOf
-call-shape s (Begin k op w) = begin-shape s k op w
-call-shape s (Serve k) = serve-shape s k
-call-shape s (Return k) = return-shape s k
-call-shape s (Deliver k) = deliver-shape s k
-call-shape s Settle = settle-shape s
+call-shape ins s (Begin k op w) = begin-shape s k op w
+call-shape ins s (Serve k) = serve-shape s k
+call-shape ins s (Return k) = return-shape s k
+call-shape ins s (Deliver k) = deliver-shape ins s k
+call-shape ins s Settle = settle-shape ins s

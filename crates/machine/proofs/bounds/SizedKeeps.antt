@@ -39,7 +39,7 @@ use Rattle.lanes.specs.declared.Waiting.the-variants.{Served}
 use Rattle.lanes.specs.declared.Found.{Found}
 use Rattle.lanes.specs.declared.Found.the-variants.{At, Nothing}
 use Rattle.lanes.specs.Search.{lineAt, searchOf, vacantOf}
-use Rattle.lanes.specs.UseOrder.{placeAt}
+use Rattle.lanes.specs.UseOrder.{Insertion, placeAt}
 use Rattle.lanes.specs.Lanes.{withWaiting, withReturns, withDowns, withLine}
 use Rattle.answers.specs.declared.Refusal.the-variants.{NothingPending}
 use Rattle.store.specs.declared.Store.{Store}
@@ -54,14 +54,14 @@ use Rattle.machine.specs.declared.Ready.{Ready}
 use Rattle.machine.specs.declared.Ready.the-variants.{Go, No}
 use Rattle.machine.specs.declared.Move.{Move}
 use Rattle.machine.specs.Change.{refuseLane, commitLane, posted, postTo, postAll, commitMove, refusedIn}
-use Rattle.machine.specs.Begin.{complete, waits, hit, ejectOf, evict, missWith, miss, beginAt, beginLane, beginOf}
+use Rattle.machine.specs.Begin.{completeWith, complete, waits, hit, ejectOf, evict, missWith, miss, beginAt, beginLane, beginOf}
 use Rattle.machine.specs.Serve.{closedBlock, close, serveMove, serveOf}
 use Rattle.machine.specs.Return.{takenBy, returnMove, returnOf}
 use Rattle.machine.specs.Deliver.{reply, shared, updateAt, purgeAt, fillAt, grantAt, bareAt, servedOn, grantTo, bareTo, deliverKind, deliverLane, deliverOf}
 use Rattle.machine.specs.Settle.{settleStep, lane}
 use Rattle.machine.specs.Sized.{LaneSized, Sized}
 use Rattle.machine.proofs.laws.Sets.{set-cases}
-use Rattle.machine.proofs.laws.Orders.{used-length}
+use Rattle.machine.proofs.laws.Orders.{used-kept, inserted-kept}
 use Rattle.machine.proofs.bounds.Keeps.{Whole}
 use Rattle.machine.proofs.rules.Rules.{lane-rule, move-rule, begin-rule, serve-rule, return-rule, deliver-rule}
 use Rattle.machine.proofs.rules.RulesSettle.{step-rule}
@@ -98,12 +98,12 @@ module _ (l : Lane) (g : LaneSized l) where
   with-line-sized i x = record { lines = length-set (l .lines) (i .0) x ∙ g .lines; order = g .order; returns = g .returns; downs = g .downs }
 
   -- an operation completes on a line
-  complete-sized : (c : ℕ) (i : LineNo) (x : Line) (op : Op) (w : WordNo) → LaneSized (complete c i x op w l .lane)
-  unfolding complete
-  complete-sized c i x op w =
+  complete-sized : (o : List LineNo) (i : LineNo) (x : Line) (op : Op) (w : WordNo) → length o ≡ length (l .order) → LaneSized (completeWith o i x op w l .lane)
+  unfolding completeWith
+  complete-sized o i x op w e =
       record {
         lines = length-set (l .lines) (i .0) (performOf x op w .line) ∙ g .lines;
-        order = used-length c i (l .order) ∙ g .order;
+        order = e ∙ g .order;
         returns = g .returns;
         downs = g .downs;
       }
@@ -112,7 +112,7 @@ module _ (l : Lane) (g : LaneSized l) where
   unfolding hit
   hit-sized c i op w =
       by-cond (λ (r : LaneStep). LaneSized (r .lane)) (isLoad op || lineAt l i .private) (complete c i (lineAt l i) op w l) (waits Exclude op w l)
-      (complete-sized c i (lineAt l i) op w)
+      (complete-sized _ i (lineAt l i) op w (used-kept c i (l .order) .0))
       (with-waiting-sized _)
 
   evict-sized : (i : LineNo) (op : Op) (w : WordNo) → LaneSized (evict i op w l .lane)
@@ -150,7 +150,7 @@ module _ (l : Lane) (g : LaneSized l) where
       by-cond (λ (r : LaneStep). LaneSized (r .lane)) (pushReturn (l .returns) x .full) _ _ g
       (with-returns-sized (pushReturn (l .returns) x .queue) (push-return-sized (l .returns) x (g .returns)))
 
-module _ (c : ℕ) (l : Lane) (g : LaneSized l) where
+module _ (ins : Insertion) (c : ℕ) (l : Lane) (g : LaneSized l) where
   update-sized : (a : BlockNo) (f : Found) → LaneSized (updateAt f a l .lane)
   update-sized a (At i) = reply-sized (withLine i (shared (lineAt l i)) l) (with-line-sized l g i (shared (lineAt l i))) _
   update-sized a Nothing = reply-sized l g _
@@ -159,19 +159,19 @@ module _ (c : ℕ) (l : Lane) (g : LaneSized l) where
   purge-sized a (At i) = reply-sized (withLine i (invalid (lineAt l i)) l) (with-line-sized l g i (invalid (lineAt l i))) _
   purge-sized a Nothing = reply-sized l g _
 
-  fill-sized : (x : DownMessage) (o : Operation) (f : Found) → LaneSized (fillAt f c x o l .lane)
-  fill-sized x o (At i) = complete-sized l g c i _ (o .op) (o .word)
+  fill-sized : (x : DownMessage) (o : Operation) (f : Found) → LaneSized (fillAt ins f c x o l .lane)
+  fill-sized x o (At i) = complete-sized l g _ i _ (o .op) (o .word) (inserted-kept ins (o .op) c i (l .order) .0)
   fill-sized x o Nothing = g
 
-  grant-sized : (x : DownMessage) (o : Operation) (f : Found) → LaneSized (grantAt f c x o l .lane)
+  grant-sized : (x : DownMessage) (o : Operation) (f : Found) → LaneSized (grantAt ins f c x o l .lane)
   grant-sized x o (At i) = g
   grant-sized x o Nothing = fill-sized x o (vacantOf l c)
 
   bare-sized : (o : Operation) (f : Found) → LaneSized (bareAt f c o l .lane)
-  bare-sized o (At i) = complete-sized l g c i _ (o .op) (o .word)
+  bare-sized o (At i) = complete-sized l g _ i _ (o .op) (o .word) (used-kept c i (l .order) .0)
   bare-sized o Nothing = g
 
-  grants-sized : (x : DownMessage) (r : Ready) → LaneSized (grantTo r c x l .lane)
+  grants-sized : (x : DownMessage) (r : Ready) → LaneSized (grantTo ins r c x l .lane)
   grants-sized x (No n) = g
   grants-sized x (Go o) = grant-sized x o (searchOf l c (x .block))
 
@@ -179,23 +179,23 @@ module _ (c : ℕ) (l : Lane) (g : LaneSized l) where
   bares-sized x (No n) = g
   bares-sized x (Go o) = bare-sized o (searchOf l c (x .block))
 
-  kind-sized : (y : DownKind) (x : DownMessage) → LaneSized (deliverKind y c x l .lane)
+  kind-sized : (y : DownKind) (x : DownMessage) → LaneSized (deliverKind ins y c x l .lane)
   kind-sized Update x = update-sized (x .block) (searchOf l c (x .block))
   kind-sized Purge x = purge-sized (x .block) (searchOf l c (x .block))
   kind-sized Grant x = grants-sized x (servedOn (l .waiting) (x .block))
   kind-sized BareGrant x = bares-sized x (servedOn (l .waiting) (x .block))
 
 -- the lane's part of deliver
-pub deliver-lane-sized : (c : ℕ) (l : Lane) → LaneSized l → LaneSized (deliverLane c l .lane)
+pub deliver-lane-sized : (ins : Insertion) (c : ℕ) (l : Lane) → LaneSized l → LaneSized (deliverLane ins c l .lane)
 unfolding deliverLane
-deliver-lane-sized c l g =
+deliver-lane-sized ins c l g =
     by-cond (λ (r : LaneStep). LaneSized (r .lane)) (emptyAt (l .downs .len)) (refuseLane NothingPending l) _ g
     (by-cond LaneSized (refusedIn (took .answer)) l (took .lane) g
-    (kind-sized c (withDowns (takeDown (l .downs) .queue) l)
+    (kind-sized ins c (withDowns (takeDown (l .downs) .queue) l)
     (with-downs-sized l g (takeDown (l .downs) .queue) (take-down-sized (l .downs) (g .downs))) (headDown (l .downs) .kind) (headDown (l .downs))))
   where
     took : LaneStep
-    took = deliverKind (headDown (l .downs) .kind) c (headDown (l .downs)) (withDowns (takeDown (l .downs) .queue) l)
+    took = deliverKind ins (headDown (l .downs) .kind) c (headDown (l .downs)) (withDowns (takeDown (l .downs) .queue) l)
 
 -- the lanes of a store, all of them with their lengths
 pub record LanesSized (ls : List Lane) : Type 0 where
@@ -327,15 +327,15 @@ return-sized s k g =
     (λ h. return-move-lane k x (laneAt s (k .0)) (blockAt s (x .block .0)) (s .control) (g .lane (k .0) h))
     (λ h. return-move-present k x (laneAt s (k .0)) (blockAt s (x .block .0)) (s .control) (g .present (x .block .0) h)))
 
-pub deliver-sized : (s : Store) (k : LaneNo) → Sized s → Sized (deliverOf s k .store)
-deliver-sized s k g =
-    deliver-rule (λ (r : Outcome). Sized (r .store)) s k (λ _. g)
-    (λ _ _. commit-lane-sized s k _ g (λ h. deliver-lane-sized (s .shape .c) (laneAt s (k .0)) (g .lane (k .0) h)))
+pub deliver-sized : (ins : Insertion) (s : Store) (k : LaneNo) → Sized s → Sized (deliverOf ins s k .store)
+deliver-sized ins s k g =
+    deliver-rule ins (λ (r : Outcome). Sized (r .store)) s k (λ _. g)
+    (λ _ _. commit-lane-sized s k _ g (λ h. deliver-lane-sized ins (s .shape .c) (laneAt s (k .0)) (g .lane (k .0) h)))
 
 -- settle's step, which is one of three of them
-pub settle-step-sized : (s : Store) → Sized s → Sized (settleStep s .store)
-settle-step-sized s g =
-    step-rule (λ (r : Outcome). Sized (r .store)) s (λ k _ _. deliver-sized s (lane k) g) (λ _ k _ _. return-sized s (lane k) g) (λ _ _ k _ _. serve-sized s (lane k) g)
+pub settle-step-sized : (ins : Insertion) (s : Store) → Sized s → Sized (settleStep ins s .store)
+settle-step-sized ins s g =
+    step-rule ins (λ (r : Outcome). Sized (r .store)) s (λ k _ _. deliver-sized ins s (lane k) g) (λ _ k _ _. return-sized s (lane k) g) (λ _ _ k _ _. serve-sized s (lane k) g)
     (λ _ _ _. g)
 
 -- the use order of each lane has its 8 places

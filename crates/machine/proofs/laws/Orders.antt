@@ -1,4 +1,4 @@
--- A use of a line keeps a use order one: each turn changes two places over. Assumes nothing.
+-- A use of a line and a fill keep a use order one: each turn changes two places over. Assumes nothing.
 use Prim.Native.Nat.{ℕ, zero, suc, _+_, _-_, _<_, _≤_}
 use mathlib.Core.Logic.{_⊎_, inl, inr, _≢_}
 use mathlib.Core.Path.{_≡_, refl, ap, sym, _∙_}
@@ -10,9 +10,10 @@ use lib.Seq.{getD-set-same, getD-set-other}
 use borrow.Author.Tests.{eq-eqb, ne-eqb}
 use native.Mathlib.Omega.{arith}
 use Rattle.words.specs.declared.LineNo.{LineNo}
-use Rattle.words.specs.Folds.{upTo}
-use Rattle.words.proofs.Folds.{pick}
-use Rattle.lanes.specs.UseOrder.{placeAt, carryOf, usedOf}
+use Rattle.words.specs.declared.Op.{Op}
+use Rattle.words.specs.Operations.{isLoad}
+use Rattle.words.proofs.Folds.{by-cond, pick, upTo-keeps, downTo-keeps}
+use Rattle.lanes.specs.UseOrder.{Insertion, Newest, LoadsOldest, placeAt, carryOf, usedOf, oldestOf, insertedOf}
 use Rattle.machine.proofs.laws.Sets.{same?}
 use Rattle.machine.proofs.bounds.Sound.{Ordered}
 
@@ -74,30 +75,30 @@ swap-keeps c k o h l g =
           sym (was-was k i) ∙ ap (was k) same ∙ was-was k j;
     }
 
-carry-keeps : (c k : ℕ) (i : LineNo) (o : List LineNo) → k + 1 < c → c ≤ length o → Ordered c o → Ordered c (carryOf i k o)
-carry-keeps c k i o h l g = pick (Ordered c) (eqb (placeAt o k .0) (i .0)) (swapped k o) o (λ _. swap-keeps c k o h l g) (λ _. g)
+carry-keeps : (c j k : ℕ) (i : LineNo) (o : List LineNo) → k + 1 < c → c ≤ length o → Ordered c o → Ordered c (carryOf i j k o)
+carry-keeps c j k i o h l g = pick (Ordered c) (eqb (placeAt o j .0) (i .0)) (swapped k o) o (λ _. swap-keeps c k o h l g) (λ _. g)
 
-carry-length : (k : ℕ) (i : LineNo) (o : List LineNo) → length (carryOf i k o) ≡ length o
-carry-length k i o =
-    pick (λ (r : List LineNo). length r ≡ length o) (eqb (placeAt o k .0) (i .0)) (swapped k o) o
+carry-length : (j k : ℕ) (i : LineNo) (o : List LineNo) → length (carryOf i j k o) ≡ length o
+carry-length j k i o =
+    pick (λ (r : List LineNo). length r ≡ length o) (eqb (placeAt o j .0) (i .0)) (swapped k o) o
     (λ _. length-set (set o k (placeAt o (k + 1))) (k + 1) (placeAt o k) ∙ length-set o k (placeAt o (k + 1)))
     (λ _. refl)
 
-carried-length : (n : ℕ) (i : LineNo) (o : List LineNo) → length (upTo (carryOf i) n o) ≡ length o
-unfolding upTo
-carried-length zero i o = refl
-carried-length (suc n) i o = carry-length n i (upTo (carryOf i) n o) ∙ carried-length n i o
+-- what a use order keeps in every change of it: its length, and that it is one
+abbrev pub Kept : ℕ → List LineNo → List LineNo → Type 0
+Kept c o r = (length r ≡ length o) × (1 ≤ c → c ≤ length o → Ordered c o → Ordered c r)
 
-carried : (c n : ℕ) (i : LineNo) (o : List LineNo) → n < c → c ≤ length o → Ordered c o → Ordered c (upTo (carryOf i) n o)
-unfolding upTo
-carried c zero i o h l g = g
-carried c (suc n) i o h l g =
-    let e = carried-length n i o in
-    carry-keeps c n i (upTo (carryOf i) n o) (omega arith) (omega arith) (carried c n i o (omega arith) l g)
+carry-kept : (c j k : ℕ) (i : LineNo) (o r : List LineNo) → k < c - 1 → Kept c o r → Kept c o (carryOf i j k r)
+carry-kept c j k i o r h p =
+    let e = p .0 in
+    (carry-length j k i r ∙ e, λ a b g. carry-keeps c j k i r (omega arith) (omega arith) (p .1 a b g))
 
--- the use order after a use of a line
-pub used-length : (c : ℕ) (i : LineNo) (o : List LineNo) → length (usedOf c i o) ≡ length o
-used-length c i o = carried-length (c - 1) i o
+pub used-kept : (c : ℕ) (i : LineNo) (o : List LineNo) → Kept c o (usedOf c i o)
+used-kept c i o = upTo-keeps (Kept c o) (λ k. carryOf i k k) (c - 1) o (λ k r h. carry-kept c k k i o r h) (refl, λ _ _ g. g)
 
-pub used-keeps : (c : ℕ) (i : LineNo) (o : List LineNo) → 1 ≤ c → c ≤ length o → Ordered c o → Ordered c (usedOf c i o)
-used-keeps c i o h l g = carried c (c - 1) i o (omega arith) l g
+oldest-kept : (c : ℕ) (i : LineNo) (o : List LineNo) → Kept c o (oldestOf c i o)
+oldest-kept c i o = downTo-keeps (Kept c o) (λ k. carryOf i (k + 1) k) (c - 1) o (λ k r h. carry-kept c (k + 1) k i o r h) (refl, λ _ _ g. g)
+
+pub inserted-kept : (ins : Insertion) (op : Op) (c : ℕ) (i : LineNo) (o : List LineNo) → Kept c o (insertedOf ins op c i o)
+inserted-kept Newest op c i o = used-kept c i o
+inserted-kept LoadsOldest op c i o = by-cond (Kept c o) (isLoad op) (oldestOf c i o) (usedOf c i o) (oldest-kept c i o) (used-kept c i o)

@@ -2,20 +2,21 @@
 use Prim.Native.Nat.{ℕ}
 use mathlib.Core.Path.{refl}
 use mathlib.Core.List.{List, [], _∷_}
+use Rattle.lanes.specs.UseOrder.{Insertion}
 use Rattle.store.specs.declared.Store.{Store}
 use Rattle.machine.specs.Calls.{Call, callOf, run}
 use Rattle.machine.proofs.list.Owes.{Pending, Owes, Paid}
 
 -- one call keeps the invariant, of a store with flat memory, and pays
-abbrev pub Keeps : (Store → List ℕ → Type 0) → (Store → ℕ → Pending) → Store → List ℕ → Call → Type 0
-Keeps Inv pending s f c = (g : List ℕ) × Inv (callOf s c .store) g × Owes (pending s) f c (callOf s c .reply) (pending (callOf s c .store)) g
+abbrev pub Keeps : Insertion → (Store → List ℕ → Type 0) → (Store → ℕ → Pending) → Store → List ℕ → Call → Type 0
+Keeps ins Inv pending s f c = (g : List ℕ) × Inv (callOf ins s c .store) g × Owes (pending s) f c (callOf ins s c .reply) (pending (callOf ins s c .store)) g
 
 -- .. and so does a list of calls
-pub run-pays : (Inv : Store → List ℕ → Type 0) (pending : Store → ℕ → Pending) (keeps : (s : Store) (f : List ℕ) (c : Call) → Inv s f → Keeps Inv pending s f c)
-    (s : Store) (f : List ℕ) (cs : List Call) → Inv s f → (g : List ℕ) × Inv (run s cs .store) g × Paid (pending s) f (run s cs .history) (pending (run s cs .store)) g
+pub run-pays : (ins : Insertion) (Inv : Store → List ℕ → Type 0) (pending : Store → ℕ → Pending) (keeps : (s : Store) (f : List ℕ) (c : Call) → Inv s f → Keeps ins Inv pending s f c)
+    (s : Store) (f : List ℕ) (cs : List Call) → Inv s f → (g : List ℕ) × Inv (run ins s cs .store) g × Paid (pending s) f (run ins s cs .history) (pending (run ins s cs .store)) g
 unfolding run
-run-pays Inv pending keeps s f [] v = (f, v, (refl, refl))
-run-pays Inv pending keeps s f (c ∷ cs) v =
+run-pays ins Inv pending keeps s f [] v = (f, v, (refl, refl))
+run-pays ins Inv pending keeps s f (c ∷ cs) v =
     let one = keeps s f c v in
-    let rest = run-pays Inv pending keeps (callOf s c .store) (one .0) cs (one .1) in
-    (rest .0, rest .1, (pending (callOf s c .store), one .0, one .2, rest .2))
+    let rest = run-pays ins Inv pending keeps (callOf ins s c .store) (one .0) cs (one .1) in
+    (rest .0, rest .1, (pending (callOf ins s c .store), one .0, one .2, rest .2))

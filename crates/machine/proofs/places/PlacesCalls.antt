@@ -10,6 +10,7 @@ use native.Mathlib.Nat.{add-zero, zero-add}
 use Rattle.words.specs.declared.LaneNo.{LaneNo}
 use Rattle.words.specs.declared.WordNo.{WordNo}
 use Rattle.words.specs.declared.Op.{Op}
+use Rattle.lanes.specs.UseOrder.{Insertion}
 use Rattle.answers.specs.declared.Completion.{Completion}
 use Rattle.answers.specs.Refusals.{refusedOf}
 use Rattle.answers.specs.Completions.{doneIn}
@@ -53,38 +54,38 @@ given-more s t u xs ys a b =
     }
 
 -- settle is a list of steps
-advance-given : (s : Store) (p : Progress) → Given s (p .completions) (p .store) → Given s (advance p .completions) (advance p .store)
+advance-given : (ins : Insertion) (s : Store) (p : Progress) → Given s (p .completions) (p .store) → Given s (advance ins p .completions) (advance ins p .store)
 unfolding advance
-advance-given s p a =
-    given-more s (p .store) (settleStep (p .store) .store) (p .completions) (doneIn (settleStep (p .store) .answer)) a (step-counts (p .store))
+advance-given ins s p a =
+    given-more s (p .store) (settleStep ins (p .store) .store) (p .completions) (doneIn (settleStep ins (p .store) .answer)) a (step-counts ins (p .store))
 
-settle-given : (s : Store) → Given s (completionsOf (SettledWith (settleOf s .answer) (settleOf s .completions))) (settleOf s .store)
-settle-given s =
-    settle-rule (λ (r : Settlement). Given s (completionsOf (SettledWith (r .answer) (r .completions))) (r .store)) s (λ _. given-none s s refl)
-    (λ _ _ _. repeat-rule (λ (p : Progress). Given s (p .completions) (p .store)) (λ p _. advance-given s p) (suc (boundOf s)) (startAt s) (given-none s s refl))
+settle-given : (ins : Insertion) (s : Store) → Given s (completionsOf (SettledWith (settleOf ins s .answer) (settleOf ins s .completions))) (settleOf ins s .store)
+settle-given ins s =
+    settle-rule ins (λ (r : Settlement). Given s (completionsOf (SettledWith (r .answer) (r .completions))) (r .store)) s (λ _. given-none s s refl)
+    (λ _ _ _. repeat-rule ins (λ (p : Progress). Given s (p .completions) (p .store)) (λ p _. advance-given ins s p) (suc (boundOf s)) (startAt s) (given-none s s refl))
 
 -- every call
-pub call-given : (s : Store) (c : Call) → Given s (completionsOf (callOf s c .reply)) (callOf s c .store)
+pub call-given : (ins : Insertion) (s : Store) (c : Call) → Given s (completionsOf (callOf ins s c .reply)) (callOf ins s c .store)
 unfolding callOf
-call-given s (Begin k op w) = begin-counts s k op w
-call-given s (Serve k) = serve-counts s k
-call-given s (Return k) = return-counts s k
-call-given s (Deliver k) = deliver-counts s k
-call-given s Settle = settle-given s
+call-given ins s (Begin k op w) = begin-counts s k op w
+call-given ins s (Serve k) = serve-counts s k
+call-given ins s (Return k) = return-counts s k
+call-given ins s (Deliver k) = deliver-counts ins s k
+call-given ins s Settle = settle-given ins s
 
 -- settle leaves completions so far plus operations waiting as they were
 record Same (s : Store) (t : Store) : Type 0 where
   sized : Sized t
   begun : begunIn t ≡ begunIn s
 
-advance-same : (s : Store) (p : Progress) → Same s (p .store) → Same s (advance p .store)
+advance-same : (ins : Insertion) (s : Store) (p : Progress) → Same s (p .store) → Same s (advance ins p .store)
 unfolding advance
-advance-same s p a = record { sized = settle-step-sized (p .store) (a .sized); begun = step-begun (p .store) (a .sized) ∙ a .begun }
+advance-same ins s p a = record { sized = settle-step-sized ins (p .store) (a .sized); begun = step-begun ins (p .store) (a .sized) ∙ a .begun }
 
-settle-begun : (s : Store) → Sized s → begunIn (settleOf s .store) ≡ begunIn s
-settle-begun s g =
-    settle-rule (λ (r : Settlement). begunIn (r .store) ≡ begunIn s) s (λ _. refl)
-    (λ _ _ _. repeat-rule (λ (p : Progress). Same s (p .store)) (λ p _. advance-same s p) (suc (boundOf s)) (startAt s) (record { sized = g; begun = refl }) .begun)
+settle-begun : (ins : Insertion) (s : Store) → Sized s → begunIn (settleOf ins s .store) ≡ begunIn s
+settle-begun ins s g =
+    settle-rule ins (λ (r : Settlement). begunIn (r .store) ≡ begunIn s) s (λ _. refl)
+    (λ _ _ _. repeat-rule ins (λ (p : Progress). Same s (p .store)) (λ p _. advance-same ins s p) (suc (boundOf s)) (startAt s) (record { sized = g; begun = refl }) .begun)
 
 -- how many operations a begin call begins
 begins-one : (refused : Bool) (k : LaneNo) (op : Op) (w : WordNo) → cond refused 0 1 ≡ length (begunBy 0 (Begin k op w) refused)
@@ -97,11 +98,11 @@ kept : (s t : Store) → corruptOf s ≡ false → begunIn t ≡ begunIn s → (
 kept s t c e = let z = sound s c .begun in (omega arith, omega arith)
 
 -- 02, W1, of every call on a store that 14 passes
-pub places-kept : (s : Store) → corruptOf s ≡ false → Sized s → (c : Call) → PlacesKept s c
+pub places-kept : (ins : Insertion) (s : Store) → corruptOf s ≡ false → Sized s → (c : Call) → PlacesKept ins s c
 unfolding callOf begunBy
-places-kept s e g c = let a = call-given s c in let b = begun c in record { next = a .next; counted = a .counted; begun = b .0; within = b .1 }
+places-kept ins s e g c = let a = call-given ins s c in let b = begun c in record { next = a .next; counted = a .counted; begun = b .0; within = b .1 }
   where
-    begun : (c : Call) → (begunIn (callOf s c .store) ≡ begunIn s + beginsIn c (callOf s c .reply)) × (begunIn (callOf s c .store) ≤ lastPlace)
+    begun : (c : Call) → (begunIn (callOf ins s c .store) ≡ begunIn s + beginsIn c (callOf ins s c .reply)) × (begunIn (callOf ins s c .store) ≤ lastPlace)
     begun (Begin k op w) =
         let r = beginOf s k op w in (
           begin-begun s k op w g ∙ ap (λ (n : ℕ). begunIn s + n) (begins-one (refusedOf (r .answer)) k op w),
@@ -109,5 +110,5 @@ places-kept s e g c = let a = call-given s c in let b = begun c in record { next
         )
     begun (Serve k) = kept s _ e (serve-begun s k)
     begun (Return k) = kept s _ e (return-begun s k)
-    begun (Deliver k) = kept s _ e (deliver-begun s k g)
-    begun Settle = kept s _ e (settle-begun s g)
+    begun (Deliver k) = kept s _ e (deliver-begun ins s k g)
+    begun Settle = kept s _ e (settle-begun ins s g)

@@ -6,6 +6,7 @@ use mathlib.Core.List.{List, [], _∷_, _++_, map, map-append, map-map, map-id}
 use lib.ListN.{length, length-map}
 use Rattle.words.specs.declared.Shape.{Shape}
 use Rattle.words.proofs.Folds.{by-cond}
+use Rattle.lanes.specs.UseOrder.{Insertion}
 use Rattle.answers.specs.declared.Completion.{Completion}
 use Rattle.store.specs.declared.Store.{Store}
 use Rattle.store.specs.declared.Outcome.{Outcome}
@@ -22,12 +23,12 @@ abbrev givenBy : List Entry → List Completion
 givenBy [] = []
 givenBy (e ∷ es) = completionsOf (e .reply) ++ givenBy es
 
-run-given : (cs : List Call) (s : Store) → Given s (givenBy (run s cs .history)) (run s cs .store)
+run-given : (ins : Insertion) (cs : List Call) (s : Store) → Given s (givenBy (run ins s cs .history)) (run ins s cs .store)
 unfolding run
-run-given [] s = given-none s s refl
-run-given (c ∷ cs) s =
-    let t = callOf s c .store in
-    given-more s t (run t cs .store) (completionsOf (callOf s c .reply)) (givenBy (run t cs .history)) (call-given s c) (run-given cs t)
+run-given ins [] s = given-none s s refl
+run-given ins (c ∷ cs) s =
+    let t = callOf ins s c .store in
+    given-more s t (run ins t cs .store) (completionsOf (callOf ins s c .reply)) (givenBy (run ins t cs .history)) (call-given ins s c) (run-given ins cs t)
 
 -- .. are those that are attributed
 attributed-given : (i : ℕ) (last : LastWaits) (es : List Entry) → map (λ (x : Attributed). x .completion) (attribute i last es) ≡ givenBy es
@@ -42,11 +43,11 @@ unfolding openOf freshOf
 open-none shape = by-cond (λ (r : Outcome). r .store .completions ≡ 0) (badShape shape) _ _ refl refl
 
 -- from an opening the places are 1, 2, 3 ..
-pub places-run : (shape : Shape) (cs : List Call) →
-    map (λ (x : Attributed). x .completion .place) (completed (run (openOf shape .store) cs .history)) ≡ numbersFrom 1 (length (completed (run (openOf shape .store) cs .history)))
-places-run shape cs =
-    let h = run (openOf shape .store) cs .history in
+pub places-run : (ins : Insertion) (shape : Shape) (cs : List Call) →
+    map (λ (x : Attributed). x .completion .place) (completed (run ins (openOf shape .store) cs .history)) ≡ numbersFrom 1 (length (completed (run ins (openOf shape .store) cs .history)))
+places-run ins shape cs =
+    let h = run ins (openOf shape .store) cs .history in
     let a = attributed-given 0 noWaits h in
     let n = sym (length-map (completed h) (λ (x : Attributed). x .completion)) ∙ ap length a in
     sym (map-map (λ (x : Completion). x .place) (λ (x : Attributed). x .completion) (completed h)) ∙ ap (map (λ (x : Completion). x .place)) a ∙
-    run-given cs (openOf shape .store) .next ∙ rw (open-none shape, n)
+    run-given ins cs (openOf shape .store) .next ∙ rw (open-none shape, n)

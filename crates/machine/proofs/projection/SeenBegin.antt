@@ -3,7 +3,7 @@ use Prim.Native.Nat.{ℕ, _<_, _≤_}
 use mathlib.Core.Logic.{_≢_}
 use mathlib.Core.Path.{_≡_, refl, ap, sym, _∙_}
 use mathlib.Core.Bool.{Bool, true, false, cond, _||_}
-use mathlib.Core.List.{[], _∷_, _++_}
+use mathlib.Core.List.{List, [], _∷_, _++_}
 use lib.Dec.{leb}
 use lib.ListN.{length}
 use borrow.Author.Tests.{leb-false, eq-eqb, ne-eqb}
@@ -29,7 +29,7 @@ use Rattle.lanes.specs.declared.Waiting.the-variants.{Idle, Unserved, Served}
 use Rattle.lanes.specs.declared.Found.{Found}
 use Rattle.lanes.specs.declared.Found.the-variants.{At, Nothing}
 use Rattle.lanes.specs.Search.{lineAt, searchOf, vacantOf}
-use Rattle.lanes.specs.UseOrder.{placeAt}
+use Rattle.lanes.specs.UseOrder.{usedOf, placeAt}
 use Rattle.lanes.specs.Lanes.{withWaiting, withReturns, withLine}
 use Rattle.answers.specs.declared.Answer.the-variants.{Refused}
 use Rattle.answers.specs.declared.Refusal.{Refusal}
@@ -38,7 +38,7 @@ use Rattle.machine.specs.declared.LaneStep.{LaneStep}
 use Rattle.machine.specs.declared.LaneAnswer.the-variants.{Value, Waits}
 use Rattle.machine.specs.declared.LaneAnswer.{LaneAnswer}
 use Rattle.machine.specs.Change.{refuseLane}
-use Rattle.machine.specs.Begin.{complete, waits, hit, readOf, ejectOf, evict, missWith, miss, beginAt, beginLane}
+use Rattle.machine.specs.Begin.{completeWith, complete, waits, hit, readOf, ejectOf, evict, missWith, miss, beginAt, beginLane}
 use Rattle.machine.specs.Sized.{LaneSized}
 use Rattle.machine.proofs.laws.Tests.{on}
 use Rattle.machine.proofs.bounds.KeepsLane.{clash}
@@ -110,26 +110,27 @@ waiting-here o a e = let t = eq-eqb (blockOf (o .word) .0) (a .0) e in (rw t, rw
 pub waiting-other : (o : Operation) (a : BlockNo) → a .0 ≢ blockOf (o .word) .0 → (waitingOn a (Unserved o) ≡ Idle) × (waitingOn a (Served o) ≡ Idle)
 waiting-other o a n = let t = ne-eqb (blockOf (o .word) .0) (a .0) (λ e. n (sym e)) in (rw t, rw t)
 
--- an operation completes on line i with the contents x, which are valid and of a block that no other valid line has
-module _ (c : ℕ) (l : Lane) (long : c ≤ length (l .lines)) (u : Unique c l) (i : LineNo) (x : Line) (op : Op) (w : WordNo) (h : i .0 < c) (v : x .valid ≡ true) (alone : Alone c i x l) where
-  complete-changed : Changed i (performOf x op w .line) l (complete c i x op w l .lane)
-  unfolding complete
+-- an operation completes on line i with the contents x, which are valid and of a block that no other valid line has; the use order after it
+-- is any (o): a block sees nothing of it
+module _ (o : List LineNo) (c : ℕ) (l : Lane) (long : c ≤ length (l .lines)) (u : Unique c l) (i : LineNo) (x : Line) (op : Op) (w : WordNo) (h : i .0 < c) (v : x .valid ≡ true) (alone : Alone c i x l) where
+  complete-changed : Changed i (performOf x op w .line) l (completeWith o i x op w l .lane)
+  unfolding completeWith
   complete-changed = set-changed i (performOf x op w .line) l _ refl (omega arith)
 
-  pub complete-unique : Unique c (complete c i x op w l .lane)
+  pub complete-unique : Unique c (completeWith o i x op w l .lane)
   complete-unique = unique-changed c i (performOf x op w .line) l _ complete-changed u (λ _. alone)
 
-  pub complete-here : (a : BlockNo) → x .block .0 ≡ a .0 → seen c a (complete c i x op w l .lane) ≡ heldAs a (performOf x op w .line) (withWaiting Idle l)
-  unfolding complete
+  pub complete-here : (a : BlockNo) → x .block .0 ≡ a .0 → seen c a (completeWith o i x op w l .lane) ≡ heldAs a (performOf x op w .line) (withWaiting Idle l)
+  unfolding completeWith
   complete-here a e =
       let f = changed-found c i (performOf x op w .line) l _ complete-changed complete-unique h a (valid-holds (performOf x op w .line) a v e) in
-      seen-held c a (complete c i x op w l .lane) i f ∙ ap (λ (y : Line). heldAs a y (withWaiting Idle l)) (complete-changed .here)
+      seen-held c a (completeWith o i x op w l .lane) i f ∙ ap (λ (y : Line). heldAs a y (withWaiting Idle l)) (complete-changed .here)
 
-  pub complete-others : (a : BlockNo) → a .0 ≢ x .block .0 → holdsOf (lineAt l i) a ≡ false → waitingOn a (l .waiting) ≡ Idle → seen c a (complete c i x op w l .lane) ≡ seen c a l
-  unfolding complete
+  pub complete-others : (a : BlockNo) → a .0 ≢ x .block .0 → holdsOf (lineAt l i) a ≡ false → waitingOn a (l .waiting) ≡ Idle → seen c a (completeWith o i x op w l .lane) ≡ seen c a l
+  unfolding completeWith
   complete-others a n f e =
-      let s = changed-other c i (performOf x op w .line) l (complete c i x op w l .lane) complete-changed a complete-unique f (other-holds (performOf x op w .line) a (λ q. n (sym q))) in
-      seen-same c a l (complete c i x op w l .lane) s refl refl (sym e)
+      let s = changed-other c i (performOf x op w .line) l (completeWith o i x op w l .lane) complete-changed a complete-unique f (other-holds (performOf x op w .line) a (λ q. n (sym q))) in
+      seen-same c a l (completeWith o i x op w l .lane) s refl refl (sym e)
 
 -- a queue that took a message had a free place
 pub push-room : (q : ReturnQueue) (m : ReturnMessage) → pushReturn q m .full ≡ false → q .len < 2
@@ -270,19 +271,19 @@ module _ (c : ℕ) (op : Op) (w : WordNo) (l : Lane) (z : LaneSized l) (b : c �
     hit-alone = replace-alone c i (lineAt l i) l u hit-below (hit-valid .0) refl
 
     hit-case : (isLoad op || lineAt l i .private) ≡ true → HitCase c op w l (complete c i (lineAt l i) op w l)
-    unfolding complete
+    unfolding completeWith
     hit-case t =
         let long : c ≤ length (l .lines) = let n = z .lines in omega arith in
         record {
           answer = ap (λ (x : Seen). Value (valueDone op w (x .words))) (sym hit-seen);
           copy = ap (λ (x : Seen). held (x .line)) hit-seen ∙ held-line (lineAt l i .private);
           able = ap (λ (x : Seen). isLoad op || dirty (x .line)) hit-seen ∙ ap (λ (p : Bool). isLoad op || p) (dirty-line (lineAt l i .private)) ∙ t;
-          here = complete-here c l long u i (lineAt l i) op w hit-below (hit-valid .0) hit-alone (blockOf w) (hit-valid .1) ∙
+          here = complete-here (usedOf c i (l .order)) c l long u i (lineAt l i) op w hit-below (hit-valid .0) hit-alone (blockOf w) (hit-valid .1) ∙
               ap (λ (x : Waiting). heldAs (blockOf w) (performOf (lineAt l i) op w .line) (withWaiting x l)) (sym idle) ∙ ap (hitSeen op w) (sym hit-seen);
-          others = λ a n. complete-others c l long u i (lineAt l i) op w hit-below (hit-valid .0) hit-alone a (λ q. n (q ∙ hit-valid .1))
+          others = λ a n. complete-others (usedOf c i (l .order)) c l long u i (lineAt l i) op w hit-below (hit-valid .0) hit-alone a (λ q. n (q ∙ hit-valid .1))
               (other-holds (lineAt l i) a (λ q. n (sym q ∙ hit-valid .1))) (ap (waitingOn a) idle);
           waiting = refl;
-          unique = complete-unique c l long u i (lineAt l i) op w hit-below (hit-valid .0) hit-alone;
+          unique = complete-unique (usedOf c i (l .order)) c l long u i (lineAt l i) op w hit-below (hit-valid .0) hit-alone;
         }
 
     exclude-case : (isLoad op || lineAt l i .private) ≡ false → ExcludeCase c op w l (waits Exclude op w l)

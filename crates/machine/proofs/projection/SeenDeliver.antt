@@ -30,6 +30,7 @@ use Rattle.lanes.specs.declared.Waiting.the-variants.{Idle, Unserved, Served}
 use Rattle.lanes.specs.declared.Found.{Found}
 use Rattle.lanes.specs.declared.Found.the-variants.{At, Nothing}
 use Rattle.lanes.specs.Search.{lineAt, searchOf, vacantOf}
+use Rattle.lanes.specs.UseOrder.{Insertion}
 use Rattle.lanes.specs.Lanes.{withDowns, withLines, withReturns}
 use Rattle.answers.specs.declared.Refusal.{Refusal}
 use Rattle.answers.specs.declared.Refusal.the-variants.{NothingPending, QueueFull, Unexpected}
@@ -38,7 +39,7 @@ use Rattle.machine.specs.declared.Ready.{Ready}
 use Rattle.machine.specs.declared.Ready.the-variants.{Go, No}
 use Rattle.machine.specs.declared.LaneAnswer.the-variants.{Value, Stepped}
 use Rattle.machine.specs.Change.{refuseLane}
-use Rattle.machine.specs.Begin.{complete}
+use Rattle.machine.specs.Begin.{completeWith}
 use Rattle.machine.specs.Deliver.{reply, shared, updateAt, purgedOf, purgeAt, claimed, fillAt, grantAt, bareAt, servedOn, grantTo, bareTo, deliverKind, orAsBefore, deliverLane}
 use Rattle.machine.specs.Sized.{LaneSized}
 use Rattle.machine.proofs.laws.Tests.{on}
@@ -180,7 +181,7 @@ module _ (c : ℕ) (l : Lane) (z : LaneSized l) (b : c ≤ 8) (u : Unique c l) (
           words = ap (λ (r : Seen). r .words) s;
         }
 
-module _ (c : ℕ) (l : Lane) (z : LaneSized l) (b : c ≤ 8) (u : Unique c l) (some : l .downs .len ≢ 0) (short : l .downs .len ≤ 2) where
+module _ (ins : Insertion) (c : ℕ) (l : Lane) (z : LaneSized l) (b : c ≤ 8) (u : Unique c l) (some : l .downs .len ≢ 0) (short : l .downs .len ≤ 2) where
   -- the messages about block a once the head has left
   left : BlockNo → List DownMessage
   left a = keepIf (downAbout a) (queuedDowns (afterHead l))
@@ -272,16 +273,16 @@ module _ (c : ℕ) (l : Lane) (z : LaneSized l) (b : c ≤ 8) (u : Unique c l) (
     unfolding seen
     served-seen = ap (waitingOn (headBlock l)) t ∙ waiting-here o (headBlock l) n .1
 
-    module _ (i : LineNo) (x : Line) (h : i .0 < c) (v : x .valid ≡ true) (e : x .block .0 ≡ headBlock l .0) (alone : Alone c i x l) where
+    module _ (order : List LineNo) (i : LineNo) (x : Line) (h : i .0 < c) (v : x .valid ≡ true) (e : x .block .0 ≡ headBlock l .0) (alone : Alone c i x l) where
       -- the lane that took the head has the c lines
       long : c ≤ length (l .lines)
       long = let m = z .lines in omega arith
 
-      grant-here : seen c (headBlock l) (complete c i (claimed (o .op) x) (o .op) (o .word) (withDowns (afterHead l) l) .lane) ≡
+      grant-here : seen c (headBlock l) (completeWith order i (claimed (o .op) x) (o .op) (o .word) (withDowns (afterHead l) l) .lane) ≡
           grantSeen o (x .words) (left (headBlock l)) (seen c (headBlock l) l)
       unfolding seen left
       grant-here =
-          complete-here c (withDowns (afterHead l) l) long u i (claimed (o .op) x) (o .op) (o .word) h v alone (headBlock l) e ∙
+          complete-here order c (withDowns (afterHead l) l) long u i (claimed (o .op) x) (o .op) (o .word) h v alone (headBlock l) e ∙
           (λ j. record {
             line = claimed-line (isLoad (o .op)) j;
             words = wordsDone (o .op) (o .word) (x .words);
@@ -291,15 +292,15 @@ module _ (c : ℕ) (l : Lane) (z : LaneSized l) (b : c ≤ 8) (u : Unique c l) (
           })
 
       grant-others : ((a : BlockNo) → a .0 ≢ headBlock l .0 → holdsOf (lineAt l i) a ≡ false) → (a : BlockNo) → a .0 ≢ headBlock l .0 →
-          seen c a (complete c i (claimed (o .op) x) (o .op) (o .word) (withDowns (afterHead l) l) .lane) ≡ seen c a l
+          seen c a (completeWith order i (claimed (o .op) x) (o .op) (o .word) (withDowns (afterHead l) l) .lane) ≡ seen c a l
       grant-others apart a m =
-          complete-others c (withDowns (afterHead l) l) long u i (claimed (o .op) x) (o .op) (o .word) h v alone a (λ q. m (q ∙ e)) (apart a m)
+          complete-others order c (withDowns (afterHead l) l) long u i (claimed (o .op) x) (o .op) (o .word) h v alone a (λ q. m (q ∙ e)) (apart a m)
           (ap (waitingOn a) t ∙ waiting-other o a (λ q. m (q ∙ n)) .1) ∙
           seen-same c a l (withDowns (afterHead l) l) (record { line = refl; words = refl }) refl (downs-other a m) refl
 
       grant-case : (y : DownKind) (ws : List ℕ) → headDown (l .downs) .kind ≡ y → x .words ≡ ws → ((a : BlockNo) → a .0 ≢ headBlock l .0 → holdsOf (lineAt l i) a ≡ false) →
-          GrantCase c y ws l (orAsBefore l (complete c i (claimed (o .op) x) (o .op) (o .word) (withDowns (afterHead l) l)))
-      unfolding complete
+          GrantCase c y ws l (orAsBefore l (completeWith order i (claimed (o .op) x) (o .op) (o .word) (withDowns (afterHead l) l)))
+      unfolding completeWith
       grant-case y ws q r apart =
           record {
             taken = record {
@@ -307,7 +308,7 @@ module _ (c : ℕ) (l : Lane) (z : LaneSized l) (b : c ≤ 8) (u : Unique c l) (
               rest = left (headBlock l);
               head = downs-head;
               others = grant-others apart;
-              unique = complete-unique c (withDowns (afterHead l) l) long u i (claimed (o .op) x) (o .op) (o .word) h v alone;
+              unique = complete-unique order c (withDowns (afterHead l) l) long u i (claimed (o .op) x) (o .op) (o .word) h v alone;
             };
             operation = o;
             served = t;
@@ -319,15 +320,15 @@ module _ (c : ℕ) (l : Lane) (z : LaneSized l) (b : c ≤ 8) (u : Unique c l) (
           }
 
     fill-case : headDown (l .downs) .kind ≡ Grant → searchOf l c (headBlock l) ≡ Nothing → (f : Found) → vacantOf l c ≡ f →
-        DeliverCase c l (orAsBefore l (fillAt f c (headDown (l .downs)) o (withDowns (afterHead l) l)))
+        DeliverCase c l (orAsBefore l (fillAt ins f c (headDown (l .downs)) o (withDowns (afterHead l) l)))
     fill-case q e (At i) r =
         let x : Line = filledLine (headBlock l) (headDown (l .downs) .words) in
         let p = vacant-invalid c l i r in
-        Grants (no-line e .0) (grant-case i x (p .0) refl refl (fill-alone c i x l e) Grant (x .words) q refl (λ a _. invalid-holds (lineAt l i) a (p .1)))
+        Grants (no-line e .0) (grant-case _ i x (p .0) refl refl (fill-alone c i x l e) Grant (x .words) q refl (λ a _. invalid-holds (lineAt l i) a (p .1)))
     fill-case q e Nothing r = Refuses (record { reason = Unexpected; answer = refl; same = refl })
 
     words-case : headDown (l .downs) .kind ≡ Grant → (f : Found) → searchOf l c (headBlock l) ≡ f →
-        DeliverCase c l (orAsBefore l (grantAt f c (headDown (l .downs)) o (withDowns (afterHead l) l)))
+        DeliverCase c l (orAsBefore l (grantAt ins f c (headDown (l .downs)) o (withDowns (afterHead l) l)))
     words-case q (At i) e = Refuses (record { reason = Unexpected; answer = refl; same = refl })
     words-case q Nothing e = fill-case q e (vacantOf l c) refl
 
@@ -338,7 +339,7 @@ module _ (c : ℕ) (l : Lane) (z : LaneSized l) (b : c ≤ 8) (u : Unique c l) (
         let h = found-holds c l (headBlock l) i e in
         let v = holds-valid x (headBlock l) (h .1) in
         BareGrants (ap held (at-line i e .0) ∙ held-line (x .private))
-        (grant-case i x (h .0) (v .0) (v .1) (replace-alone c i x l u (h .0) (v .0) refl) BareGrant (seen c (headBlock l) l .words) q (sym (at-line i e .1))
+        (grant-case _ i x (h .0) (v .0) (v .1) (replace-alone c i x l u (h .0) (v .0) refl) BareGrant (seen c (headBlock l) l .words) q (sym (at-line i e .1))
         (λ a m. other-holds x a (λ p. m (sym p ∙ v .1))))
     bare-case q Nothing e = Refuses (record { reason = Unexpected; answer = refl; same = refl })
 
@@ -350,19 +351,19 @@ module _ (c : ℕ) (l : Lane) (z : LaneSized l) (b : c ≤ 8) (u : Unique c l) (
   served-case P refused go (Served o) e =
       pick P (eqb (blockOf (o .word) .0) (headBlock l .0)) (Go o) (No Unexpected) (λ q. go o e (eqb-true _ _ q)) (λ _. refused Unexpected)
 
-  kind-case : (y : DownKind) → headDown (l .downs) .kind ≡ y → DeliverCase c l (orAsBefore l (deliverKind y c (headDown (l .downs)) (withDowns (afterHead l) l)))
+  kind-case : (y : DownKind) → headDown (l .downs) .kind ≡ y → DeliverCase c l (orAsBefore l (deliverKind ins y c (headDown (l .downs)) (withDowns (afterHead l) l)))
   kind-case Update q = update-case q (searchOf l c (headBlock l)) refl
   kind-case Purge q = purge-case q (searchOf l c (headBlock l)) refl
   kind-case Grant q =
-      served-case (λ (r : Ready). DeliverCase c l (orAsBefore l (grantTo r c (headDown (l .downs)) (withDowns (afterHead l) l))))
+      served-case (λ (r : Ready). DeliverCase c l (orAsBefore l (grantTo ins r c (headDown (l .downs)) (withDowns (afterHead l) l))))
       (λ r. Refuses (record { reason = r; answer = refl; same = refl })) (λ o t n. words-case o t n q (searchOf l c (headBlock l)) refl) (l .waiting) refl
   kind-case BareGrant q =
       served-case (λ (r : Ready). DeliverCase c l (orAsBefore l (bareTo r c (headDown (l .downs)) (withDowns (afterHead l) l))))
       (λ r. Refuses (record { reason = r; answer = refl; same = refl })) (λ o t n. bare-case o t n q (searchOf l c (headBlock l)) refl) (l .waiting) refl
 
 -- the lane's part of deliver
-pub deliver-case : (c : ℕ) (l : Lane) → LaneSized l → c ≤ 8 → Unique c l → l .downs .len ≤ 2 → DeliverCase c l (deliverLane c l)
+pub deliver-case : (ins : Insertion) (c : ℕ) (l : Lane) → LaneSized l → c ≤ 8 → Unique c l → l .downs .len ≤ 2 → DeliverCase c l (deliverLane ins c l)
 unfolding deliverLane
-deliver-case c l z b u h =
+deliver-case ins c l z b u h =
     pick (DeliverCase c l) (emptyAt (l .downs .len)) (refuseLane NothingPending l) _ (λ t. Refuses (record { reason = NothingPending; answer = refl; same = refl }))
-    (λ t. kind-case c l z b u (eqb-false (l .downs .len) 0 t) h (headDown (l .downs) .kind) refl)
+    (λ t. kind-case ins c l z b u (eqb-false (l .downs .len) 0 t) h (headDown (l .downs) .kind) refl)

@@ -19,6 +19,7 @@ use Rattle.lanes.specs.declared.Operation.{Operation}
 use Rattle.lanes.specs.declared.Waiting.{Waiting}
 use Rattle.lanes.specs.declared.Waiting.the-variants.{Idle, Unserved, Served}
 use Rattle.lanes.specs.Waits.{idleOf}
+use Rattle.lanes.specs.UseOrder.{Insertion}
 use Rattle.answers.specs.declared.Answer.{Answer}
 use Rattle.answers.specs.declared.Answer.the-variants.{Opened, Done, Wait, Step, Refused}
 use Rattle.answers.specs.declared.Refusal.{Refusal}
@@ -136,14 +137,14 @@ unfolding returnOf
 return-is s k r = guarded-is s k _ (r .sound) (r .lane) ∙ rw (ne-eqb _ _ (r .filled)) refl
 
 -- deliver: 9 is the lane's own
-pub deliver-rule : (P : Outcome → Type 0) (s : Store) (k : LaneNo) → ((x : Refusal) → P (refuse x s)) →
-    (corruptOf s ≡ false → k .0 < s .shape .n → P (commitLane s k (deliverLane (s .shape .c) (laneAt s (k .0))))) → P (deliverOf s k)
+pub deliver-rule : (ins : Insertion) (P : Outcome → Type 0) (s : Store) (k : LaneNo) → ((x : Refusal) → P (refuse x s)) →
+    (corruptOf s ≡ false → k .0 < s .shape .n → P (commitLane s k (deliverLane ins (s .shape .c) (laneAt s (k .0))))) → P (deliverOf ins s k)
 unfolding deliverOf
-deliver-rule P s k stays next = guarded-rule P s k _ stays next
+deliver-rule ins P s k stays next = guarded-rule P s k _ stays next
 
-pub deliver-is : (s : Store) (k : LaneNo) → corruptOf s ≡ false → k .0 < s .shape .n → deliverOf s k ≡ commitLane s k (deliverLane (s .shape .c) (laneAt s (k .0)))
+pub deliver-is : (ins : Insertion) (s : Store) (k : LaneNo) → corruptOf s ≡ false → k .0 < s .shape .n → deliverOf ins s k ≡ commitLane s k (deliverLane ins (s .shape .c) (laneAt s (k .0)))
 unfolding deliverOf
-deliver-is s k c h = guarded-is s k _ c h
+deliver-is ins s k c h = guarded-is s k _ c h
 
 -- a call on a lane is refused where the lane's part is
 pub answer-goes : (k : LaneNo) (done : ℕ) (a : LaneAnswer) → refusedOf (answerTo k done a) ≡ refusedIn a

@@ -10,6 +10,7 @@ use native.Mathlib.Omega.{arith}
 use Rattle.words.specs.Folds.{lowestTo}
 use Rattle.words.proofs.Folds.{pick}
 use Rattle.lanes.specs.Waits.{unservedOf}
+use Rattle.lanes.specs.UseOrder.{Insertion}
 use Rattle.answers.specs.declared.Refusal.the-variants.{Unexpected}
 use Rattle.store.specs.declared.Store.{Store}
 use Rattle.store.specs.declared.Outcome.{Outcome}
@@ -72,12 +73,12 @@ empty : (len : ℕ) → ltb 0 len ≡ false → len ≡ 0
 empty len e = let h = ltb-false 0 len e in omega arith
 
 -- a step of settle is a deliver; or a return, where no deliver can be; or a serve, where neither can be; or 16
-pub step-rule : (P : Outcome → Type 0) (s : Store) → ((k : ℕ) → k < s .shape .n → laneAt s k .downs .len ≢ 0 → P (deliverOf s (lane k))) →
+pub step-rule : (ins : Insertion) (P : Outcome → Type 0) (s : Store) → ((k : ℕ) → k < s .shape .n → laneAt s k .downs .len ≢ 0 → P (deliverOf ins s (lane k))) →
     (NoDowns s → (k : ℕ) → k < s .shape .n → laneAt s k .returns .len ≢ 0 → P (returnOf s (lane k))) →
     (NoDowns s → NoReturns s → (k : ℕ) → k < s .shape .n → unservedOf (laneAt s k .waiting) ≡ true → P (serveOf s (lane k))) →
-    (NoDowns s → NoReturns s → NoUnserved s → P (refuse Unexpected s)) → P (settleStep s)
+    (NoDowns s → NoReturns s → NoUnserved s → P (refuse Unexpected s)) → P (settleStep ins s)
 unfolding settleStep
-step-rule P s delivers returns serves stuck =
+step-rule ins P s delivers returns serves stuck =
     lowest-rule P (λ k. ltb 0 (laneAt s k .downs .len)) (s .shape .n) _ _ (λ h e. delivers _ h (filled _ e))
     (λ d. lowest-rule P (λ k. ltb 0 (laneAt s k .returns .len)) (s .shape .n) _ _ (λ h e. returns (λ k l. empty _ (d k l)) _ h (filled _ e))
     (λ r. lowest-rule P (λ k. unservedOf (laneAt s k .waiting)) (s .shape .n) _ _
@@ -85,7 +86,7 @@ step-rule P s delivers returns serves stuck =
     (λ u. stuck (λ k l. empty _ (d k l)) (λ k l. empty _ (r k l)) u)))
 
 -- what holds at the start and is kept by every step holds at the end
-pub repeat-rule : (P : Progress → Type 0) → ((p : Progress) → ended p ≡ false → P p → P (advance p)) → (n : ℕ) (p : Progress) → P p → P (repeatStep n p)
+pub repeat-rule : (ins : Insertion) (P : Progress → Type 0) → ((p : Progress) → ended p ≡ false → P p → P (advance ins p)) → (n : ℕ) (p : Progress) → P p → P (repeatStep ins n p)
 unfolding repeatStep
-repeat-rule P keeps zero p h = h
-repeat-rule P keeps (suc n) p h = pick P (ended p) p (repeatStep n (advance p)) (λ _. h) (λ e. repeat-rule P keeps n (advance p) (keeps p e h))
+repeat-rule ins P keeps zero p h = h
+repeat-rule ins P keeps (suc n) p h = pick P (ended p) p (repeatStep ins n (advance ins p)) (λ _. h) (λ e. repeat-rule ins P keeps n (advance ins p) (keeps p e h))

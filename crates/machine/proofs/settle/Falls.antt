@@ -13,6 +13,7 @@ use Rattle.queues.specs.Queues.{headReturn}
 use Rattle.lanes.specs.declared.Waiting.{Waiting}
 use Rattle.lanes.specs.declared.Waiting.the-variants.{Idle, Unserved, Served}
 use Rattle.lanes.specs.Waits.{idleOf}
+use Rattle.lanes.specs.UseOrder.{Insertion}
 use Rattle.answers.specs.declared.Refusal.{Refusal}
 use Rattle.answers.specs.Refusals.{refusedOf}
 use Rattle.answers.specs.Completions.{doneIn}
@@ -49,14 +50,14 @@ bound-tally s = refl
 refused-advances : (u served orders : ℕ) (s : Store) (n : Refusal) → Advancing u served orders s (refuse n s)
 refused-advances u served orders s n e = absurd (true≢false e)
 
-deliver-advances : (u : ℕ) (s : Store) (k : LaneNo) → Sized s → Advancing u 0 0 s (deliverOf s k)
-deliver-advances u s k g =
-    deliver-rule (Advancing u 0 0 s) s k (refused-advances u 0 0 s)
+deliver-advances : (ins : Insertion) (u : ℕ) (s : Store) (k : LaneNo) → Sized s → Advancing u 0 0 s (deliverOf ins s k)
+deliver-advances ins u s k g =
+    deliver-rule ins (Advancing u 0 0 s) s k (refused-advances u 0 0 s)
     (λ e l.
     let a = sound s e in
     let h = a .n-high in
     commit-lane-advances u s k _ (g .lanes) h l
-    (deliver-lane-takes u (s .shape .c) (laneAt s (k .0)) (g .lane (k .0) (omega arith)) (a .lane (k .0) l .downs .short)))
+    (deliver-lane-takes ins u (s .shape .c) (laneAt s (k .0)) (g .lane (k .0) (omega arith)) (a .lane (k .0) l .downs .short)))
 
 return-advances : (u : ℕ) (s : Store) (k : LaneNo) → Sized s → Advancing u 0 0 s (returnOf s k)
 return-advances u s k g =
@@ -109,30 +110,30 @@ falls served orders s r a f h =
     record { potential = omega arith; bound = omega arith }
 
 -- it is a deliver, a return or a serve, or is refused
-step-falls : (s : Store) → corruptOf s ≡ false → Sized s → refusedOf (settleStep s .answer) ≡ false → Falling s (settleStep s)
-step-falls s e g =
-    step-rule (λ (r : Outcome). refusedOf (r .answer) ≡ false → Falling s r) s
-    (λ k _ _. falls 0 0 s _ (λ u. deliver-advances u s (lane k) g) (omega arith))
+step-falls : (ins : Insertion) (s : Store) → corruptOf s ≡ false → Sized s → refusedOf (settleStep ins s .answer) ≡ false → Falling s (settleStep ins s)
+step-falls ins s e g =
+    step-rule ins (λ (r : Outcome). refusedOf (r .answer) ≡ false → Falling s r) s
+    (λ k _ _. falls 0 0 s _ (λ u. deliver-advances ins u s (lane k) g) (omega arith))
     (λ _ k _ _. falls 0 0 s _ (λ u. return-advances u s (lane k) g) (omega arith))
     (λ _ _ k l _. let f = orders-fewer s (lane k) e l in falls 1 _ s _ (λ u. serve-advances u s (lane k) g) (omega arith))
     (λ _ _ _ h. absurd (true≢false h))
 
-pub steps-exact : (s : Store) → corruptOf s ≡ false → Sized s → ExactSteps s
-steps-exact s e g =
+pub steps-exact : (ins : Insertion) (s : Store) → corruptOf s ≡ false → Sized s → ExactSteps ins s
+steps-exact ins s e g =
     record {
-      deliver = λ k h. let a = deliver-advances 2 s k g h .exact in omega arith;
+      deliver = λ k h. let a = deliver-advances ins 2 s k g h .exact in omega arith;
       return = λ k h. let a = return-advances 2 s k g h .exact in omega arith;
       serve = λ k h. let a = serve-advances 2 s k g h .exact in omega arith;
-      step = λ h. step-falls s e g h .potential;
+      step = λ h. step-falls ins s e g h .potential;
     }
 
-pub settle-falls : (s : Store) → corruptOf s ≡ false → Sized s → refusedOf (settleStep s .answer) ≡ false → boundOf (settleStep s .store) < boundOf s
-settle-falls s e g h = step-falls s e g h .bound
+pub settle-falls : (ins : Insertion) (s : Store) → corruptOf s ≡ false → Sized s → refusedOf (settleStep ins s .answer) ≡ false → boundOf (settleStep ins s .store) < boundOf s
+settle-falls ins s e g h = step-falls ins s e g h .bound
 
 -- it completes as many operations as wait no more
-pub settle-completes : (s : Store) → Sized s → length (doneIn (settleStep s .answer)) + waitingIn (settleStep s .store) ≡ waitingIn s
+pub settle-completes : (ins : Insertion) (s : Store) → Sized s → length (doneIn (settleStep ins s .answer)) + waitingIn (settleStep ins s .store) ≡ waitingIn s
 unfolding begunIn
-settle-completes s g = let a = step-counts s .counted in let b = step-begun s g in omega arith
+settle-completes ins s g = let a = step-counts ins s .counted in let b = step-begun ins s g in omega arith
 
 -- 8 lanes of 2 returns, 2 orders and an unserved operation, and a service
 pub bound-most : (s : Store) → corruptOf s ≡ false → boundOf s ≤ 177

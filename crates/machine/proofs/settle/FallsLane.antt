@@ -31,6 +31,7 @@ use Rattle.lanes.specs.declared.Found.{Found}
 use Rattle.lanes.specs.declared.Found.the-variants.{At, Nothing}
 use Rattle.lanes.specs.Search.{lineAt, searchOf, vacantOf}
 use Rattle.lanes.specs.Waits.{unservedOf}
+use Rattle.lanes.specs.UseOrder.{Insertion}
 use Rattle.lanes.specs.Lanes.{withWaiting, withReturns, withDowns, withLine}
 use Rattle.answers.specs.declared.Refusal.{Refusal}
 use Rattle.answers.specs.declared.Refusal.the-variants.{NothingPending, QueueFull, Unexpected}
@@ -38,7 +39,7 @@ use Rattle.machine.specs.declared.LaneStep.{LaneStep}
 use Rattle.machine.specs.declared.Ready.{Ready}
 use Rattle.machine.specs.declared.Ready.the-variants.{Go, No}
 use Rattle.machine.specs.Change.{refuseLane, posted, refusedIn}
-use Rattle.machine.specs.Begin.{complete}
+use Rattle.machine.specs.Begin.{completeWith}
 use Rattle.machine.specs.Deliver.{reply, shared, updateAt, purgeAt, fillAt, grantAt, bareAt, servedOn, grantTo, bareTo, deliverKind, deliverLane}
 use Rattle.machine.specs.Settle.{isOrder, downsOf}
 use Rattle.machine.specs.Sized.{LaneSized}
@@ -132,14 +133,14 @@ unfolding weight
 line-takes u y i x l e = reply-takes u y (withLine i x l) e
 
 -- an operation completes
-complete-takes : (u c : ℕ) (i : LineNo) (x : Line) (op : Op) (w : WordNo) (l : Lane) (o : Operation) → l .waiting ≡ Served o →
-    Takes u 1 l (complete c i x op w l)
-unfolding complete weight
-complete-takes u c i x op w l o e h =
+complete-takes : (u : ℕ) (order : List LineNo) (i : LineNo) (x : Line) (op : Op) (w : WordNo) (l : Lane) (o : Operation) → l .waiting ≡ Served o →
+    Takes u 1 l (completeWith order i x op w l)
+unfolding completeWith weight
+complete-takes u order i x op w l o e h =
     let a = ap (λ (y : Waiting). cond (unservedOf y) u 0) e in
     omega arith
 
-module _ (u c : ℕ) (l : Lane) where
+module _ (ins : Insertion) (u c : ℕ) (l : Lane) where
   update-takes : (a : BlockNo) (f : Found) → Takes u 2 l (updateAt f a l)
   update-takes a (At i) = line-takes u _ i (shared (lineAt l i)) l
   update-takes a Nothing = reply-takes u _ l
@@ -148,24 +149,24 @@ module _ (u c : ℕ) (l : Lane) where
   purge-takes a (At i) = line-takes u _ i (invalid (lineAt l i)) l
   purge-takes a Nothing = reply-takes u _ l
 
-  fill-takes : (x : DownMessage) (o : Operation) (f : Found) → l .waiting ≡ Served o → Takes u 1 l (fillAt f c x o l)
-  fill-takes x o (At i) e = complete-takes u c i _ (o .op) (o .word) l o e
+  fill-takes : (x : DownMessage) (o : Operation) (f : Found) → l .waiting ≡ Served o → Takes u 1 l (fillAt ins f c x o l)
+  fill-takes x o (At i) e = complete-takes u _ i _ (o .op) (o .word) l o e
   fill-takes x o Nothing e = refused-takes u 1 l Unexpected
 
-  grant-takes : (x : DownMessage) (o : Operation) (f : Found) → l .waiting ≡ Served o → Takes u 1 l (grantAt f c x o l)
+  grant-takes : (x : DownMessage) (o : Operation) (f : Found) → l .waiting ≡ Served o → Takes u 1 l (grantAt ins f c x o l)
   grant-takes x o (At i) e = refused-takes u 1 l Unexpected
   grant-takes x o Nothing e = fill-takes x o (vacantOf l c) e
 
   bare-takes : (o : Operation) (f : Found) → l .waiting ≡ Served o → Takes u 1 l (bareAt f c o l)
-  bare-takes o (At i) e = complete-takes u c i _ (o .op) (o .word) l o e
+  bare-takes o (At i) e = complete-takes u _ i _ (o .op) (o .word) l o e
   bare-takes o Nothing e = refused-takes u 1 l Unexpected
 
   -- a grant is to the operation that is served, or is refused
-  grants-take : (x : DownMessage) (w : Waiting) → l .waiting ≡ w → Takes u 1 l (grantTo (servedOn w (x .block)) c x l)
+  grants-take : (x : DownMessage) (w : Waiting) → l .waiting ≡ w → Takes u 1 l (grantTo ins (servedOn w (x .block)) c x l)
   grants-take x Idle e = refused-takes u 1 l Unexpected
   grants-take x (Unserved o) e = refused-takes u 1 l Unexpected
   grants-take x (Served o) e =
-      by-cond (λ (r : Ready). Takes u 1 l (grantTo r c x l)) (eqb (blockOf (o .word) .0) (x .block .0)) (Go o) (No Unexpected)
+      by-cond (λ (r : Ready). Takes u 1 l (grantTo ins r c x l)) (eqb (blockOf (o .word) .0) (x .block .0)) (Go o) (No Unexpected)
       (grant-takes x o (searchOf l c (x .block)) e) (refused-takes u 1 l Unexpected)
 
   bares-take : (x : DownMessage) (w : Waiting) → l .waiting ≡ w → Takes u 1 l (bareTo (servedOn w (x .block)) c x l)
@@ -176,19 +177,19 @@ module _ (u c : ℕ) (l : Lane) where
       (bare-takes o (searchOf l c (x .block)) e) (refused-takes u 1 l Unexpected)
 
   -- what a message does in a lane that has taken it
-  kind-takes : (y : DownKind) (x : DownMessage) → Takes u (price y) l (deliverKind y c x l)
+  kind-takes : (y : DownKind) (x : DownMessage) → Takes u (price y) l (deliverKind ins y c x l)
   kind-takes Update x = update-takes (x .block) (searchOf l c (x .block))
   kind-takes Purge x = purge-takes (x .block) (searchOf l c (x .block))
   kind-takes Grant x = grants-take x (l .waiting) refl
   kind-takes BareGrant x = bares-take x (l .waiting) refl
 
 -- the lane's part of deliver
-pub deliver-lane-takes : (u c : ℕ) (l : Lane) → LaneSized l → l .downs .len ≤ 2 → Takes u 0 l (deliverLane c l)
+pub deliver-lane-takes : (ins : Insertion) (u c : ℕ) (l : Lane) → LaneSized l → l .downs .len ≤ 2 → Takes u 0 l (deliverLane ins c l)
 unfolding deliverLane
-deliver-lane-takes u c l g s =
+deliver-lane-takes ins u c l g s =
     pick (λ (r : LaneStep). Takes u 0 l r) (emptyAt (l .downs .len)) (refuseLane NothingPending l) _ (λ _. refused-takes u 0 l NothingPending)
     (λ q e.
-    let a = kind-takes u c (withDowns (takeDown (l .downs) .queue) l) (headDown (l .downs) .kind) (headDown (l .downs)) e in
+    let a = kind-takes ins u c (withDowns (takeDown (l .downs) .queue) l) (headDown (l .downs) .kind) (headDown (l .downs)) e in
     let b = taken-weight u l g s q in
     rw e (omega arith))
 

@@ -27,6 +27,7 @@ use Rattle.lanes.specs.declared.Found.{Found}
 use Rattle.lanes.specs.declared.Found.the-variants.{At, Nothing}
 use Rattle.lanes.specs.Search.{searchOf, vacantOf}
 use Rattle.lanes.specs.Waits.{unservedOf}
+use Rattle.lanes.specs.UseOrder.{Insertion}
 use Rattle.lanes.specs.Lanes.{withDowns}
 use Rattle.answers.specs.Refusals.{refusedOf}
 use Rattle.store.specs.declared.Store.{Store}
@@ -36,7 +37,7 @@ use Rattle.machine.specs.declared.LaneStep.{LaneStep}
 use Rattle.machine.specs.declared.Ready.{Ready}
 use Rattle.machine.specs.declared.Ready.the-variants.{Go}
 use Rattle.machine.specs.Change.{commitLane, refusedIn}
-use Rattle.machine.specs.Begin.{complete}
+use Rattle.machine.specs.Begin.{completeWith}
 use Rattle.machine.specs.Return.{isAnswer}
 use Rattle.machine.specs.Deliver.{reply, updateAt, purgeAt, fillAt, grantAt, bareAt, servedOn, grantTo, bareTo, deliverKind, deliverLane, deliverOf}
 use Rattle.machine.specs.Settle.{isOrder}
@@ -128,7 +129,7 @@ status-found c a l e q = clash (cc (rw q at e))
 unserved-none : (o : Operation) (a : BlockNo) → servedCount (waitingOn a (Unserved o)) ≡ 0
 unserved-none o a = by-cond (λ (w : Waiting). servedCount w ≡ 0) (eqb (blockOf (o .word) .0) (a .0)) _ _ refl refl
 
-module _ (s : Store) (f : List ℕ) (i : Consistent s f) (live : Live s) (k : LaneNo) (h : k .0 < s .shape .n) (filled : laneAt s (k .0) .downs .len ≢ 0) where
+module _ (ins : Insertion) (s : Store) (f : List ℕ) (i : Consistent s f) (live : Live s) (k : LaneNo) (h : k .0 < s .shape .n) (filled : laneAt s (k .0) .downs .len ≢ 0) where
   abbrev l : Lane
   l = laneAt s (k .0)
 
@@ -215,42 +216,42 @@ module _ (s : Store) (f : List ℕ) (i : Consistent s f) (live : Live s) (k : La
   purge-goes o Nothing = reply-goes _ _ (order-room o)
 
   module _ (o : Operation) (w : l .waiting ≡ Served o) (b : blockOf (o .word) .0 ≡ a .0) where
-    fill-goes : searchOf l (s .shape .c) a ≡ Nothing → (r : Found) → vacantOf l (s .shape .c) ≡ r → refusedIn (fillAt r (s .shape .c) x o t .answer) ≡ false
-    unfolding complete
+    fill-goes : searchOf l (s .shape .c) a ≡ Nothing → (r : Found) → vacantOf l (s .shape .c) ≡ r → refusedIn (fillAt ins r (s .shape .c) x o t .answer) ≡ false
+    unfolding completeWith
     fill-goes e (At j) q = refl
     fill-goes e Nothing q =
         absurd (room-vacant (s .shape .c) l o (sym (ap (hasRoom (s .shape .c) l) w) ∙ live .lane (k .0) .room) (ap (searchOf l (s .shape .c)) (same-block (blockOf (o .word)) a b) ∙ e) q)
 
-    words-goes : x .kind ≡ Grant → (r : Found) → searchOf l (s .shape .c) a ≡ r → refusedIn (grantAt r (s .shape .c) x o t .answer) ≡ false
+    words-goes : x .kind ≡ Grant → (r : Found) → searchOf l (s .shape .c) a ≡ r → refusedIn (grantAt ins r (s .shape .c) x o t .answer) ≡ false
     words-goes q r e = go r (sym e ∙ none)
       where
         none : searchOf l (s .shape .c) a ≡ Nothing
         none = status-none (s .shape .c) a l (head-due _ (project s (a .0)) (flatBlock f (a .0)) (k .0) Grant x rest (i .block (a .0) block-below .1) has-head q .0)
 
-        go : (r : Found) → r ≡ Nothing → refusedIn (grantAt r (s .shape .c) x o t .answer) ≡ false
+        go : (r : Found) → r ≡ Nothing → refusedIn (grantAt ins r (s .shape .c) x o t .answer) ≡ false
         go (At j) z = clash (cc)
         go Nothing z = fill-goes none (vacantOf l (s .shape .c)) refl
 
     bare-goes : x .kind ≡ BareGrant → (r : Found) → searchOf l (s .shape .c) a ≡ r → refusedIn (bareAt r (s .shape .c) o t .answer) ≡ false
-    unfolding complete
+    unfolding completeWith
     bare-goes q (At j) e = refl
     bare-goes q Nothing e = absurd (status-found (s .shape .c) a l (bare-held _ (project s (a .0)) (flatBlock f (a .0)) (k .0) x rest (i .block (a .0) block-below .1) has-head q) e)
 
     served-go : servedOn (l .waiting) a ≡ Go o
     served-go = ap (λ (y : Waiting). servedOn y a) w ∙ rw (eq-eqb (blockOf (o .word) .0) (a .0) b)
 
-  kind-goes : (y : DownKind) → x .kind ≡ y → refusedIn (deliverKind y (s .shape .c) x t .answer) ≡ false
+  kind-goes : (y : DownKind) → x .kind ≡ y → refusedIn (deliverKind ins y (s .shape .c) x t .answer) ≡ false
   kind-goes Update q = update-goes (ap isOrder q) (searchOf l (s .shape .c) a)
   kind-goes Purge q = purge-goes (ap isOrder q) (searchOf l (s .shape .c) a)
   kind-goes Grant q =
       let o = grant-served (ap isOrder q) in
-      ap (λ (r : Ready). refusedIn (grantTo r (s .shape .c) x t .answer)) (served-go (o .0) (o .1) (o .2)) ∙ words-goes (o .0) (o .1) (o .2) q (searchOf l (s .shape .c) a) refl
+      ap (λ (r : Ready). refusedIn (grantTo ins r (s .shape .c) x t .answer)) (served-go (o .0) (o .1) (o .2)) ∙ words-goes (o .0) (o .1) (o .2) q (searchOf l (s .shape .c) a) refl
   kind-goes BareGrant q =
       let o = grant-served (ap isOrder q) in
       ap (λ (r : Ready). refusedIn (bareTo r (s .shape .c) x t .answer)) (served-go (o .0) (o .1) (o .2)) ∙ bare-goes (o .0) (o .1) (o .2) q (searchOf l (s .shape .c) a) refl
 
-  pub deliver-goes : refusedOf (deliverOf s k .answer) ≡ false
+  pub deliver-goes : refusedOf (deliverOf ins s k .answer) ≡ false
   unfolding deliverLane commitLane
   deliver-goes =
-      ap (λ (r : Outcome). refusedOf (r .answer)) (deliver-is s k (i .sound) h) ∙ answer-goes k _ (deliverLane (s .shape .c) l .answer) ∙
+      ap (λ (r : Outcome). refusedOf (r .answer)) (deliver-is ins s k (i .sound) h) ∙ answer-goes k _ (deliverLane ins (s .shape .c) l .answer) ∙
       pick (λ (r : LaneStep). refusedIn (r .answer) ≡ false) (emptyAt (l .downs .len)) _ _ (λ e. absurd (filled (eqb-true _ _ e))) (λ _. kind-goes (x .kind) refl)

@@ -9,7 +9,7 @@ use Rattle.words.specs.declared.BlockNo.{BlockNo}
 use Rattle.words.specs.declared.Op.{Op}
 use Rattle.words.specs.declared.Shape.{Shape}
 use Rattle.lanes.specs.declared.Lane.{Lane}
-use Rattle.lanes.specs.UseOrder.{placeAt}
+use Rattle.lanes.specs.UseOrder.{Insertion, placeAt}
 use Rattle.answers.specs.declared.Answer.the-variants.{Opened}
 use Rattle.store.specs.declared.Store.{Store}
 use Rattle.store.specs.declared.Outcome.{Outcome}
@@ -96,48 +96,48 @@ begin-live s f k op w i live =
     lane-commits s k _ live (begin-lane-live (s .shape .c) op w (laneAt s (k .0)) z c o (r .idle) (live .lane (k .0)))
     (begin-owed (s .shape .c) op w (laneAt s (k .0)) _ (begin-case (s .shape .c) op w (laneAt s (k .0)) z c (i .unique (k .0)) o (r .idle))))
 
-pub deliver-live : (s : Store) (f : List ℕ) (k : LaneNo) → Consistent s f → Live s → Live (deliverOf s k .store)
-deliver-live s f k i live =
-    deliver-rule (λ (r : Outcome). Live (r .store)) s k (λ _. live)
+pub deliver-live : (ins : Insertion) (s : Store) (f : List ℕ) (k : LaneNo) → Consistent s f → Live s → Live (deliverOf ins s k .store)
+deliver-live ins s f k i live =
+    deliver-rule ins (λ (r : Outcome). Live (r .store)) s k (λ _. live)
     (λ _ h.
     let z = lane-sized s f i (k .0) h in
-    lane-commits s k _ live (deliver-lane-live (s .shape .c) (laneAt s (k .0)) z (live .lane (k .0)))
+    lane-commits s k _ live (deliver-lane-live ins (s .shape .c) (laneAt s (k .0)) z (live .lane (k .0)))
     (deliver-owed (s .shape .c) (laneAt s (k .0)) _
-    (deliver-case (s .shape .c) (laneAt s (k .0)) z (sound s (i .sound) .c-high) (i .unique (k .0)) (sound s (i .sound) .lane (k .0) h .downs .short))))
+    (deliver-case ins (s .shape .c) (laneAt s (k .0)) z (sound s (i .sound) .c-high) (i .unique (k .0)) (sound s (i .sound) .lane (k .0) h .downs .short))))
 
 -- a consistent and live store, with flat memory
 abbrev Running : Store → Type 0
 Running s = (f : List ℕ) × Consistent s f × Live s
 
 -- settle is a list of deliver, return and serve
-step-runs : (s : Store) → Running s → Running (settleStep s .store)
-step-runs s (f, i, live) =
-    step-rule (λ (r : Outcome). Running (r .store)) s (λ k _ _. let r = deliver-leads s f (lane k) i in (r .0, r .1, deliver-live s f (lane k) i live))
+step-runs : (ins : Insertion) (s : Store) → Running s → Running (settleStep ins s .store)
+step-runs ins s (f, i, live) =
+    step-rule ins (λ (r : Outcome). Running (r .store)) s (λ k _ _. let r = deliver-leads ins s f (lane k) i in (r .0, r .1, deliver-live ins s f (lane k) i live))
     (λ _ k _ _. let r = return-leads s f (lane k) i in (r .0, r .1, return-live s f (lane k) i live))
     (λ _ _ k _ _. let r = serve-leads s f (lane k) i in (r .0, r .1, serve-live s f (lane k) i live)) (λ _ _ _. (f, i, live))
 
 -- .. as often as it repeats
-repeat-runs : (n : ℕ) (p : Progress) → Running (p .store) → Running (repeatStep n p .store)
+repeat-runs : (ins : Insertion) (n : ℕ) (p : Progress) → Running (p .store) → Running (repeatStep ins n p .store)
 unfolding advance
-repeat-runs n p r = repeat-rule (λ (q : Progress). Running (q .store)) (λ q _. step-runs (q .store)) n p r
+repeat-runs ins n p r = repeat-rule ins (λ (q : Progress). Running (q .store)) (λ q _. step-runs ins (q .store)) n p r
 
-pub settle-step-live : (s : Store) (f : List ℕ) → Consistent s f → Live s → Live (settleStep s .store)
-settle-step-live s f i live = step-runs s (f, i, live) .2
+pub settle-step-live : (ins : Insertion) (s : Store) (f : List ℕ) → Consistent s f → Live s → Live (settleStep ins s .store)
+settle-step-live ins s f i live = step-runs ins s (f, i, live) .2
 
-pub settle-live : (s : Store) (f : List ℕ) → Consistent s f → Live s → Live (settleOf s .store)
-settle-live s f i live =
-    settle-rule (λ (r : Settlement). Live (r .store)) s (λ _. live) (λ _ _ _. repeat-runs (suc (boundOf s)) (startAt s) (f, i, live) .2)
+pub settle-live : (ins : Insertion) (s : Store) (f : List ℕ) → Consistent s f → Live s → Live (settleOf ins s .store)
+settle-live ins s f i live =
+    settle-rule ins (λ (r : Settlement). Live (r .store)) s (λ _. live) (λ _ _ _. repeat-runs ins (suc (boundOf s)) (startAt s) (f, i, live) .2)
 
-pub call-live : (s : Store) (f : List ℕ) (x : Call) → Consistent s f → Live s → Live (callOf s x .store)
+pub call-live : (ins : Insertion) (s : Store) (f : List ℕ) (x : Call) → Consistent s f → Live s → Live (callOf ins s x .store)
 unfolding callOf
-call-live s f (Begin k op w) i live = begin-live s f k op w i live
-call-live s f (Serve k) i live = serve-live s f k i live
-call-live s f (Return k) i live = return-live s f k i live
-call-live s f (Deliver k) i live = deliver-live s f k i live
-call-live s f Settle i live = settle-live s f i live
+call-live ins s f (Begin k op w) i live = begin-live s f k op w i live
+call-live ins s f (Serve k) i live = serve-live s f k i live
+call-live ins s f (Return k) i live = return-live s f k i live
+call-live ins s f (Deliver k) i live = deliver-live ins s f k i live
+call-live ins s f Settle i live = settle-live ins s f i live
 
 -- any list of calls from an opening
-pub run-live : (shape : Shape) (calls : List Call) → openOf shape .answer ≡ Opened → Live (run (openOf shape .store) calls .store)
-run-live shape calls e =
-    run-pays (λ (s : Store) (f : List ℕ). Consistent s f × Live s) pendingIn (λ s f x r. let q = call-consistent s f x (r .0) in (q .0, (q .1, call-live s f x (r .0) (r .1)), q .2))
+pub run-live : (ins : Insertion) (shape : Shape) (calls : List Call) → openOf shape .answer ≡ Opened → Live (run ins (openOf shape .store) calls .store)
+run-live ins shape calls e =
+    run-pays ins (λ (s : Store) (f : List ℕ). Consistent s f × Live s) pendingIn (λ s f x r. let q = call-consistent ins s f x (r .0) in (q .0, (q .1, call-live ins s f x (r .0) (r .1)), q .2))
     (openOf shape .store) (flatOf (shape .m)) calls (open-consistent shape e, open-live shape e) .1 .1

@@ -33,7 +33,7 @@ use Rattle.lanes.specs.declared.Waiting.the-variants.{Idle, Unserved, Served}
 use Rattle.lanes.specs.declared.Found.{Found}
 use Rattle.lanes.specs.declared.Found.the-variants.{At, Nothing}
 use Rattle.lanes.specs.Search.{lineAt, searchOf, vacantOf}
-use Rattle.lanes.specs.UseOrder.{placeAt}
+use Rattle.lanes.specs.UseOrder.{Insertion, placeAt}
 use Rattle.lanes.specs.Waits.{unservedOf}
 use Rattle.lanes.specs.Lanes.{withDowns, withLines}
 use Rattle.answers.specs.declared.Refusal.{Refusal}
@@ -42,7 +42,7 @@ use Rattle.machine.specs.declared.LaneStep.{LaneStep}
 use Rattle.machine.specs.declared.Ready.{Ready}
 use Rattle.machine.specs.declared.Ready.the-variants.{Go, No}
 use Rattle.machine.specs.Change.{refuseLane, posted}
-use Rattle.machine.specs.Begin.{complete, waits, hit, readOf, ejectOf, evict, missWith, miss, beginAt, beginLane}
+use Rattle.machine.specs.Begin.{completeWith, waits, hit, readOf, ejectOf, evict, missWith, miss, beginAt, beginLane}
 use Rattle.machine.specs.Deliver.{reply, shared, updateAt, purgedOf, purgeAt, fillAt, grantAt, bareAt, servedOn, grantTo, bareTo, deliverKind, orAsBefore, deliverLane}
 use Rattle.machine.specs.Return.{isAnswer}
 use Rattle.machine.specs.Sized.{LaneSized}
@@ -129,7 +129,7 @@ module _ (c : ℕ) (op : Op) (w : WordNo) (l : Lane) (z : LaneSized l) (b : c �
 
   -- a hit completes, or waits for the line that it has
   hit-live : (i : LineNo) → searchOf l c (blockOf w) ≡ At i → LaneLive c (hit c i op w l .lane)
-  unfolding hit complete
+  unfolding hit completeWith
   hit-live i e =
       let f = found-holds c l (blockOf w) i e in
       let n = none in
@@ -164,7 +164,7 @@ pub begin-lane-live : (c : ℕ) (op : Op) (w : WordNo) (l : Lane) → LaneSized 
 unfolding beginLane
 begin-lane-live c op w l z b h idle live = at-live c op w l z b live idle h (searchOf l c (blockOf w)) refl
 
-module _ (c : ℕ) (l : Lane) (z : LaneSized l) (live : LaneLive c l) (q : DownQueue) where
+module _ (ins : Insertion) (c : ℕ) (l : Lane) (z : LaneSized l) (live : LaneLive c l) (q : DownQueue) where
   -- an answer is sent from a lane whose lines leave no less room
   reply-live : (ls : List Line) (m : ReturnMessage) → isAnswer (m .kind) ≡ true → ((a : BlockNo) → roomIn c (l .lines) a ≡ true → roomIn c ls a ≡ true) →
       LaneLive c (orAsBefore l (reply m (withDowns q (withLines ls l))) .lane)
@@ -186,21 +186,21 @@ module _ (c : ℕ) (l : Lane) (z : LaneSized l) (live : LaneLive c l) (q : DownQ
 
   -- an operation that completes waits no more
   module _ (none : ejectCount (queuedReturns (l .returns)) ≤ 0) where
-    complete-live : (i : LineNo) (x : Line) (op : Op) (w : WordNo) → LaneLive c (orAsBefore l (complete c i x op w (withDowns q l)) .lane)
-    unfolding complete
-    complete-live i x op w = record { ejects = none; room = refl }
+    complete-live : (o : List LineNo) (i : LineNo) (x : Line) (op : Op) (w : WordNo) → LaneLive c (orAsBefore l (completeWith o i x op w (withDowns q l)) .lane)
+    unfolding completeWith
+    complete-live o i x op w = record { ejects = none; room = refl }
 
     -- the grants
-    fill-live : (x : DownMessage) (o : Operation) (f : Found) → LaneLive c (orAsBefore l (fillAt f c x o (withDowns q l)) .lane)
-    fill-live x o (At i) = complete-live i _ _ _
+    fill-live : (x : DownMessage) (o : Operation) (f : Found) → LaneLive c (orAsBefore l (fillAt ins f c x o (withDowns q l)) .lane)
+    fill-live x o (At i) = complete-live _ i _ _ _
     fill-live x o Nothing = live
 
-    grant-live : (x : DownMessage) (o : Operation) (f : Found) → LaneLive c (orAsBefore l (grantAt f c x o (withDowns q l)) .lane)
+    grant-live : (x : DownMessage) (o : Operation) (f : Found) → LaneLive c (orAsBefore l (grantAt ins f c x o (withDowns q l)) .lane)
     grant-live x o (At i) = live
     grant-live x o Nothing = fill-live x o (vacantOf (withDowns q l) c)
 
     bare-live : (o : Operation) (f : Found) → LaneLive c (orAsBefore l (bareAt f c o (withDowns q l)) .lane)
-    bare-live o (At i) = complete-live i _ _ _
+    bare-live o (At i) = complete-live _ i _ _ _
     bare-live o Nothing = live
 
   -- a grant, by what waits
@@ -211,19 +211,19 @@ module _ (c : ℕ) (l : Lane) (z : LaneSized l) (live : LaneLive c l) (q : DownQ
       by-cond P (eqb (blockOf (o .word) .0) (a .0)) (Go o) (No Unexpected) (go o (none-ejected c l (ap unservedOf e) live)) (refused Unexpected)
 
   -- what a message does in the lane that took it
-  kind-live : (y : DownKind) (x : DownMessage) → LaneLive c (orAsBefore l (deliverKind y c x (withDowns q l)) .lane)
+  kind-live : (y : DownKind) (x : DownMessage) → LaneLive c (orAsBefore l (deliverKind ins y c x (withDowns q l)) .lane)
   kind-live Update x = update-live (x .block) (searchOf (withDowns q l) c (x .block))
   kind-live Purge x = purge-live (x .block) (searchOf (withDowns q l) c (x .block))
   kind-live Grant x =
-      served-live (λ (r : Ready). LaneLive c (orAsBefore l (grantTo r c x (withDowns q l)) .lane)) (λ r. live)
+      served-live (λ (r : Ready). LaneLive c (orAsBefore l (grantTo ins r c x (withDowns q l)) .lane)) (λ r. live)
       (λ o none. grant-live none x o (searchOf (withDowns q l) c (x .block))) (x .block) (l .waiting) refl
   kind-live BareGrant x =
       served-live (λ (r : Ready). LaneLive c (orAsBefore l (bareTo r c x (withDowns q l)) .lane)) (λ r. live)
       (λ o none. bare-live none o (searchOf (withDowns q l) c (x .block))) (x .block) (l .waiting) refl
 
 -- the lane's part of deliver
-pub deliver-lane-live : (c : ℕ) (l : Lane) → LaneSized l → LaneLive c l → LaneLive c (deliverLane c l .lane)
+pub deliver-lane-live : (ins : Insertion) (c : ℕ) (l : Lane) → LaneSized l → LaneLive c l → LaneLive c (deliverLane ins c l .lane)
 unfolding deliverLane
-deliver-lane-live c l z live =
+deliver-lane-live ins c l z live =
     by-cond (λ (r : LaneStep). LaneLive c (r .lane)) (emptyAt (l .downs .len)) (refuseLane NothingPending l) _ live
-    (kind-live c l z live (takeDown (l .downs) .queue) (headDown (l .downs) .kind) (headDown (l .downs)))
+    (kind-live ins c l z live (takeDown (l .downs) .queue) (headDown (l .downs) .kind) (headDown (l .downs)))

@@ -6,6 +6,7 @@ use mathlib.Core.Bool.{true, false}
 use mathlib.Core.List.{List, [], _∷_, _++_, List·Memᴰ}
 use Rattle.words.specs.declared.Shape.{Shape}
 use Rattle.words.proofs.Folds.{or-right}
+use Rattle.lanes.specs.UseOrder.{Insertion}
 use Rattle.answers.specs.declared.Answer.{Answer}
 use Rattle.answers.specs.declared.Answer.the-variants.{Opened, Done, Wait, Step}
 use Rattle.answers.specs.Refusals.{refusedOf}
@@ -46,59 +47,59 @@ unless-goes Step s r e = refl
 unless-goes (Answer.Refused n) s r e = clash (cc)
 
 -- a settle of which no step is refused
-settle-steps : (s : Store) → corruptOf s ≡ false → refusedOf (lastOf s .answer) ≡ false → quietOf (lastOf s .store) ≡ true →
-    settleOf s ≡ record { answer = Steps (lastOf s .count); completions = lastOf s .completions; store = lastOf s .store }
+settle-steps : (ins : Insertion) (s : Store) → corruptOf s ≡ false → refusedOf (lastOf ins s .answer) ≡ false → quietOf (lastOf ins s .store) ≡ true →
+    settleOf ins s ≡ record { answer = Steps (lastOf ins s .count); completions = lastOf ins s .completions; store = lastOf ins s .store }
 unfolding settleOf
-settle-steps s e h q = rw e (unless-goes (lastOf s .answer) s (reached s (lastOf s)) h ∙ rw q)
+settle-steps ins s e h q = rw e (unless-goes (lastOf ins s .answer) s (reached s (lastOf ins s)) h ∙ rw q)
 
 -- a step of settle
-step-lively : (s : Store) → Lively s → Lively (settleStep s .store)
-step-lively s l =
-    let r = step-leads s (l .flat) (l .consistent) in
-    record { flat = r .0; consistent = r .1; live = settle-step-live s (l .flat) (l .consistent) (l .live); spare = step-spare s (l .spare) }
+step-lively : (ins : Insertion) (s : Store) → Lively s → Lively (settleStep ins s .store)
+step-lively ins s l =
+    let r = step-leads ins s (l .flat) (l .consistent) in
+    record { flat = r .0; consistent = r .1; live = settle-step-live ins s (l .flat) (l .consistent) (l .live); spare = step-spare ins s (l .spare) }
 
 -- no step is refused
-repeat-goes : (n : ℕ) (p : Progress) → refusedOf (p .answer) ≡ false → Lively (p .store) → refusedOf (repeatStep n p .answer) ≡ false
+repeat-goes : (ins : Insertion) (n : ℕ) (p : Progress) → refusedOf (p .answer) ≡ false → Lively (p .store) → refusedOf (repeatStep ins n p .answer) ≡ false
 unfolding advance ended
-repeat-goes n p e l = repeat-rule (λ (r : Progress). (refusedOf (r .answer) ≡ false) × Lively (r .store)) goes n p (e, l) .0
+repeat-goes ins n p e l = repeat-rule ins (λ (r : Progress). (refusedOf (r .answer) ≡ false) × Lively (r .store)) goes n p (e, l) .0
   where
-    goes : (q : Progress) → ended q ≡ false → (refusedOf (q .answer) ≡ false) × Lively (q .store) → (refusedOf (advance q .answer) ≡ false) × Lively (advance q .store)
+    goes : (q : Progress) → ended q ≡ false → (refusedOf (q .answer) ≡ false) × Lively (q .store) → (refusedOf (advance ins q .answer) ≡ false) × Lively (advance ins q .store)
     goes q a (_, l) = (
-      step-goes (q .store) (l .flat) (l .consistent) (l .live) (l .spare) (or-right (refusedOf (q .answer)) (quietOf (q .store)) a),
-      step-lively (q .store) l,
+      step-goes (q .store) (l .flat) (l .consistent) (l .live) (l .spare) ins (or-right (refusedOf (q .answer)) (quietOf (q .store)) a),
+      step-lively ins (q .store) l,
     )
 
 -- so settle answers with its count, and the store is then quiet
-pub settle-goes : (s : Store) → Lively s → Settles s
-settle-goes s l =
+pub settle-goes : (ins : Insertion) (s : Store) → Lively s → Settles ins s
+settle-goes ins s l =
     let e = l .consistent .sound in
-    let h = repeat-goes (suc (boundOf s)) (startAt s) refl l in
-    let q = last-quiet s e (l .consistent .sized) h in
-    let z = settle-steps s e h q in
-    record { count = lastOf s .count; answer = ap (λ (r : Settlement). r .answer) z; quiet = ap (λ (r : Settlement). quietOf (r .store)) z ∙ q }
+    let h = repeat-goes ins (suc (boundOf s)) (startAt s) refl l in
+    let q = last-quiet ins s e (l .consistent .sized) h in
+    let z = settle-steps ins s e h q in
+    record { count = lastOf ins s .count; answer = ap (λ (r : Settlement). r .answer) z; quiet = ap (λ (r : Settlement). quietOf (r .store)) z ∙ q }
 
 -- what any list of calls reaches
-run-lively : (shape : Shape) (calls : List Call) → openOf shape .answer ≡ Opened → Lively (run (openOf shape .store) calls .store)
-run-lively shape calls e =
-    let r = reaches shape calls e in
-    record { flat = r .0; consistent = r .1 .consistent; live = run-live shape calls e; spare = run-spare (openOf shape .store) calls (open-spare shape) }
+run-lively : (ins : Insertion) (shape : Shape) (calls : List Call) → openOf shape .answer ≡ Opened → Lively (run ins (openOf shape .store) calls .store)
+run-lively ins shape calls e =
+    let r = reaches ins shape calls e in
+    record { flat = r .0; consistent = r .1 .consistent; live = run-live ins shape calls e; spare = run-spare ins (openOf shape .store) calls (open-spare shape) }
 
 -- settle is never refused, and leaves a quiet store
 pub always-settles : AlwaysSettles
-always-settles shape calls e = settle-goes (run (openOf shape .store) calls .store) (run-lively shape calls e)
+always-settles ins shape calls e = settle-goes ins (run ins (openOf shape .store) calls .store) (run-lively ins shape calls e)
 
 -- a list of calls and then another
-run-more : (s : Store) (xs ys : List Call) → run s (xs ++ ys) .store ≡ run (run s xs .store) ys .store
+run-more : (ins : Insertion) (s : Store) (xs ys : List Call) → run ins s (xs ++ ys) .store ≡ run ins (run ins s xs .store) ys .store
 unfolding run
-run-more s [] ys = refl
-run-more s (x ∷ xs) ys = run-more (callOf s x .store) xs ys
+run-more ins s [] ys = refl
+run-more ins s (x ∷ xs) ys = run-more ins (callOf ins s x .store) xs ys
 
-settled-quiet : (shape : Shape) (calls : List Call) → openOf shape .answer ≡ Opened → quietOf (run (openOf shape .store) (calls ++ (Settle ∷ [])) .store) ≡ true
+settled-quiet : (ins : Insertion) (shape : Shape) (calls : List Call) → openOf shape .answer ≡ Opened → quietOf (run ins (openOf shape .store) (calls ++ (Settle ∷ [])) .store) ≡ true
 unfolding run callOf
-settled-quiet shape calls e = ap quietOf (run-more (openOf shape .store) calls (Settle ∷ [])) ∙ always-settles shape calls e .quiet
+settled-quiet ins shape calls e = ap quietOf (run-more ins (openOf shape .store) calls (Settle ∷ [])) ∙ always-settles ins shape calls e .quiet
 
 -- after any list of calls and a settle, every operation begun has completed
-pub all-complete : (shape : Shape) (calls : List Call) → openOf shape .answer ≡ Opened →
-    (b : Begun) → List·Memᴰ b (begun (run (openOf shape .store) (calls ++ (Settle ∷ [])) .history)) →
-    List·Memᴰ b (operations (run (openOf shape .store) (calls ++ (Settle ∷ [])) .history))
-all-complete shape calls e = order-of-memory shape (calls ++ (Settle ∷ [])) e .when-quiet (settled-quiet shape calls e) .all-completed
+pub all-complete : (ins : Insertion) (shape : Shape) (calls : List Call) → openOf shape .answer ≡ Opened →
+    (b : Begun) → List·Memᴰ b (begun (run ins (openOf shape .store) (calls ++ (Settle ∷ [])) .history)) →
+    List·Memᴰ b (operations (run ins (openOf shape .store) (calls ++ (Settle ∷ [])) .history))
+all-complete ins shape calls e = order-of-memory ins shape (calls ++ (Settle ∷ [])) e .when-quiet (settled-quiet ins shape calls e) .all-completed

@@ -20,6 +20,7 @@ use Rattle.queues.specs.declared.DownMessage.{DownMessage}
 use Rattle.queues.specs.Queues.{headReturn}
 use Rattle.lanes.specs.declared.Lane.{Lane}
 use Rattle.lanes.specs.declared.Operation.{Operation}
+use Rattle.lanes.specs.UseOrder.{Insertion}
 use Rattle.store.specs.declared.Store.{Store}
 use Rattle.store.specs.declared.Block.{Block}
 use Rattle.store.specs.declared.Control.{Control}
@@ -130,35 +131,35 @@ return-spare s k e =
     move-spare s k (x .block) _ (r .lane)
     (λ j p _. return-to (s .shape .n) (s .shape .m) k x (laneAt s (k .0)) (blockAt s (x .block .0)) (s .control) (sound s (r .sound) .control) j p) e)
 
-deliver-spare : (s : Store) (k : LaneNo) → Spare s → Spare (deliverOf s k .store)
-deliver-spare s k e = deliver-rule (λ (r : Outcome). Spare (r .store)) s k (λ _. e) (λ _ h. lane-spare s k _ h e)
+deliver-spare : (ins : Insertion) (s : Store) (k : LaneNo) → Spare s → Spare (deliverOf ins s k .store)
+deliver-spare ins s k e = deliver-rule ins (λ (r : Outcome). Spare (r .store)) s k (λ _. e) (λ _ h. lane-spare s k _ h e)
 
 begin-spare : (s : Store) (k : LaneNo) (op : Op) (w : WordNo) → Spare s → Spare (beginOf s k op w .store)
 begin-spare s k op w e = begin-rule (λ (r : Outcome). Spare (r .store)) s k op w (λ _. e) (λ r. lane-spare s k _ (r .lane) e)
 
 -- settle
-pub step-spare : (s : Store) → Spare s → Spare (settleStep s .store)
-step-spare s e =
-    step-rule (λ (r : Outcome). Spare (r .store)) s (λ k _ _. deliver-spare s (lane k) e) (λ _ k _ _. return-spare s (lane k) e) (λ _ _ k _ _. serve-spare s (lane k) e)
+pub step-spare : (ins : Insertion) (s : Store) → Spare s → Spare (settleStep ins s .store)
+step-spare ins s e =
+    step-rule ins (λ (r : Outcome). Spare (r .store)) s (λ k _ _. deliver-spare ins s (lane k) e) (λ _ k _ _. return-spare s (lane k) e) (λ _ _ k _ _. serve-spare s (lane k) e)
     (λ _ _ _. e)
 
-repeat-spare : (n : ℕ) (p : Progress) → Spare (p .store) → Spare (repeatStep n p .store)
+repeat-spare : (ins : Insertion) (n : ℕ) (p : Progress) → Spare (p .store) → Spare (repeatStep ins n p .store)
 unfolding advance
-repeat-spare n p e = repeat-rule (λ (r : Progress). Spare (r .store)) (λ q _. step-spare (q .store)) n p e
+repeat-spare ins n p e = repeat-rule ins (λ (r : Progress). Spare (r .store)) (λ q _. step-spare ins (q .store)) n p e
 
-settle-spare : (s : Store) → Spare s → Spare (settleOf s .store)
-settle-spare s e = settle-rule (λ (r : Settlement). Spare (r .store)) s (λ _. e) (λ _ _ _. repeat-spare (suc (boundOf s)) (startAt s) e)
+settle-spare : (ins : Insertion) (s : Store) → Spare s → Spare (settleOf ins s .store)
+settle-spare ins s e = settle-rule ins (λ (r : Settlement). Spare (r .store)) s (λ _. e) (λ _ _ _. repeat-spare ins (suc (boundOf s)) (startAt s) e)
 
 -- every call, and every list of calls
-pub call-spare : (s : Store) (x : Call) → Spare s → Spare (callOf s x .store)
+pub call-spare : (ins : Insertion) (s : Store) (x : Call) → Spare s → Spare (callOf ins s x .store)
 unfolding callOf
-call-spare s (Begin k op w) e = begin-spare s k op w e
-call-spare s (Serve k) e = serve-spare s k e
-call-spare s (Return k) e = return-spare s k e
-call-spare s (Deliver k) e = deliver-spare s k e
-call-spare s Settle e = settle-spare s e
+call-spare ins s (Begin k op w) e = begin-spare s k op w e
+call-spare ins s (Serve k) e = serve-spare s k e
+call-spare ins s (Return k) e = return-spare s k e
+call-spare ins s (Deliver k) e = deliver-spare ins s k e
+call-spare ins s Settle e = settle-spare ins s e
 
-pub run-spare : (s : Store) (calls : List Call) → Spare s → Spare (run s calls .store)
+pub run-spare : (ins : Insertion) (s : Store) (calls : List Call) → Spare s → Spare (run ins s calls .store)
 unfolding run
-run-spare s [] e = e
-run-spare s (x ∷ calls) e = run-spare (callOf s x .store) calls (call-spare s x e)
+run-spare ins s [] e = e
+run-spare ins s (x ∷ calls) e = run-spare ins (callOf ins s x .store) calls (call-spare ins s x e)

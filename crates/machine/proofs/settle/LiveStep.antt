@@ -13,6 +13,7 @@ use Rattle.lanes.specs.declared.Operation.{Operation}
 use Rattle.lanes.specs.declared.Waiting.{Waiting}
 use Rattle.lanes.specs.declared.Waiting.the-variants.{Idle, Unserved, Served}
 use Rattle.lanes.specs.Waits.{unservedOf}
+use Rattle.lanes.specs.UseOrder.{Insertion}
 use Rattle.answers.specs.Refusals.{refusedOf}
 use Rattle.store.specs.declared.Store.{Store}
 use Rattle.store.specs.declared.Outcome.{Outcome}
@@ -91,9 +92,9 @@ module _ (s : Store) (f : List ℕ) (i : Consistent s f) (live : Live s) (spare 
           go k h (Unserved o) e = clash (cc (none k h))
           go k h (Served o) e = absurd (none-served k h o e)
 
-  pub step-goes : quietOf s ≡ false → refusedOf (settleStep s .answer) ≡ false
-  step-goes active =
-      step-rule (λ (r : Outcome). refusedOf (r .answer) ≡ false) s (λ k h e. deliver-goes s f i live (lane k) h e)
+  pub step-goes : (ins : Insertion) → quietOf s ≡ false → refusedOf (settleStep ins s .answer) ≡ false
+  step-goes ins active =
+      step-rule ins (λ (r : Outcome). refusedOf (r .answer) ≡ false) s (λ k h e. deliver-goes ins s f i live (lane k) h e)
       (λ d k h e. return-goes s (all-downs d) f i (lane k) h e)
       (λ d r k h e. let o = unserved-some _ e in serve-goes s (all-downs d) f i (lane k) h (o .0) (o .1) (ap busyOf (free d r)) (all-returns d r k))
       (λ d r u. clash (cc (quiet d r u)))

@@ -14,6 +14,7 @@ use Rattle.queues.specs.declared.DownKind.{DownKind}
 use Rattle.queues.specs.declared.DownKind.the-variants.{Update, Purge, Grant, BareGrant}
 use Rattle.queues.specs.Queues.{headDown}
 use Rattle.lanes.specs.declared.Lane.{Lane}
+use Rattle.lanes.specs.UseOrder.{Insertion}
 use Rattle.store.specs.declared.Store.{Store}
 use Rattle.store.specs.Stores.{laneAt}
 use Rattle.machine.specs.declared.LaneStep.{LaneStep}
@@ -137,8 +138,8 @@ module _ (s : Store) (f : List ℕ) (i : Consistent s f) (k : LaneNo) (h : k .0 
       ))))
   case-consistent (Refuses c) = rw (c .answer) (refused-consistent s f (c .reason) i)
 
-pub deliver-consistent : (s : Store) (f : List ℕ) (k : LaneNo) → Consistent s f → StaysConsistent s f (deliverOf s k)
-deliver-consistent s f k i =
-    deliver-rule (StaysConsistent s f) s k (λ x. refused-consistent s f x i)
-    (λ _ h. case-consistent s f i k h (deliverLane (s .shape .c) (laneAt s (k .0)))
-    (deliver-case (s .shape .c) (laneAt s (k .0)) (lane-sized s f i (k .0) h) (sound s (i .sound) .c-high) (i .unique (k .0)) (sound s (i .sound) .lane (k .0) h .downs .short)))
+pub deliver-consistent : (ins : Insertion) (s : Store) (f : List ℕ) (k : LaneNo) → Consistent s f → StaysConsistent s f (deliverOf ins s k)
+deliver-consistent ins s f k i =
+    deliver-rule ins (StaysConsistent s f) s k (λ x. refused-consistent s f x i)
+    (λ _ h. case-consistent s f i k h (deliverLane ins (s .shape .c) (laneAt s (k .0)))
+    (deliver-case ins (s .shape .c) (laneAt s (k .0)) (lane-sized s f i (k .0) h) (sound s (i .sound) .c-high) (i .unique (k .0)) (sound s (i .sound) .lane (k .0) h .downs .short)))

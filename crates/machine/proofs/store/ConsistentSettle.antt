@@ -3,6 +3,7 @@ use Prim.Native.Nat.{ℕ, suc}
 use mathlib.Core.Path.{refl}
 use mathlib.Core.List.{List, [], _∷_, _++_}
 use Rattle.words.specs.declared.LaneNo.{LaneNo}
+use Rattle.lanes.specs.UseOrder.{Insertion}
 use Rattle.answers.specs.declared.Completion.{Completion}
 use Rattle.answers.specs.Completions.{doneIn}
 use Rattle.store.specs.declared.Store.{Store}
@@ -37,15 +38,15 @@ return-leads s f k i =
     let r = return-consistent s f k i in
     (r .flat, record { sound = return-keeps s k (i .sound); sized = return-sized s k (i .sized); unique = r .unique; block = r .block }, r .completes)
 
-pub deliver-leads : (s : Store) (f : List ℕ) (k : LaneNo) → Consistent s f → Leads s f (doneIn (deliverOf s k .answer)) (deliverOf s k .store)
-deliver-leads s f k i =
-    let r = deliver-consistent s f k i in
+pub deliver-leads : (ins : Insertion) (s : Store) (f : List ℕ) (k : LaneNo) → Consistent s f → Leads s f (doneIn (deliverOf ins s k .answer)) (deliverOf ins s k .store)
+deliver-leads ins s f k i =
+    let r = deliver-consistent ins s f k i in
     let w = sized-whole s (sound s (i .sound) .n-high) (i .sized) in
-    (r .flat, record { sound = deliver-keeps s k (i .sound) w; sized = deliver-sized s k (i .sized); unique = r .unique; block = r .block }, r .completes)
+    (r .flat, record { sound = deliver-keeps ins s k (i .sound) w; sized = deliver-sized ins s k (i .sized); unique = r .unique; block = r .block }, r .completes)
 
-pub step-leads : (s : Store) (f : List ℕ) → Consistent s f → Leads s f (doneIn (settleStep s .answer)) (settleStep s .store)
-step-leads s f i =
-    step-rule (λ (r : Outcome). Leads s f (doneIn (r .answer)) (r .store)) s (λ k _ _. deliver-leads s f (lane k) i) (λ _ k _ _. return-leads s f (lane k) i)
+pub step-leads : (ins : Insertion) (s : Store) (f : List ℕ) → Consistent s f → Leads s f (doneIn (settleStep ins s .answer)) (settleStep ins s .store)
+step-leads ins s f i =
+    step-rule ins (λ (r : Outcome). Leads s f (doneIn (r .answer)) (r .store)) s (λ k _ _. deliver-leads ins s f (lane k) i) (λ _ k _ _. return-leads s f (lane k) i)
     (λ _ _ k _ _. serve-leads s f (lane k) i) (λ _ _ _. (f, i, (refl, refl)))
 
 -- completions after completions
@@ -53,17 +54,17 @@ completes-more : (p : ℕ → Pending) (f : List ℕ) (xs ys : List Completion) 
 completes-more p f [] ys q r g h a b = rw (← a .0, ← a .1) b
 completes-more p f (x ∷ xs) ys q r g h a b = (a .0, a .1, a .2, a .3, completes-more _ _ xs ys q r g h (a .4) b)
 
-advance-leads : (s : Store) (f : List ℕ) (p : Progress) → Leads s f (p .completions) (p .store) → Leads s f (advance p .completions) (advance p .store)
+advance-leads : (ins : Insertion) (s : Store) (f : List ℕ) (p : Progress) → Leads s f (p .completions) (p .store) → Leads s f (advance ins p .completions) (advance ins p .store)
 unfolding advance
-advance-leads s f p l =
-    let r = step-leads (p .store) (l .0) (l .1) in
-    (r .0, r .1, completes-more (pendingIn s) f (p .completions) (doneIn (settleStep (p .store) .answer)) (pendingIn (p .store)) (pendingIn (settleStep (p .store) .store)) (l .0) (r .0) (l .2) (r .2))
+advance-leads ins s f p l =
+    let r = step-leads ins (p .store) (l .0) (l .1) in
+    (r .0, r .1, completes-more (pendingIn s) f (p .completions) (doneIn (settleStep ins (p .store) .answer)) (pendingIn (p .store)) (pendingIn (settleStep ins (p .store) .store)) (l .0) (r .0) (l .2) (r .2))
 
-repeat-leads : (n : ℕ) (s : Store) (f : List ℕ) (p : Progress) → Leads s f (p .completions) (p .store) → Leads s f (repeatStep n p .completions) (repeatStep n p .store)
-repeat-leads n s f p l = repeat-rule (λ (r : Progress). Leads s f (r .completions) (r .store)) (λ q _. advance-leads s f q) n p l
+repeat-leads : (ins : Insertion) (n : ℕ) (s : Store) (f : List ℕ) (p : Progress) → Leads s f (p .completions) (p .store) → Leads s f (repeatStep ins n p .completions) (repeatStep ins n p .store)
+repeat-leads ins n s f p l = repeat-rule ins (λ (r : Progress). Leads s f (r .completions) (r .store)) (λ q _. advance-leads ins s f q) n p l
 
-pub settle-leads : (s : Store) (f : List ℕ) → Consistent s f →
-    Leads s f (completionsOf (SettledWith (settleOf s .answer) (settleOf s .completions))) (settleOf s .store)
-settle-leads s f i =
-    settle-rule (λ (r : Settlement). Leads s f (completionsOf (SettledWith (r .answer) (r .completions))) (r .store)) s (λ r. (f, i, (refl, refl)))
-    (λ _ _ _. repeat-leads (suc (boundOf s)) s f (startAt s) (f, i, (refl, refl)))
+pub settle-leads : (ins : Insertion) (s : Store) (f : List ℕ) → Consistent s f →
+    Leads s f (completionsOf (SettledWith (settleOf ins s .answer) (settleOf ins s .completions))) (settleOf ins s .store)
+settle-leads ins s f i =
+    settle-rule ins (λ (r : Settlement). Leads s f (completionsOf (SettledWith (r .answer) (r .completions))) (r .store)) s (λ r. (f, i, (refl, refl)))
+    (λ _ _ _. repeat-leads ins (suc (boundOf s)) s f (startAt s) (f, i, (refl, refl)))

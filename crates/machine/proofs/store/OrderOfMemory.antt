@@ -3,6 +3,7 @@ use Prim.Native.Nat.{ℕ}
 use mathlib.Core.Path.{_≡_, _∙_}
 use mathlib.Core.List.{List}
 use Rattle.words.specs.declared.Shape.{Shape}
+use Rattle.lanes.specs.UseOrder.{Insertion}
 use Rattle.answers.specs.declared.Answer.the-variants.{Opened}
 use Rattle.store.specs.declared.Store.{Store}
 use Rattle.store.specs.Opening.{openOf}
@@ -24,49 +25,49 @@ use Rattle.machine.proofs.store.ConsistentSettle.{serve-leads, return-l
 use Rattle.machine.proofs.store.ConsistentQuiet.{quiet-rests, quiet-shows, quiet-flags}
 
 -- every call keeps a store consistent and pays what it owes
-pub call-consistent : (s : Store) (f : List ℕ) (c : Call) → Consistent s f → Keeps Consistent pendingIn s f c
+pub call-consistent : (ins : Insertion) (s : Store) (f : List ℕ) (c : Call) → Consistent s f → Keeps ins Consistent pendingIn s f c
 unfolding callOf
-call-consistent s f (Begin k op w) i =
+call-consistent ins s f (Begin k op w) i =
     let r = begin-consistent s f k op w i in
     let z = sized-whole s (sound s (i .sound) .n-high) (i .sized) in
     (r .flat, record { sound = begin-keeps s k op w (i .sound) z; sized = begin-sized s k op w (i .sized); unique = r .unique; block = r .block }, r .owes)
-call-consistent s f (Serve k) i = serve-leads s f k i
-call-consistent s f (Return k) i = return-leads s f k i
-call-consistent s f (Deliver k) i = deliver-leads s f k i
-call-consistent s f Settle i = settle-leads s f i
+call-consistent ins s f (Serve k) i = serve-leads s f k i
+call-consistent ins s f (Return k) i = return-leads s f k i
+call-consistent ins s f (Deliver k) i = deliver-leads ins s f k i
+call-consistent ins s f Settle i = settle-leads ins s f i
 
 -- a consistent store of a shape
 pub record Reached (shape : Shape) (s : Store) (f : List ℕ) : Type 0 where
   pub same : s .shape ≡ shape
   pub consistent : Consistent s f
 
-reached-keeps : (shape : Shape) (s : Store) (f : List ℕ) (x : Call) → Reached shape s f → Keeps (Reached shape) pendingIn s f x
-reached-keeps shape s f x i =
-    let r = call-consistent s f x (i .consistent) in
-    (r .0, record { same = call-shape s x ∙ i .same; consistent = r .1 }, r .2)
+reached-keeps : (ins : Insertion) (shape : Shape) (s : Store) (f : List ℕ) (x : Call) → Reached shape s f → Keeps ins (Reached shape) pendingIn s f x
+reached-keeps ins shape s f x i =
+    let r = call-consistent ins s f x (i .consistent) in
+    (r .0, record { same = call-shape ins s x ∙ i .same; consistent = r .1 }, r .2)
 
 pub reached-open : (shape : Shape) → openOf shape .answer ≡ Opened → Reached shape (openOf shape .store) (flatOf (shape .m))
 reached-open shape e = record { same = open-shape shape e; consistent = open-consistent shape e }
 
 -- what a list of calls from an opening reaches, and that it paid what it owes
-pub reaches : (shape : Shape) (calls : List Call) → openOf shape .answer ≡ Opened →
-    (g : List ℕ) × Reached shape (run (openOf shape .store) calls .store) g ×
-    Paid (pendingIn (openOf shape .store)) (flatOf (shape .m)) (run (openOf shape .store) calls .history) (pendingIn (run (openOf shape .store) calls .store)) g
-reaches shape calls e = run-pays (Reached shape) pendingIn (reached-keeps shape) (openOf shape .store) (flatOf (shape .m)) calls (reached-open shape e)
+pub reaches : (ins : Insertion) (shape : Shape) (calls : List Call) → openOf shape .answer ≡ Opened →
+    (g : List ℕ) × Reached shape (run ins (openOf shape .store) calls .store) g ×
+    Paid (pendingIn (openOf shape .store)) (flatOf (shape .m)) (run ins (openOf shape .store) calls .history) (pendingIn (run ins (openOf shape .store) calls .store)) g
+reaches ins shape calls e = run-pays ins (Reached shape) pendingIn (reached-keeps ins shape) (openOf shape .store) (flatOf (shape .m)) calls (reached-open shape e)
 
 -- the order of completion is the order of memory
 pub order-of-memory : Demand3
-order-of-memory shape calls e =
-    let r = reaches shape calls e in
-    let s = run (openOf shape .store) calls .store in
-    let t : Told (shape .m) (run (openOf shape .store) calls .history) (pendingIn s) (r .0) = outer (shape .m) _ (pendingIn s) (r .0) (rw (open-rests shape e) at (r .2)) in
+order-of-memory ins shape calls e =
+    let r = reaches ins shape calls e in
+    let s = run ins (openOf shape .store) calls .store in
+    let t : Told (shape .m) (run ins (openOf shape .store) calls .history) (pendingIn s) (r .0) = outer (shape .m) _ (pendingIn s) (r .0) (rw (open-rests shape e) at (r .2)) in
     let i = r .1 .consistent in
     record {
       same = r .1 .same;
       owned = t .owned;
       once = t .once;
       values = t .values;
-      places = places-run shape calls;
+      places = places-run ins shape calls;
       when-quiet = λ q. record {
         all-completed = t .all-completed (quiet-rests s (r .0) i q);
         shows = λ a l. rw (← t .end) (quiet-shows s (r .0) i q a (rw (r .1 .same) l));
