@@ -1,6 +1,7 @@
 // The calls on any store: begin, serve, return, deliver. None has a requires; each is an equation with document 01's machine,
 // refusals too. `begin` is for `operations`; the others are open to others.
 ghost use mathlib.Core.Path.{_≡_};
+ghost use Rattle.lanes.specs.UseOrder.{LoadsOldest};
 ghost use Rattle.machine.specs.Begin.{beginOf};
 ghost use Rattle.machine.specs.Serve.{serveOf};
 ghost use Rattle.machine.specs.Return.{returnOf};
@@ -44,7 +45,7 @@ pub fn return_head(s: Store, k: LaneNo) -> Outcome
 
 // Deliver k.
 pub fn deliver(s: Store, k: LaneNo) -> Outcome
-    ensures { λ r. ⌜ r ≡ deliverOf s k ⌝ }
+    ensures { λ r. ⌜ r ≡ deliverOf LoadsOldest s k ⌝ }
 {
     if corruption::corrupt(s) {
         return commit::refused(Refusal::Corrupt, s);

@@ -9,6 +9,7 @@ use Rattle.words.specs.declared.WordNo.{WordNo}
 use Rattle.words.specs.declared.Op.{Op}
 use Rattle.lanes.specs.declared.Waiting.the-variants.{Idle}
 use Rattle.lanes.specs.UseOrder.{placeAt}
+use Rattle.lanes.specs.UseOrder.{LoadsOldest}
 use Rattle.store.specs.declared.Store.{Store}
 use Rattle.store.specs.Stores.{laneAt}
 use Rattle.machine.specs.Begun.{begunIn, lastPlace, exhaustedOf}
@@ -40,8 +41,8 @@ module _ (s : Store) (k : LaneNo) (e : corruptOf s ≡ false) (h : k .0 < s .sha
       let p = lane-counted 1 s k (beginLane (s .shape .c) op w (laneAt s (k .0))) h (begin-lane-begins (s .shape .c) op w (laneAt s (k .0)) idle) in
       omega (arith, eqb-false (begunIn s) lastPlace left)
 
-  pub deliver-counted : counted (deliverLane (s .shape .c) (laneAt s (k .0)) .answer) (s .completions) ≤ lastPlace
+  pub deliver-counted : counted (deliverLane LoadsOldest (s .shape .c) (laneAt s (k .0)) .answer) (s .completions) ≤ lastPlace
   deliver-counted =
       let g = sound s e .begun in
-      let p = lane-counted 0 s k (deliverLane (s .shape .c) (laneAt s (k .0))) h (deliver-lane-begins (s .shape .c) (laneAt s (k .0))) in
+      let p = lane-counted 0 s k (deliverLane LoadsOldest (s .shape .c) (laneAt s (k .0))) h (deliver-lane-begins LoadsOldest (s .shape .c) (laneAt s (k .0))) in
       omega arith

@@ -3,6 +3,7 @@
 ghost use mathlib.Core.Path.{_≡_};
 ghost use mathlib.Core.Bool.{false};
 ghost use Prim.Native.Nat.{_≤_};
+ghost use Rattle.lanes.specs.UseOrder.{LoadsOldest};
 ghost use Rattle.machine.specs.Begun.{lastPlace};
 ghost use Rattle.machine.specs.Corruption.{corruptOf};
 ghost use Rattle.machine.specs.Change.{counted, answerTo};
@@ -87,7 +88,7 @@ pub fn begin_sound(s: Store, k: LaneNo, op: Op, w: WordNo) -> Outcome
 // Deliver on a store that is not corrupt.
 pub fn deliver_sound(s: Store, k: LaneNo) -> Outcome
     requires { ⌜ corruptOf s ≡ false ⌝ }
-    ensures { λ r. ⌜ r ≡ deliverOf s k ⌝ }
+    ensures { λ r. ⌜ r ≡ deliverOf LoadsOldest s k ⌝ }
 {
     let mut t = s;
     let n = t.shape.n;

@@ -7,6 +7,7 @@ use mathlib.Core.Path.{_≡_, refl, sym, ap, _∙_}
 use mathlib.Core.List.{List, [], _∷_, _++_, append-assoc, append-nil}
 use lib.ListN.{length, set, replicate, length-append}
 use lib.Seq.{set-append-seam}
+use Rattle.lanes.specs.UseOrder.{LoadsOldest}
 use Rattle.answers.specs.declared.Answer.{Answer}
 use Rattle.answers.specs.declared.Answer.the-variants.{Opened, Done, Wait, Step, Refused}
 use Rattle.answers.specs.declared.Completion.{Completion}
@@ -78,7 +79,7 @@ pub record Going (first s : Store) (d : Completions) (count : ℕ) : Type 0 wher
   pub fits : length completed + waitingIn s ≤ 8
   pub answer : Answer
   pub passed : refusedOf answer ≡ false
-  pub same : settleOf first ≡ endsWith first (repeatStep (suc (boundOf first - count)) (after count completed answer s))
+  pub same : settleOf LoadsOldest first ≡ endsWith first (repeatStep LoadsOldest (suc (boundOf first - count)) (after count completed answer s))
 
 pub going-start : (s : Store) → corruptOf s ≡ false → Sized s → Going s s (arrayOf []) 0
 unfolding settleOf
@@ -89,58 +90,58 @@ going-start s e g =
 
 module _ (first s : Store) (d : Completions) (count : ℕ) (g : Going first s d count) where
   -- the store is quiet
-  pub going-quiet : quietOf s ≡ true → record { answer = Steps count; completions = d; store = s } ≡ outcomeOf (settleOf first)
+  pub going-quiet : quietOf s ≡ true → record { answer = Steps count; completions = d; store = s } ≡ outcomeOf (settleOf LoadsOldest first)
   unfolding ended
   going-quiet q =
       let p = after count (g .completed) (g .answer) s in
       let e : ended p ≡ true = rw (g .passed, q) in
-      let f : settleOf first ≡ record { answer = Steps count; completions = g .completed; store = s } =
-      g .same ∙ rw (repeat-ended (suc (boundOf first - count)) p e, passes (g .answer) first (reached first p) (g .passed), q) in
+      let f : settleOf LoadsOldest first ≡ record { answer = Steps count; completions = g .completed; store = s } =
+      g .same ∙ rw (repeat-ended LoadsOldest (suc (boundOf first - count)) p e, passes (g .answer) first (reached first p) (g .passed), q) in
       rw (f, g .listed)
 
   -- there is room for the completion of a step
-  pub going-fits : length (doneIn (settleStep s .answer)) + d .len ≤ 8
+  pub going-fits : length (doneIn (settleStep LoadsOldest s .answer)) + d .len ≤ 8
   going-fits =
-      let c = settle-completes s (g .sized) in
+      let c = settle-completes LoadsOldest s (g .sized) in
       let f = g .fits in
       rw (g .listed) (omega arith)
 
   module _ (q : quietOf s ≡ false) where
     -- one step is taken
-    steps : settleOf first ≡ endsWith first (repeatStep (boundOf first - count) (advance (after count (g .completed) (g .answer) s)))
+    steps : settleOf LoadsOldest first ≡ endsWith first (repeatStep LoadsOldest (boundOf first - count) (advance LoadsOldest (after count (g .completed) (g .answer) s)))
     unfolding ended
     steps =
         let p = after count (g .completed) (g .answer) s in
         let e : ended p ≡ false = rw (g .passed, q) in
-        g .same ∙ ap (endsWith first) (repeat-more (boundOf first - count) p e)
+        g .same ∙ ap (endsWith first) (repeat-more LoadsOldest (boundOf first - count) p e)
 
     -- it is refused
-    pub going-refused : refusedOf (settleStep s .answer) ≡ true → settleOf first ≡ refuseSettle (refusalOf (settleStep s .answer)) first
+    pub going-refused : refusedOf (settleStep LoadsOldest s .answer) ≡ true → settleOf LoadsOldest first ≡ refuseSettle (refusalOf (settleStep LoadsOldest s .answer)) first
     unfolding ended advance
     going-refused x =
-        let p = advance (after count (g .completed) (g .answer) s) in
+        let p = advance LoadsOldest (after count (g .completed) (g .answer) s) in
         let e : ended p ≡ true = rw x in
-        steps ∙ (ap (endsWith first) (repeat-ended (boundOf first - count) p e) ∙ fails (settleStep s .answer) first (reached first p) x)
+        steps ∙ (ap (endsWith first) (repeat-ended LoadsOldest (boundOf first - count) p e) ∙ fails (settleStep LoadsOldest s .answer) first (reached first p) x)
 
     -- it is not
-    pub going-next : refusedOf (settleStep s .answer) ≡ false → Going first (settleStep s .store) (listedOf d (settleStep s .answer)) (count + 1)
+    pub going-next : refusedOf (settleStep LoadsOldest s .answer) ≡ false → Going first (settleStep LoadsOldest s .store) (listedOf d (settleStep LoadsOldest s .answer)) (count + 1)
     unfolding advance
     going-next x =
-        let c = settle-completes s (g .sized) in
+        let c = settle-completes LoadsOldest s (g .sized) in
         let f = g .fits in
         let b = g .bounded in
-        let m = settle-falls s (g .sound) (g .sized) x in
-        let l = length-append (g .completed) (doneIn (settleStep s .answer)) in
-        let h : length (doneIn (settleStep s .answer)) + length (g .completed) ≤ 8 = omega arith in
+        let m = settle-falls LoadsOldest s (g .sound) (g .sized) x in
+        let l = length-append (g .completed) (doneIn (settleStep LoadsOldest s .answer)) in
+        let h : length (doneIn (settleStep LoadsOldest s .answer)) + length (g .completed) ≤ 8 = omega arith in
         let z : boundOf first - count ≡ suc (boundOf first - (count + 1)) = omega arith in
         record {
-          sound = settle-step-keeps s (g .sound) (sized-whole s (sound s (g .sound) .n-high) (g .sized));
-          sized = settle-step-sized s (g .sized);
+          sound = settle-step-keeps LoadsOldest s (g .sound) (sized-whole s (sound s (g .sound) .n-high) (g .sized));
+          sized = settle-step-sized LoadsOldest s (g .sized);
           bounded = omega arith;
-          completed = g .completed ++ doneIn (settleStep s .answer);
-          listed = rw (g .listed) (list-adds (g .completed) (settleStep s .answer) h);
+          completed = g .completed ++ doneIn (settleStep LoadsOldest s .answer);
+          listed = rw (g .listed) (list-adds (g .completed) (settleStep LoadsOldest s .answer) h);
           fits = omega arith;
-          answer = settleStep s .answer;
+          answer = settleStep LoadsOldest s .answer;
           passed = x;
           same = steps ∙ rw (z, add-one);
         }

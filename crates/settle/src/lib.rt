@@ -5,6 +5,7 @@ ghost use mathlib.Core.Bool.{false};
 ghost use mathlib.Core.List.{[]};
 ghost use Prim.Native.Nat.{_+_, _≤_};
 ghost use lib.ListN.{length};
+ghost use Rattle.lanes.specs.UseOrder.{LoadsOldest};
 ghost use Rattle.machine.specs.Corruption.{corruptOf};
 ghost use Rattle.answers.specs.Completions.{doneIn};
 ghost use Rattle.machine.specs.Settle.{settleOf, boundOf, refuseSettle};
@@ -86,7 +87,7 @@ fn refuse(r: Refusal, s: Store) -> SettleOutcome
 // Settle of a store that is not corrupt.
 fn settle_sound(first: Store) -> SettleOutcome
     requires { ⌜ corruptOf first ≡ false ⌝ }
-    ensures { λ r. ⌜ (r ≡ outcomeOf (settleOf first)) × CountWithin (boundOf first) (r .answer) ⌝ }
+    ensures { λ r. ⌜ (r ≡ outcomeOf (settleOf LoadsOldest first)) × CountWithin (boundOf first) (r .answer) ⌝ }
 {
     let mut s = first;
     let mut done = none();
@@ -114,7 +115,7 @@ fn settle_sound(first: Store) -> SettleOutcome
 // Settle: the step count, at most the bound of the store before it, and the completions in order; or why it was refused: 14, or the
 // number of the step that was.
 pub fn settle(s: Store) -> SettleOutcome
-    ensures { λ r. ⌜ (r ≡ outcomeOf (settleOf s)) × CountWithin (boundOf s) (r .answer) ⌝ }
+    ensures { λ r. ⌜ (r ≡ outcomeOf (settleOf LoadsOldest s)) × CountWithin (boundOf s) (r .answer) ⌝ }
 {
     if corruption::corrupt(s) {
         return refuse(Refusal::Corrupt, s);

@@ -4,6 +4,7 @@ use lib.Dec.{ltb}
 use Rattle.words.specs.declared.LaneNo.{LaneNo}
 use Rattle.lanes.specs.declared.Lane.{Lane}
 use Rattle.lanes.specs.Waits.{unservedOf}
+use Rattle.lanes.specs.UseOrder.{LoadsOldest}
 use Rattle.store.specs.declared.Store.{Store}
 use Rattle.store.specs.declared.Outcome.{Outcome}
 use Rattle.machine.specs.Serve.{serveOf}
@@ -20,6 +21,6 @@ enabledOf Serve l = unservedOf (l .waiting)
 
 -- the step on lane k
 abbrev pub stepOf : StepKind → Store → LaneNo → Outcome
-stepOf Deliver s k = deliverOf s k
+stepOf Deliver s k = deliverOf LoadsOldest s k
 stepOf Return s k = returnOf s k
 stepOf Serve s k = serveOf s k

@@ -4,6 +4,7 @@ ghost use mathlib.Core.Bool.{false};
 ghost use Prim.Native.Nat.{_+_, _≤_};
 ghost use Rattle.words.specs.Folds.{lowestTo};
 ghost use Rattle.store.specs.Stores.{laneAt};
+ghost use Rattle.lanes.specs.UseOrder.{LoadsOldest};
 ghost use Rattle.machine.specs.Corruption.{corruptOf};
 ghost use Rattle.machine.specs.Settle.{settleStep};
 ghost use Rattle.settlestep.specs.Kinds.{enabledOf, stepOf};
@@ -67,7 +68,7 @@ fn take_step(x: StepKind, s: Store, k: LaneNo) -> Outcome
 // The next step: deliver, else return, else serve, at the lowest lane; 16 where there is none of these.
 pub fn step(s: Store) -> Outcome
     requires { ⌜ corruptOf s ≡ false ⌝ }
-    ensures { λ r. ⌜ r ≡ settleStep s ⌝ }
+    ensures { λ r. ⌜ r ≡ settleStep LoadsOldest s ⌝ }
 {
     let n = s.shape.n;
     let d = lowest(StepKind::Deliver, s);

@@ -7,6 +7,7 @@ use borrow.Author.Tests.{eq-eqb}
 use Rattle.words.proofs.Folds.{pick}
 use Rattle.records.specs.declared.Record.{Record}
 use Rattle.records.specs.declared.Record.the-variants as Record
+use Rattle.lanes.specs.UseOrder.{LoadsOldest}
 use Rattle.store.specs.declared.Store.{Store}
 use Rattle.store.specs.declared.Outcome.{Outcome}
 use Rattle.store.specs.Opening.{badShape, freshOf, blankStore}
@@ -56,4 +57,4 @@ module _ (s : Store) (g : Tapes s) where
   record-after (Record.Begin k op w) = call-after _ (λ e. begin-keeps s _ _ _ e (g .whole)) (begin-whole s _ _ _ (g .whole))
   record-after (Record.Serve k) = call-after _ (serve-keeps s _) (serve-whole s _ (g .whole))
   record-after (Record.Return k) = call-after _ (return-keeps s _) (return-whole s _ (g .whole))
-  record-after (Record.Deliver k) = call-after _ (λ e. deliver-keeps s _ e (g .whole)) (deliver-whole s _ (g .whole))
+  record-after (Record.Deliver k) = call-after _ (λ e. deliver-keeps LoadsOldest s _ e (g .whole)) (deliver-whole LoadsOldest s _ (g .whole))

@@ -21,21 +21,25 @@ refuse-requires c κs = search needs
 returns : tie.Need-returns
 returns c = rw (← c .before .before .before .vacant .ensures, c .before .enum-told .given .1, c .refuse .ensures)
 
+inserted-requires : tie.Need-inserted-requires
+inserted-requires c κs = search needs
+
 claim-requires : tie.Need-claim-requires
 claim-requires c κs = search needs
 
-complete-requires : tie.Need-complete-requires
-complete-requires c κs =
-    let at-i = c .before .before .before .before .before in
+complete-with-requires : tie.Need-complete-with-requires
+complete-with-requires c κs =
+    let at-i = c .before .before .before .before .before .before .before in
     let at-vacant = at-i .before .before in
-    (omega arith, omega (arith, first-bound _ _ _ _ _ (sym (at-vacant .vacant .ensures) ∙ at-i .i .given .1)))
+    omega (arith, first-bound _ _ _ _ _ (sym (at-vacant .vacant .ensures) ∙ at-i .i .given .1))
 
 returns-2 : tie.Need-returns-2
 returns-2 c =
     let at-claim = c .before in
-    let at-i = at-claim .before .before .before .before .before in
+    let at-inserted = at-claim .before in
+    let at-i = at-inserted .before .before .before .before .before .before in
     let at-vacant = at-i .before .before in
-    rw (← at-vacant .vacant .ensures, at-i .i .given .1, c .complete .ensures, at-claim .claim .ensures)
+    rw (← at-vacant .vacant .ensures, at-i .i .given .1, c .complete-with .ensures, at-inserted .inserted .ensures, at-claim .claim .ensures)
 
 pub fill-spec : {M : Type 1} → statement M
 fill-spec =
@@ -46,6 +50,7 @@ fill-spec =
     enum-told
     refuse-requires
     returns
+    inserted-requires
     claim-requires
-    complete-requires
+    complete-with-requires
     returns-2)

@@ -3,6 +3,7 @@ use borrow.Author.Needs.{needs}
 use borrow.Author.Tests.{not-true, not-false}
 use native.Mathlib.Omega.{arith}
 use mathlib.Core.Path.{sym, ap, _∙_}
+use Rattle.lanes.specs.UseOrder.{LoadsOldest}
 use Rattle.answers.specs.Refusals.{refusedOf}
 use Rattle.store.specs.declared.Outcome.{Outcome}
 use Rattle.machine.specs.Settle.{boundOf}
@@ -75,7 +76,7 @@ loop-less c =
     let at-step = at-refused .before in
     let at-loop = at-step .before .before .before in
     let answer = ap (λ (x : Outcome). refusedOf (x .answer)) (sym (at-step .step .ensures)) ∙ (sym (at-refused .refused .ensures) ∙ c .before .before .if2 .left) in
-    rw (at-step .step .ensures) (settle-falls _ (at-loop .loop .inv .sound) (at-loop .loop .inv .sized) answer)
+    rw (at-step .step .ensures) (settle-falls LoadsOldest _ (at-loop .loop .inv .sound) (at-loop .loop .inv .sized) answer)
 
 loop-again : tie.Need-loop-again Inv-loop μ-loop
 loop-again c =
