@@ -18,6 +18,7 @@ use Rattle.machine.specs.Calls.{Call, Settle, run}
 use Rattle.machine.specs.Attribution.{Begun}
 use Rattle.machine.specs.Demand3.{Demand3, begun, operations}
 use Rattle.machine.specs.Places.{PlacesKept}
+use Rattle.machine.specs.SameValues.{SameValues}
 use Rattle.machine.specs.Completion.{AlwaysSettles, SettleBound}
 use Rattle.machine.specs.Sized.{Sized}
 use Rattle.machine.specs.PictureOrder.{PictureInOrder, OneOrder, SamePictures}
@@ -30,10 +31,12 @@ use Rattle.machine.proofs.places.PlacesCalls.{places-kept}
 use Rattle.machine.proofs.pictures.OneOrder.{one-order}
 use Rattle.machine.proofs.pictures.PictureOrder.{in-order, same-pictures}
 use Rattle.machine.proofs.store.OrderOfMemory.{order-of-memory}
+use Rattle.machine.proofs.store.SameOperations.{same-operations}
 use Rattle.machine.proofs.settle.LiveSettle.{always-settles, all-complete}
 
 -- Demand 3: the order of completion is the order of memory.
 --
+--   ins     which place a fill gives its line, 01's rule or 02's W3; the program's is `LoadsOldest`
 --   calls   any list of load, store, exchange, add, serve, return, deliver and settle calls; lanes, words and v are any numbers, so
 --           that refused calls are in it. "In every order in which the messages reach the controller": the order in which serve,
 --           return and deliver stand in the list is that order, and it is any.
@@ -72,6 +75,11 @@ no-free-order = one-order
 -- .. and so two pictures of one store are the same file, whatever stood in the lent buffers.
 pub pictures-same : SamePictures
 pictures-same = same-pictures
+
+-- 02, W3: two lists of calls from openings, under either rule each, that complete the same operations in the same order get the same values and places. What
+-- is the same is the operation with its v and the word (`Asked`, specs/SameValues.antt); n, c, m, lanes, steps and refused calls may differ.
+pub same-values : SameValues
+same-values = same-operations
 
 -- Beside demand 3: settle never fails. After any list of calls from any opening, settle is answered with its count (no 12, no 16), and
 -- nothing is under way after it (`Settles`, specs/Completion.antt).

@@ -3,3 +3,4 @@ pub mod Owes
 pub mod Outer
 pub mod OuterTie
 pub mod OuterRun
+pub mod SameFlat

@@ -10,3 +10,4 @@ pub mod ConsistentDeliver
 pub mod ConsistentSettle
 pub mod ConsistentQuiet
 pub mod OrderOfMemory
+pub mod SameOperations

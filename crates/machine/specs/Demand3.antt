@@ -28,6 +28,13 @@ completed h = attribute 0 noWaits h
 abbrev pub operations : List Entry → List Begun
 operations h = operationsOf (completed h)
 
+-- the values of the completions, and their places, in order
+abbrev pub valuesIn : List Entry → List ℕ
+valuesIn h = map (λ (x : Attributed). x .completion .value) (completed h)
+
+abbrev pub placesIn : List Entry → List ℕ
+placesIn h = map (λ (x : Attributed). x .completion .place) (completed h)
+
 -- the operations begun: those of the begin calls that aren't refused
 abbrev pub begun : List Entry → List Begun
 begun h = begunFrom 0 h
@@ -62,9 +69,9 @@ pub record Coherent (shape : Shape) (h : List Entry) (s : Store) : Type 0 where
   -- no operation completes twice: its begin call's index in the list tells it from all others
   pub once : Distinct (map (λ (b : Begun). b .index) (operations h))
   -- each completion's value equals the one flat memory then gives, fed the operations in the order of the completions
-  pub values : map (λ (x : Attributed). x .completion .value) (completed h) ≡ flatValues (flatOf (shape .m)) (operations h)
+  pub values : valuesIn h ≡ flatValues (flatOf (shape .m)) (operations h)
   -- the places run 1, 2, 3 without a gap, in the order of the completions (02, W1)
-  pub places : map (λ (x : Attributed). x .completion .place) (completed h) ≡ numbersFrom 1 (length (completed h))
+  pub places : placesIn h ≡ numbersFrom 1 (length (completed h))
   pub when-quiet : quietOf s ≡ true → WhenQuiet (shape .m) h s
 
 -- demand 3
