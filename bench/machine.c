@@ -1,4 +1,4 @@
-/* The lane store of document 01, with document 02's W1, in plain C, changed in place, and the replay of a tape (program `ctape`).
+/* The lane store of document 01, with document 02's W1 and W3, in plain C, changed in place, and the replay of a tape (program `ctape`).
  * The yardstick of bench/run: not proved, and without settle and picture.
  * A store opened here is never corrupt (refusal 14), so no step looks for that. */
 
@@ -136,12 +136,22 @@ static void use(Lane *lane, unsigned c, unsigned i)
     lane->order[place] = i;
 }
 
+/* line i goes in as the oldest */
+static void insert_oldest(Lane *lane, unsigned i)
+{
+    unsigned place = 0;
+    while (lane->order[place] != i)
+        place++;
+    for (; place > 0; place--)
+        lane->order[place] = lane->order[place - 1];
+    lane->order[0] = i;
+}
+
 /* does the operation on its word of the line, gives its value */
-static uint32_t perform(Lane *lane, unsigned c, Line *line, unsigned op, unsigned word, uint32_t v)
+static uint32_t perform(Line *line, unsigned op, unsigned word, uint32_t v)
 {
     uint32_t *at = &line->words.at[word % WORDS];
     uint32_t former = *at;
-    use(lane, c, line - lane->lines);
     switch (op) {
     case STORE: *at = v; return v;
     case EXCHANGE: *at = v; return former;
@@ -153,7 +163,7 @@ static uint32_t perform(Lane *lane, unsigned c, Line *line, unsigned op, unsigne
 /* lane k's operation completes on the line: it has the next place */
 static Answer complete(Store *s, unsigned k, Line *line, unsigned op, unsigned word, uint32_t v)
 {
-    uint32_t value = perform(&s->lanes[k], s->c, line, op, word, v);
+    uint32_t value = perform(line, op, word, v);
     return (Answer){ DONE, k, value, ++s->completions };
 }
 
@@ -183,6 +193,7 @@ static Answer begin(Store *s, unsigned k, unsigned op, unsigned word, uint32_t v
     if (line) {
         if (op == LOAD || line->private) {
             s->begun++;
+            use(lane, s->c, line - lane->lines);
             return complete(s, k, line, op, word, v);
         }
     } else {
@@ -239,6 +250,10 @@ static Answer deliver_grant(Store *s, unsigned k, const Message *grant)
         line->words = grant->words;
     }
     line->private = waiting->op != LOAD;
+    if (grant->kind != GRANT_BARE && waiting->op == LOAD)
+        insert_oldest(lane, line - lane->lines); /* no use */
+    else
+        use(lane, s->c, line - lane->lines);
     pop(&lane->downs);
     waiting->state = IDLE;
     return complete(s, k, line, waiting->op, waiting->word, waiting->v);

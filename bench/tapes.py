@@ -129,8 +129,9 @@ class Model:
         lane = self.lanes[k]
         message, block = lane.downs.popleft()
         if message == "grant":
+            load = lane.waiting[0]
             lane.lines.pop(block, None)
-            lane.lines[block] = not lane.waiting[0]
+            lane.lines = {block: False, **lane.lines} if load else {**lane.lines, block: True}  # a load's fill is the oldest
             lane.waiting = None
         elif block not in lane.lines:
             lane.returns.append((True, block, False, True))

@@ -1,7 +1,7 @@
-"""A small model of document 01's machine (with the places of 02, W1), for the charts alone: which messages a tape's records send and take.
+"""A small model of document 01's machine (with the places of 02, W1, and the fills of W3), for the charts: which messages a tape's records send and take.
 
 What benchtape prints does not name messages, so the charts need it. It knows the refusals 8 to 11 only. Each answer it gives is held
-to the line that benchtape printed (tools/charts); nothing else rests on it.
+to the line that benchtape printed (tools/charts); nothing else rests on it. A tape's bytes, for the tools that make tapes.
 """
 from dataclasses import dataclass, field
 
@@ -10,6 +10,20 @@ LENGTHS = [3, 2, 6, 6, 6, 1, 1, 1]
 CONTROL = 'control'
 REASONS = {8: 'lane {0} waits for its operation', 9: 'nothing there for lane {0}', 10: 'another service is open',
            11: "lane {0}'s return queue is taken first"}
+
+
+def record_bytes(text):
+    """The bytes of a record in words, such as 'store 0 5 7': kind, fields of one byte, v in four, low byte first."""
+    kind, *fields = text.split()
+    numbers = [int(field) for field in fields]
+    if kind in ('store', 'exchange', 'add'):
+        return bytes([NAMES.index(kind), *numbers[:2]]) + numbers[2].to_bytes(4, 'little')
+    return bytes([NAMES.index(kind), *numbers])
+
+
+def tape_of(records):
+    """The bytes of a list of records in words."""
+    return b''.join(map(record_bytes, records))
 
 
 @dataclass
@@ -57,6 +71,10 @@ class Lane:
     def use(self, i):
         self.order.remove(i)
         self.order.append(i)
+
+    def insert_oldest(self, i):
+        self.order.remove(i)
+        self.order.insert(0, i)
 
 
 @dataclass
@@ -117,7 +135,6 @@ class Bench:
         lane = self.lanes[k]
         words = lane.lines[i].words
         words[word % 4], value = apply(op, words[word % 4], v)
-        lane.use(i)
         lane.waiting = None
         self.completions += 1
         return f'done {k} {value} {self.completions}'
@@ -128,6 +145,7 @@ class Bench:
             raise Refused(8)
         i = lane.search(block)
         if i is not None and (op == 'load' or lane.lines[i].private):
+            lane.use(i)
             return self.complete(k, i, op, word, v), f'hit on block {block}'
         command = 'EXCLUDE' if i is not None else 'READ shared' if op == 'load' else 'READ exclusive'
         what = f'block {block} is held, and shared' if i is not None else f'miss on block {block}' + self.give_up(k)
@@ -200,6 +218,10 @@ class Bench:
             i = min(set(range(self.lines)) - set(lane.lines))
             lane.lines[i] = Line(message.block, list(message.words), False)
         lane.lines[i].private = op != 'load'
+        if message.words is not None and op == 'load':
+            lane.insert_oldest(i)
+        else:
+            lane.use(i)
         what = 'the held line is used' if message.words is None else f'line {i} is filled'
         return self.complete(k, i, op, word, v), what
 

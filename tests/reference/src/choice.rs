@@ -1,21 +1,53 @@
 //! Chooses few held cases that meet much: each case chosen meets something
-//! that none before it has met.
+//! that none before it has met. Cases for W3's rule come last.
 
 use crate::conditions;
 use crate::held::{self, HeldAnswer, HeldCall};
 use crate::machine;
+use crate::orders;
 use crate::parts::*;
 use crate::pictures;
 use crate::places;
 use crate::settle;
 use crate::situations;
-use crate::stores::{self, Case};
+use crate::stores::{self, Case, FOR_THE_ORDER};
 use crate::summary::kind_name;
 use std::collections::BTreeSet;
 
-/// The cases chosen, of the first so many of a seed: by what each meets, and
-/// settles by what they find too.
+/// The answers to the cases chosen have at most so many bytes.
+pub const MOST_BYTES: usize = 1 << 20;
+
+/// The cases chosen, of the first so many of a seed. The last of them are for the
+/// names of `orders` that no case before tells, so far as there is room.
 pub fn choose(seed: u64, from: usize) -> Vec<Case> {
+    let mut chosen = choose_any(seed, from);
+    for name in orders::NAMES {
+        if chosen.iter().any(|case| of_case(orders::told, case).contains(&name)) {
+            continue;
+        }
+        let room = MOST_BYTES.saturating_sub(answers_length(&chosen));
+        let meets = |case: &Case| {
+            held::given_length(case.call) <= room && of_case(orders::met, case).contains(&name)
+        };
+        chosen.extend((0..from).map(|index| stores::make(seed, index)).find(meets));
+    }
+    chosen
+}
+
+/// The bytes of the answers to cases.
+pub fn answers_length(cases: &[Case]) -> usize {
+    cases.iter().map(|case| held::given_length(case.call)).sum()
+}
+
+type Names = fn(&Store, HeldCall, &HeldAnswer) -> Vec<&'static str>;
+
+fn of_case(names: Names, case: &Case) -> Vec<&'static str> {
+    names(&case.store, case.call, &held::run(&case.store, case.call).answer)
+}
+
+/// By what each case meets, and settles by what they find too; all but those made
+/// for the use order.
+fn choose_any(seed: u64, from: usize) -> Vec<Case> {
     let mut seen = BTreeSet::new();
     let mut is_new = |case: &Case| {
         let before = seen.len();
@@ -23,7 +55,8 @@ pub fn choose(seed: u64, from: usize) -> Vec<Case> {
         seen.extend(finds(case));
         seen.len() > before
     };
-    (0..from).map(|index| stores::make(seed, index)).filter(|case| is_new(case)).collect()
+    let cases = (0..from).map(|index| stores::make(seed, index));
+    cases.filter(|case| case.source != FOR_THE_ORDER && is_new(case)).collect()
 }
 
 /// Which parts keep the store from being quiet, for a settle not refused.

@@ -1,7 +1,8 @@
 //! Counts of what lists of calls met, and what they never met.
 
 use crate::events::{Events, EVENTS};
-use crate::held::{HeldAnswer, HeldCall, SETTLE_KIND};
+use crate::fills::{Fills, FILLS};
+use crate::held::{self, HeldAnswer, HeldCall, SETTLE_KIND};
 use crate::lists::{self, Given, Record, OPEN_KIND};
 use crate::parts::*;
 use crate::settle::{self, Settled};
@@ -57,16 +58,26 @@ pub struct Cover {
     /// Calls on their own, and the steps inside settles.
     events: Events,
     inside: Events,
+    /// Both.
+    pub fills: Fills,
+    /// Lists to which the rule before W3 gives other bytes, at all and in the
+    /// answer to a call; and whether it does to the list so far.
+    pub other_bytes: [usize; 2],
+    other_so_far: [bool; 2],
     shapes: BTreeSet<(u8, u8, u8)>,
 }
 
 /// The counts over the records of whole lists.
 pub fn cover(records: &[Record]) -> Cover {
-    let (mut cover, mut store) = (Cover::default(), lists::blank());
+    let (mut cover, mut store, mut former) = (Cover::default(), lists::blank(), lists::blank());
     for &record in records {
         let before = store.clone();
+        let bounds = [&store, &former].map(held::bound_bytes);
         let given = lists::run(&mut store, record);
+        let formerly = lists::run_under(&mut former, record, Rule::FillsNewest);
         cover.see(record, &given, &before, &store);
+        let bytes = lists::answer_bytes(record, &given, bounds[0]);
+        cover.compare(record, bytes == lists::answer_bytes(record, &formerly, bounds[1]));
     }
     cover
 }
@@ -77,6 +88,8 @@ impl Cover {
             Record::Show => self.shown += 1,
             Record::Open { n, c, m } => {
                 self.this_list = 0;
+                self.fills.open();
+                self.other_so_far = [false; 2];
                 self.answer(OPEN_KIND, given);
                 if *given == Given::Opened {
                     self.lists += 1;
@@ -90,6 +103,16 @@ impl Cover {
                 self.longest_list = self.longest_list.max(self.this_list);
                 self.answer(call.kind(), given);
                 self.see_call(call, given, before, after);
+            }
+        }
+    }
+
+    /// Whether the rule before W3 gives the same bytes to a record.
+    fn compare(&mut self, record: Record, same: bool) {
+        for (i, counts) in [true, record != Record::Show].into_iter().enumerate() {
+            if counts && !same && !self.other_so_far[i] {
+                self.other_so_far[i] = true;
+                self.other_bytes[i] += 1;
             }
         }
     }
@@ -111,6 +134,7 @@ impl Cover {
         match (call, given) {
             (HeldCall::Machine(call), Given::Answer(HeldAnswer::Machine(_))) => {
                 self.events.see(call, before, after);
+                self.fills.see(call, before, after);
             }
             (HeldCall::Settle, Given::Answer(HeldAnswer::Settled(settled))) => {
                 self.see_settle(before, settled);
@@ -140,6 +164,7 @@ impl Cover {
         while let Some(step) = settle::next_step(&now) {
             let after = crate::machine::call(&now, step).expect("settle was not refused").0;
             self.inside.see(step, &now, &after);
+            self.fills.see(step, &now, &after);
             now = after;
         }
     }
@@ -161,6 +186,11 @@ impl Cover {
         never.extend(orders.map(|count| format!("serve with {count} orders")));
         let orders = (0..LANES).filter(|&count| self.inside.orders[count] == 0);
         never.extend(orders.map(|count| format!("serve with {count} orders inside settle")));
+        let fills = FILLS.iter().filter(|name| !self.fills.counts.contains_key(*name));
+        never.extend(fills.map(|name| name.to_string()));
+        if self.other_bytes.contains(&0) {
+            never.push("the rule before W3 gives other bytes".to_string());
+        }
         if self.highest_place <= u32::from(u8::MAX) {
             never.push(format!("places: only up to {}", self.highest_place));
         }
@@ -236,7 +266,12 @@ impl Display for Cover {
         writeln!(f, "events (calls, steps inside settles):")?;
         self.fmt_events(f)?;
         writeln!(f, "serves with 0 to 7 orders: {:?}", self.events.orders)?;
-        writeln!(f, "serves with 0 to 7 orders inside settles: {:?}", self.inside.orders)
+        writeln!(f, "serves with 0 to 7 orders inside settles: {:?}", self.inside.orders)?;
+        writeln!(f, "fills of two lines or more:")?;
+        fmt_counts(f, &FILLS, &self.fills.counts)?;
+        let [lists, in_answers] = self.other_bytes;
+        writeln!(f, "lists to which the rule before W3 gives other bytes: {lists}")?;
+        writeln!(f, "of these in the answer to a call: {in_answers}")
     }
 }
 

@@ -59,9 +59,14 @@ pub struct Given {
 }
 
 pub fn run(store: &Store, call: HeldCall) -> Given {
+    run_under(store, call, Rule::LoadFillsOldest)
+}
+
+/// The same under either rule.
+pub fn run_under(store: &Store, call: HeldCall, rule: Rule) -> Given {
     match call {
         HeldCall::Machine(call) => {
-            let (answer, store) = match machine::call(store, call) {
+            let (answer, store) = match machine::call_under(store, call, rule) {
                 Ok((after, answer)) => (HeldAnswer::Machine(answer), after),
                 Err(number) => (HeldAnswer::Refused(number), store.clone()),
             };
@@ -77,7 +82,7 @@ pub fn run(store: &Store, call: HeldCall) -> Given {
         }
         HeldCall::Settle => {
             let bound = bound_bytes(store);
-            let (answer, store) = match settle::settle(store) {
+            let (answer, store) = match settle::settle_under(store, rule) {
                 Ok((after, given)) => (HeldAnswer::Settled(given), after),
                 Err(number) => (HeldAnswer::Refused(number), store.clone()),
             };

@@ -1,6 +1,6 @@
-//! A reference of the lane store of document 01 with W1 and W2 of document 02,
-//! written from the documents and their readings only, with generators of tapes,
-//! of lists of calls and of held stores.
+//! A reference of the lane store of document 01 with W1, W2 and W3 of document
+//! 02, written from the documents and their readings only, with generators of
+//! tapes, of lists of calls and of held stores.
 
 pub mod bounds;
 pub mod choice;
@@ -8,12 +8,15 @@ pub mod conditions;
 pub mod cover;
 pub mod damage;
 pub mod events;
+pub mod fills;
 pub mod flat;
 pub mod held;
 pub mod judge;
 pub mod list_maker;
 pub mod lists;
 pub mod machine;
+pub mod order_maker;
+pub mod orders;
 pub mod parts;
 pub mod pictures;
 pub mod places;

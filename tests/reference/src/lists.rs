@@ -74,6 +74,11 @@ pub enum Given {
 /// One record on the store that the records before it left. Before the first
 /// opening, and after a refused one, that is the blank store.
 pub fn run(store: &mut Store, record: Record) -> Given {
+    run_under(store, record, Rule::LoadFillsOldest)
+}
+
+/// The same under either rule.
+pub fn run_under(store: &mut Store, record: Record, rule: Rule) -> Given {
     match record {
         Record::Open { n, c, m } => match machine::open(n, c, m) {
             Ok(opened) => {
@@ -86,7 +91,7 @@ pub fn run(store: &mut Store, record: Record) -> Given {
             }
         },
         Record::Call(call) => {
-            let given = held::run(store, call);
+            let given = held::run_under(store, call, rule);
             *store = given.store;
             Given::Answer(given.answer)
         }

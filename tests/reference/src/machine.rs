@@ -37,6 +37,11 @@ pub fn open(n: u8, c: u8, m: u8) -> Result<Store, u8> {
 
 /// The store after the call and its answer, or the refusal number.
 pub fn call(store: &Store, call: Call) -> Result<(Store, Answer), u8> {
+    call_under(store, call, Rule::LoadFillsOldest)
+}
+
+/// The same under either rule.
+pub fn call_under(store: &Store, call: Call, rule: Rule) -> Result<(Store, Answer), u8> {
     if corrupt(store) {
         return Err(CORRUPT);
     }
@@ -44,18 +49,18 @@ pub fn call(store: &Store, call: Call) -> Result<(Store, Answer), u8> {
         return Err(NO_SUCH_LANE);
     }
     let mut after = store.clone();
-    let answer = step(&mut after, call)?;
+    let answer = step(&mut after, call, rule)?;
     Ok((after, answer))
 }
 
 /// The call without the checks of 14 and 6. A refused one may leave a store
 /// that is half changed: the caller drops it.
-pub fn step(s: &mut Store, call: Call) -> Result<Answer, u8> {
+pub fn step(s: &mut Store, call: Call, rule: Rule) -> Result<Answer, u8> {
     match call {
         Call::Begin { lane, op, word } => begin(s, lane, op, word),
         Call::Serve(lane) => serve(s, lane),
         Call::Return(lane) => take_return(s, lane),
-        Call::Deliver(lane) => deliver(s, lane),
+        Call::Deliver(lane) => deliver(s, lane, rule),
     }
 }
 
@@ -124,21 +129,31 @@ pub fn search(lane: &Lane, c: u8, block: u8) -> Option<usize> {
     (0..usize::from(c)).find(|&i| lane.lines[i].valid && lane.lines[i].block == block)
 }
 
+/// The place of line i among the c lines, the oldest in place 0.
+fn place_in_order(lane: &Lane, c: u8, i: usize) -> usize {
+    let order = &lane.order[..usize::from(c)];
+    order.iter().position(|&name| usize::from(name) == i).expect("line in use order")
+}
+
 /// Line i becomes the last used.
 fn use_line(lane: &mut Lane, c: u8, i: usize) {
-    let order = &mut lane.order[..usize::from(c)];
-    let at = order.iter().position(|&name| usize::from(name) == i).expect("line in use order");
-    order[at..].rotate_left(1);
+    let at = place_in_order(lane, c, i);
+    lane.order[at..usize::from(c)].rotate_left(1);
+}
+
+/// Line i becomes the oldest.
+fn make_oldest(lane: &mut Lane, c: u8, i: usize) {
+    let at = place_in_order(lane, c, i);
+    lane.order[..=at].rotate_right(1);
 }
 
 /// Does the operation on line i of lane k, which waits no more, and gives it
-/// the next place.
+/// the next place. The use order is the caller's.
 fn complete(s: &mut Store, k: u8, i: usize, op: Op, word: u8) -> Answer {
     let lane = &mut s.lanes[usize::from(k)];
     let cell = &mut lane.lines[i].words[usize::from(word % 4)];
     let (value, left) = op.on(*cell);
     *cell = left;
-    use_line(lane, s.c, i);
     lane.waiting = None;
     s.completed += 1;
     Answer::Done(Completion { lane: k, value, place: s.completed })
@@ -157,6 +172,7 @@ fn begin(s: &mut Store, k: u8, op: Op, word: u8) -> Result<Answer, u8> {
     let lane = &mut s.lanes[usize::from(k)];
     let command = match search(lane, s.c, word / 4) {
         Some(i) if op.is_load() || lane.lines[i].private => {
+            use_line(lane, s.c, i);
             return Ok(complete(s, k, i, op, word));
         }
         Some(_) => Command::Exclude,
@@ -283,7 +299,7 @@ fn lower_awaited(s: &mut Store) -> Result<(), u8> {
     Ok(())
 }
 
-fn deliver(s: &mut Store, k: u8) -> Result<Answer, u8> {
+fn deliver(s: &mut Store, k: u8, rule: Rule) -> Result<Answer, u8> {
     let (c, lane) = (s.c, &mut s.lanes[usize::from(k)]);
     let message = lane.down.take().ok_or(NOTHING_PENDING)?;
     if message.kind.is_order() {
@@ -291,6 +307,11 @@ fn deliver(s: &mut Store, k: u8) -> Result<Answer, u8> {
         Ok(Answer::Step)
     } else {
         let (i, waiting) = accept_grant(lane, c, message)?;
+        let fills = message.kind == DownKind::Grant;
+        match fills && !rule.fill_is_use(waiting.op) {
+            true => make_oldest(lane, c, i),
+            false => use_line(lane, c, i),
+        }
         Ok(complete(s, k, i, waiting.op, waiting.word))
     }
 }
@@ -334,7 +355,6 @@ fn accept_grant(lane: &mut Lane, c: u8, grant: Message<DownKind>) -> Result<(usi
         let i = free.ok_or(UNEXPECTED)?;
         let line = &mut lane.lines[i];
         (line.valid, line.block, line.words) = (true, grant.block, grant.words);
-        use_line(lane, c, i);
         i
     };
     lane.lines[i].private = !waiting.op.is_load();

@@ -1,6 +1,7 @@
 //! The command line. See README.md.
 
 use reference::cover::{self, Cover};
+use reference::parts::Rule;
 use reference::summary::{Cases, Tapes};
 use reference::{bounds, choice, held, judge, list_maker, lists, stores, tape, tapes};
 use std::fs;
@@ -10,6 +11,7 @@ use std::process::ExitCode;
 
 const USAGE: &str = "usage:
   reference tape < TAPE
+  reference tape-before-w3 < TAPE
   reference held < CASES
   reference make-tapes SEED COUNT DIR
   reference draw-tapes SEED COUNT DIR
@@ -33,7 +35,8 @@ fn main() -> ExitCode {
     let args: Vec<String> = std::env::args().skip(1).collect();
     let args: Vec<&str> = args.iter().map(String::as_str).collect();
     let result = match args[..] {
-        ["tape"] => run_tape(),
+        ["tape"] => run_tape(Rule::LoadFillsOldest),
+        ["tape-before-w3"] => run_tape(Rule::FillsNewest),
         ["held"] => run_held(),
         ["make-tapes", seed, count, dir] => make_tapes(seed, count, dir, in_turn),
         ["draw-tapes", seed, count, dir] => make_tapes(seed, count, dir, tapes::drawn_index),
@@ -75,8 +78,8 @@ fn input() -> Result<Vec<u8>, String> {
     Ok(bytes)
 }
 
-fn run_tape() -> Outcome {
-    let out = tape::print(&input()?);
+fn run_tape(rule: Rule) -> Outcome {
+    let out = tape::print_under(&input()?, rule);
     io::stdout().write_all(out.as_bytes()).map_err(text)
 }
 
@@ -143,6 +146,10 @@ fn choose_held(seed: &str, count: &str, file: &Path) -> Outcome {
     let bytes = cases.iter().flat_map(|case| held::encode_case(&case.store, case.call));
     fs::write(file, bytes.collect::<Vec<u8>>()).map_err(text)?;
     println!("{} cases chosen", cases.len());
+    println!("{} bytes of answers, at most {}", choice::answers_length(&cases), choice::MOST_BYTES);
+    let mut summary = Cases::default();
+    cases.iter().for_each(|case| summary.add(case, &held::run(&case.store, case.call).answer));
+    print!("{summary}");
     Ok(())
 }
 

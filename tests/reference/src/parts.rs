@@ -238,6 +238,22 @@ impl Store {
     }
 }
 
+/// Where a line that a grant fills goes in the use order.
+#[derive(Clone, Copy, PartialEq, Eq, Debug)]
+pub enum Rule {
+    /// Document 01's, before W3: every fill is a use.
+    FillsNewest,
+    /// W3's: a fill for a load goes in as the oldest, and is no use.
+    LoadFillsOldest,
+}
+
+impl Rule {
+    /// Whether the operation's fill is a use.
+    pub fn fill_is_use(self, op: Op) -> bool {
+        self == Rule::FillsNewest || !op.is_load()
+    }
+}
+
 #[derive(Clone, Copy, PartialEq, Eq, Debug)]
 pub enum Call {
     Begin { lane: u8, op: Op, word: u8 },

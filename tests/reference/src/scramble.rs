@@ -84,7 +84,12 @@ pub fn store(rng: &mut Rng) -> Store {
     let (any_c, any_m) = (rng.between(1, 8), rng.between(1, 64));
     let c = rng.pick(&[1, 2, 3, any_c]) as u8;
     let m = rng.pick(&[1, 1, 2, 3, any_m, 64]) as u8;
-    let mut s = Store::fresh(rng.between(2, 8) as u8, c, m);
+    filled(Store::fresh(rng.between(2, 8) as u8, c, m), rng)
+}
+
+/// A fresh store with random parts, not corrupt.
+pub fn filled(mut s: Store, rng: &mut Rng) -> Store {
+    let (c, m) = (s.c, s.m);
     let mood = Mood::random(rng);
     if rng.chance(50) {
         s.service = Some(service(s.n, m, rng));

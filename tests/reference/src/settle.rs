@@ -14,20 +14,25 @@ pub struct Settled {
 /// The store after settling and what settle gives, or the number of 14, of
 /// the step that was refused, or of a stuck store.
 pub fn settle(store: &Store) -> Result<(Store, Settled), u8> {
+    settle_under(store, Rule::LoadFillsOldest)
+}
+
+/// The same under either rule.
+pub fn settle_under(store: &Store, rule: Rule) -> Result<(Store, Settled), u8> {
     if machine::corrupt(store) {
         return Err(CORRUPT);
     }
     let (mut after, mut given) = (store.clone(), Settled::default());
     while !after.quiet() {
-        take_step(&mut after, &mut given)?;
+        take_step(&mut after, &mut given, rule)?;
     }
     Ok((after, given))
 }
 
 /// The next step; a store that is not quiet and has none is stuck.
-fn take_step(s: &mut Store, given: &mut Settled) -> Result<(), u8> {
+fn take_step(s: &mut Store, given: &mut Settled, rule: Rule) -> Result<(), u8> {
     let step = next_step(s).ok_or(UNEXPECTED)?;
-    if let Answer::Done(done) = machine::step(s, step)? {
+    if let Answer::Done(done) = machine::step(s, step, rule)? {
         given.completions.push(done);
     }
     given.steps += 1;
@@ -35,10 +40,11 @@ fn take_step(s: &mut Store, given: &mut Settled) -> Result<(), u8> {
 }
 
 /// The counts of steps and completions before the end or the refusal, of a
-/// store that is not corrupt.
+/// store that is not corrupt; they are the same under either rule.
 pub fn before_refusal(store: &Store) -> (u32, usize) {
     let (mut after, mut given) = (store.clone(), Settled::default());
-    while !after.quiet() && take_step(&mut after, &mut given).is_ok() {}
+    let rule = Rule::LoadFillsOldest;
+    while !after.quiet() && take_step(&mut after, &mut given, rule).is_ok() {}
     (given.steps, given.completions.len())
 }
 

@@ -1,9 +1,11 @@
 //! Makes cases: a held store and a call. Case `index` depends on the seed
 //! and the index only.
 
+use crate::conditions;
 use crate::damage::{Damage, CORRUPTING, FAIR};
 use crate::held::{HeldCall, BUFFER_BYTES};
 use crate::machine;
+use crate::order_maker;
 use crate::parts::*;
 use crate::rng::Rng;
 use crate::scramble;
@@ -18,9 +20,40 @@ pub struct Case {
     pub damages: Vec<&'static str>,
 }
 
-pub const SOURCES: [&str; 4] = ["reached", "reached, damaged", "random", "random, damaged"];
+pub const SOURCES: [&str; 5] =
+    ["reached", "reached, damaged", "random", "random, damaged", FOR_THE_ORDER];
+
+/// The source of cases whose completions move lines in the use order.
+pub const FOR_THE_ORDER: &str = "for the use order";
 
 pub fn make(seed: u64, index: usize) -> Case {
+    let case = of_any_call(seed, index);
+    match finds_nothing(&case) {
+        true => for_the_order(seed, index),
+        false => case,
+    }
+}
+
+/// A serve or deliver that 9 alone refuses, in a store of several lines. All such
+/// are refused alike, so a case of the use order takes its place.
+fn finds_nothing(case: &Case) -> bool {
+    let (s, call) = (&case.store, case.call);
+    let steps = matches!(call, HeldCall::Machine(Call::Serve(_) | Call::Deliver(_)));
+    steps && s.c > 1 && conditions::all(s, call) == [machine::NOTHING_PENDING]
+}
+
+fn for_the_order(seed: u64, index: usize) -> Case {
+    let mut rng = Rng::stream(seed ^ 0x6f72_6465, index as u64);
+    let (mut store, call) = order_maker::make(&mut rng);
+    if rng.chance(50) {
+        scramble::junk(&mut store, &mut rng);
+    }
+    // One place less: a hit needs one.
+    store.completed = scramble::completed(&store, &mut rng).saturating_sub(1);
+    Case { store, call, source: FOR_THE_ORDER, damages: Vec::new() }
+}
+
+fn of_any_call(seed: u64, index: usize) -> Case {
     let mut rng = Rng::stream(seed, index as u64);
     let source = rng.weighted(&[25, 30, 30, 15]);
     let (mut store, call) = if source < 2 { reached(&mut rng) } else { random(&mut rng) };
@@ -38,7 +71,8 @@ pub fn make(seed: u64, index: usize) -> Case {
     Case { store, call, source: SOURCES[source], damages }
 }
 
-/// A store that random calls reach from an opening, and a call.
+/// A store that random calls reach from an opening, and a call. They run under
+/// 01's rule: W3's reaches the same stores, and cases stay as they were.
 pub fn reached(rng: &mut Rng) -> (Store, HeldCall) {
     let (any_c, any_m) = (rng.between(1, 8), rng.between(1, 64));
     let c = rng.pick(&[1, 2, any_c]) as u8;
@@ -50,7 +84,8 @@ pub fn reached(rng: &mut Rng) -> (Store, HeldCall) {
     };
     let any = rng.below(200);
     for _ in 0..rng.pick(&[0, 5, 20, any, any]) {
-        if let Ok((after, _)) = machine::call(&s, walk::next_call(&s, &style, rng)) {
+        let call = walk::next_call(&s, &style, rng);
+        if let Ok((after, _)) = machine::call_under(&s, call, Rule::FillsNewest) {
             s = after;
         }
     }

@@ -3,6 +3,7 @@
 use crate::conditions::{self, REASONS, UNEXPECTED_REASONS};
 use crate::events::{Events, EVENTS};
 use crate::held::{HeldAnswer, HeldCall, PICTURE_KIND, SETTLE_KIND};
+use crate::orders;
 use crate::parts::*;
 use crate::pictures;
 use crate::places;
@@ -125,6 +126,7 @@ pub struct Cases {
     pub situations: BTreeMap<&'static str, usize>,
     pub places: BTreeMap<&'static str, usize>,
     pub pictures: BTreeMap<&'static str, usize>,
+    pub orders: BTreeMap<&'static str, usize>,
     /// Settles that were not refused, by the count of completions.
     pub settled: BTreeMap<usize, usize>,
     /// Refused settles, by the reason of 14 and of 16.
@@ -148,6 +150,9 @@ impl Cases {
         }
         for name in pictures::met(&case.store, answer) {
             *self.pictures.entry(name).or_default() += 1;
+        }
+        for name in orders::met(&case.store, case.call, answer) {
+            *self.orders.entry(name).or_default() += 1;
         }
         let reasons = conditions::corrupt_reasons(&case.store);
         add_reasons(&mut self.reasons, &reasons);
@@ -247,6 +252,8 @@ impl Display for Cases {
         fmt_counts(f, &places::NAMES, &self.places)?;
         writeln!(f, "pictures, not refused:")?;
         fmt_counts(f, &pictures::NAMES, &self.pictures)?;
+        writeln!(f, "use orders, of completions and settles:")?;
+        fmt_counts(f, &orders::NAMES, &self.orders)?;
         for kind in HELD_KINDS {
             writeln!(f, "{}:{}", kind_name(kind), self.answers_of(kind))?;
         }

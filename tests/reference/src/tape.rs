@@ -97,12 +97,21 @@ pub struct Event<'a> {
 
 /// One record on the store of the tape, none while it is not open.
 pub fn run_record(store: &Option<Store>, record: Record) -> Result<(Store, Outcome), u8> {
+    run_record_under(store, record, Rule::LoadFillsOldest)
+}
+
+/// The same under either rule.
+pub fn run_record_under(
+    store: &Option<Store>,
+    record: Record,
+    rule: Rule,
+) -> Result<(Store, Outcome), u8> {
     match (record, store) {
         (Record::Open { .. }, Some(_)) => Err(ALREADY_OPEN),
         (Record::Open { n, c, m }, None) => Ok((machine::open(n, c, m)?, Outcome::Open)),
         (Record::Call(_), None) => Err(NOT_OPEN),
         (Record::Call(call), Some(store)) => {
-            let (after, answer) = machine::call(store, call)?;
+            let (after, answer) = machine::call_under(store, call, rule)?;
             Ok((after, Outcome::Answer(answer)))
         }
     }
@@ -110,6 +119,11 @@ pub fn run_record(store: &Option<Store>, record: Record) -> Result<(Store, Outco
 
 /// Reads a tape; `see` is shown each record. Err is refusal 13.
 pub fn replay(tape: &[u8], see: &mut dyn FnMut(&Event)) -> Result<(), u8> {
+    replay_under(tape, Rule::LoadFillsOldest, see)
+}
+
+/// The same under either rule.
+pub fn replay_under(tape: &[u8], rule: Rule, see: &mut dyn FnMut(&Event)) -> Result<(), u8> {
     if tape.len() > LONGEST {
         return Err(TAPE_TOO_LONG);
     }
@@ -125,7 +139,7 @@ pub fn replay(tape: &[u8], see: &mut dyn FnMut(&Event)) -> Result<(), u8> {
             }
         };
         at += record.bytes().len();
-        let (after, outcome) = match run_record(&store, record) {
+        let (after, outcome) = match run_record_under(&store, record, rule) {
             Ok((after, outcome)) => (Some(after), outcome),
             Err(number) => (store.clone(), Outcome::Refused(number)),
         };
@@ -138,8 +152,13 @@ pub fn replay(tape: &[u8], see: &mut dyn FnMut(&Event)) -> Result<(), u8> {
 
 /// Exactly what `benchtape` prints.
 pub fn print(tape: &[u8]) -> String {
+    print_under(tape, Rule::LoadFillsOldest)
+}
+
+/// The same under either rule.
+pub fn print_under(tape: &[u8], rule: Rule) -> String {
     let (mut text, mut lines) = (String::new(), 0usize);
-    let result = replay(tape, &mut |event| {
+    let result = replay_under(tape, rule, &mut |event| {
         let line = match event.outcome {
             Outcome::Open => "open".to_string(),
             Outcome::Answer(Answer::Done(Completion { lane, value, place })) => {

@@ -275,6 +275,8 @@ fn made_lists_cover_what_they_must() {
     let cover = cover::cover(&all);
     assert_eq!((cover.never_met(), cover.impossible()), (vec![], vec![]));
     assert!(cover.calls >= 100_000 && cover.lists == SHAPES, "{} calls", cover.calls);
+    let [other, in_answers] = cover.other_bytes;
+    assert!(other >= 2_500 && in_answers >= 500, "{other} {in_answers}");
     let judged = judge(&answered(&all)).expect("demand 3");
     assert!(judged.completions >= 100_000, "{} completions", judged.completions);
     assert!(judged.in_settles >= 50_000 && judged.quiet_stores >= SHAPES / 2);
@@ -303,6 +305,49 @@ fn drawn_lists_reach_every_shape() {
     assert_ne!(few(1), few(2));
 }
 
+/// What is counted of loads' fills, in the order of their names: of lane 0, with
+/// a settle after each operation.
+fn fills(c: u8, operations: &[(Op, u8)]) -> [usize; 3] {
+    let mut records = vec![Record::Open { n: 2, c, m: 4 }];
+    for &(op, block) in operations {
+        records.extend([begin(0, op, 4 * block), SETTLE]);
+    }
+    let counts = cover::cover(&records).fills.counts;
+    reference::fills::FILLS.map(|name| counts.get(name).copied().unwrap_or(0))
+}
+
+#[test]
+fn loads_fills_are_followed() {
+    let (load, add) = (Op::Load, Op::Add(1));
+    assert_eq!(fills(2, &[(load, 0), (load, 1)]), [0, 0, 0]);
+    assert_eq!(fills(2, &[(load, 0), (load, 1), (load, 2)]), [1, 0, 0]);
+    assert_eq!(fills(2, &[(load, 0), (load, 1), (load, 2), (load, 3)]), [2, 0, 0]);
+    // Used once more, it is given up as any other; twice counts once.
+    assert_eq!(fills(2, &[(load, 0), (load, 1), (load, 1), (load, 1)]), [0, 1, 0]);
+    assert_eq!(fills(2, &[(load, 0), (load, 0), (add, 1), (load, 2)]), [0, 1, 0]);
+    assert_eq!(fills(2, &[(load, 0), (load, 1), (add, 1)]), [0, 0, 1]);
+    assert_eq!(fills(2, &[(load, 0), (load, 1), (add, 1), (add, 1), (load, 1)]), [0, 0, 1]);
+    // Newest already: line 0, when line 1 goes in as oldest.
+    assert_eq!(fills(2, &[(load, 0), (load, 1), (load, 0)]), [0, 0, 0]);
+    // Another operation's fill is a use; one line has no order.
+    assert_eq!(fills(2, &[(add, 0), (add, 1), (load, 0), (load, 2)]), [0, 0, 0]);
+    assert_eq!(fills(1, &[(load, 0), (load, 0), (load, 1), (load, 2)]), [0, 0, 0]);
+}
+
+/// A line that was purged is no load's fill when another operation fills it.
+#[test]
+fn purged_fills_are_forgotten() {
+    let mut records = vec![Record::Open { n: 2, c: 2, m: 4 }];
+    for (lane, op, block) in
+        [(0, Op::Load, 0), (0, Op::Add(1), 1), (1, Op::Add(1), 0), (0, Op::Add(1), 2)]
+    {
+        records.extend([begin(lane, op, 4 * block), SETTLE]);
+    }
+    records.extend([begin(0, Op::Add(1), 4), begin(0, Op::Load, 12), SETTLE]);
+    let counts = cover::cover(&records).fills.counts;
+    assert!(counts.is_empty(), "{counts:?}");
+}
+
 #[test]
 fn a_cover_tells_what_is_missing() {
     let few: Vec<Record> = (0..40).flat_map(|index| list_maker::make(1, index)).collect();
@@ -310,5 +355,9 @@ fn a_cover_tells_what_is_missing() {
     assert!(never.contains(&"shapes: only 40".to_string()), "{never:?}");
     let none = cover::cover(&two_stores()).never_met();
     assert!(none.contains(&"settle with 1 completions".to_string()), "{none:?}");
+    assert!(none.contains(&"the rule before W3 gives other bytes".to_string()), "{none:?}");
+    for name in reference::fills::FILLS {
+        assert!(none.contains(&name.to_string()), "{none:?}");
+    }
     assert!(!none.contains(&"settle with 2 completions".to_string()));
 }

@@ -6,7 +6,7 @@ use reference::held::{self, HeldCall};
 use reference::machine;
 use reference::parts::*;
 use reference::rng::Rng;
-use reference::settle::{bound, next_step, settle, Settled};
+use reference::settle::{bound, next_step, settle, settle_under, Settled};
 use reference::{scramble, stores};
 
 fn open(n: u8, c: u8, m: u8) -> Store {
@@ -207,7 +207,7 @@ fn a_refusal_after_a_completion_gives_its_number_alone() {
 
 /// Settle is its steps, each as a call of its own; the steps before the end
 /// or the refusal are no more than the bound, and none makes a store corrupt.
-fn check_against_calls(s: &Store) -> (u32, Result<usize, u8>) {
+fn check_against_calls(s: &Store, rule: Rule) -> (u32, Result<usize, u8>) {
     let (mut now, mut steps, mut completions) = (s.clone(), 0, Vec::new());
     let number = loop {
         if now.quiet() {
@@ -217,7 +217,7 @@ fn check_against_calls(s: &Store) -> (u32, Result<usize, u8>) {
             Some(step) => step,
             None => break Some(16),
         };
-        match machine::call(&now, step) {
+        match machine::call_under(&now, step, rule) {
             Err(number) => break Some(number),
             Ok((after, answer)) => {
                 assert!(!machine::corrupt(&after));
@@ -233,7 +233,7 @@ fn check_against_calls(s: &Store) -> (u32, Result<usize, u8>) {
     assert!(steps <= bound(s), "{steps} steps, bound {}", bound(s));
     let count = completions.len();
     let wanted = number.map_or(Ok((now, Settled { steps, completions })), Err);
-    assert!(settle(s) == wanted);
+    assert!(settle_under(s, rule) == wanted);
     (steps, number.map_or(Ok(count), Err))
 }
 
@@ -255,7 +255,9 @@ fn damaged(index: u64) -> Store {
 fn random_stores_settle_within_the_bound() {
     let (mut settled, mut several, mut refused, mut longest) = (0, 0, [0; 18], 0);
     for index in 0..60_000 {
-        let (steps, given) = check_against_calls(&damaged(index));
+        let s = damaged(index);
+        let (steps, given) = check_against_calls(&s, Rule::LoadFillsOldest);
+        assert_eq!(check_against_calls(&s, Rule::FillsNewest), (steps, given));
         longest = longest.max(steps);
         match given {
             Ok(count) => {

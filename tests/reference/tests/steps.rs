@@ -274,18 +274,19 @@ fn orders_are_answered() {
 
 #[test]
 fn grant_with_words_fills_the_lowest_free_line() {
-    for (op, value, words, private) in [
-        (Op::Load, 6, X, false),
-        (Op::Store(1), 1, [5, 1, 7, 8], true),
-        (Op::Exchange(2), 6, [5, 2, 7, 8], true),
-        (Op::Add(u32::MAX), 6, [5, 5, 7, 8], true),
+    // A load's fill goes in as the oldest, the others' as the newest.
+    for (op, value, words, private, order) in [
+        (Op::Load, 6, X, false, [1, 0, 2]),
+        (Op::Store(1), 1, [5, 1, 7, 8], true, [0, 2, 1]),
+        (Op::Exchange(2), 6, [5, 2, 7, 8], true, [0, 2, 1]),
+        (Op::Add(u32::MAX), 6, [5, 5, 7, 8], true, [0, 2, 1]),
     ] {
         let mut s = delivering(DownKind::Grant, &[line(true, 0, W)]);
         s.lanes[1].waiting = served(Command::ReadExclusive, op, 5);
         let got = after(&s, Call::Deliver(1), done(value, 65_536));
         assert_eq!(got.lanes[1].lines[1], line(private, 1, words));
         assert_eq!((got.lanes[1].lines[0], got.lanes[1].lines[2].valid), (line(true, 0, W), false));
-        assert_eq!(got.lanes[1].order[..3], [0, 2, 1]);
+        assert_eq!(got.lanes[1].order[..3], order);
         assert_eq!((got.lanes[1].waiting, got.lanes[1].returns.length), (None, 0));
         assert_eq!(got.completed, 65_536);
     }
@@ -305,6 +306,7 @@ fn bare_grant_uses_the_held_line() {
     s.lanes[1].waiting = served(Command::ReadShared, Op::Load, 4);
     let got = after(&s, Call::Deliver(1), done(11, 65_536));
     assert_eq!(got.lanes[1].lines[1], line(false, 1, W));
+    assert_eq!(got.lanes[1].order[..3], [0, 2, 1]);
 }
 
 #[test]
