@@ -18,6 +18,7 @@ use Rattle.machine.specs.Calls.{Call, Settle, run}
 use Rattle.machine.specs.Attribution.{Begun}
 use Rattle.machine.specs.Demand3.{Demand3, begun, operations}
 use Rattle.machine.specs.Places.{PlacesKept}
+use Rattle.machine.specs.UseOrders.{FillsOldest, UsesNewest}
 use Rattle.machine.specs.SameValues.{SameValues}
 use Rattle.machine.specs.Completion.{AlwaysSettles, SettleBound}
 use Rattle.machine.specs.Sized.{Sized}
@@ -25,6 +26,7 @@ use Rattle.machine.specs.PictureOrder.{PictureInOrder, OneOrder, SamePic
 pub use Rattle.machine.proofs.Table.{cases}
 use Rattle.words.specs.declared.Shape.{Shape}
 use Rattle.machine.specs.Potential.{ExactSteps}
+use Rattle.machine.proofs.laws.UseOrders.{fills-oldest, uses-newest}
 use Rattle.machine.proofs.settle.Falls.{steps-exact}
 use Rattle.machine.proofs.settle.FallsSettle.{startAt, settle-count, repeat-ends, repeat-same}
 use Rattle.machine.proofs.places.PlacesCalls.{places-kept}
@@ -75,6 +77,14 @@ no-free-order = one-order
 -- .. and so two pictures of one store are the same file, whatever stood in the lent buffers.
 pub pictures-same : SamePictures
 pictures-same = same-pictures
+
+-- 02, W3: what a fill for a load and a use make of a use order that 14 passes, in places (specs/UseOrders.antt): the filled line becomes the oldest, those that
+-- were older move up by one, and all else stays; the used line becomes the newest.
+pub load-fills-oldest : FillsOldest
+load-fills-oldest = fills-oldest
+
+pub use-makes-newest : UsesNewest
+use-makes-newest = uses-newest
 
 -- 02, W3: two lists of calls from openings, under either rule each, that complete the same operations in the same order get the same values and places. What
 -- is the same is the operation with its v and the word (`Asked`, specs/SameValues.antt); n, c, m, lanes, steps and refused calls may differ.

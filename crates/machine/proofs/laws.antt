@@ -6,3 +6,4 @@ pub mod Counts
 pub mod Sums
 pub mod Updates
 pub mod Orders
+pub mod UseOrders

@@ -18,6 +18,7 @@ pub mod Places
 pub mod Flat
 pub mod Flags
 pub mod Demand3
+pub mod UseOrders
 pub mod SameValues
 pub mod Completion
 pub mod Potential

@@ -736,8 +736,8 @@ abbrev pub filling : Call → List Call
 filling x = x ∷ serve 0 ∷ deliver 0 ∷ []
 
 -- a lane of three lines works on blocks 0 and 1 and counts the stock of blocks 2, 3 and 4; then it loads block 0 again
-abbrev pub counted : Said → List Turn
-counted again =
+abbrev pub stockCount : Said → List Turn
+stockCount again =
     load 0 0 says wait ∷
     Settle says settled 2 (of 0 0 1 ∷ []) ∷
     load 0 4 says wait ∷
@@ -757,8 +757,8 @@ counted again =
 abbrev pub insertions : List Row
 insertions =
     -- the stock count gives up what it filled, and block 0 is still there
-    under LoadsOldest (opened 2 3 5) (counted (done 0 0 8)) ∷
-    under Newest (opened 2 3 5) (counted wait) ∷
+    under LoadsOldest (opened 2 3 5) (stockCount (done 0 0 8)) ∷
+    under Newest (opened 2 3 5) (stockCount wait) ∷
     -- the same of a tape, two lines and one block counted
     reads
     (0 ∷ 2 ∷ 2 ∷ 3 ∷ 1 ∷ 0 ∷ 0 ∷ 5 ∷ 0 ∷ 7 ∷ 0 ∷ 1 ∷ 0 ∷ 0 ∷ 1 ∷ 0 ∷ 4 ∷ 5 ∷ 0 ∷ 7 ∷ 0 ∷ 1 ∷ 0 ∷ 8 ∷ 6 ∷ 0 ∷ 5 ∷ 0 ∷ 7 ∷ 0 ∷ 1 ∷ 0 ∷ 0 ∷ [])

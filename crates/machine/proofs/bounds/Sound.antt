@@ -110,7 +110,7 @@ sound-queue m len block g =
 abbrev named-before : List LineNo → ℕ → ℕ → Bool
 named-before o k j = eqb (placeAt o j .0) (placeAt o k .0)
 
-order-sound : (c : ℕ) (o : List LineNo) → badOrder c o ≡ false → Ordered c o
+pub order-sound : (c : ℕ) (o : List LineNo) → badOrder c o ≡ false → Ordered c o
 order-sound c o e = record { named = λ j h. leb-false c (placeAt o j .0) (or-left _ (anyTo (named-before o j) j) (each j h)); once = once }
   where
     each : (j : ℕ) → j < c → (leb c (placeAt o j .0) || anyTo (named-before o j) j) ≡ false

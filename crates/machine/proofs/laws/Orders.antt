@@ -18,20 +18,20 @@ use Rattle.machine.proofs.laws.Sets.{same?}
 use Rattle.machine.proofs.bounds.Sound.{Ordered}
 
 -- places k and k + 1 change over
-abbrev swapped : ℕ → List LineNo → List LineNo
+abbrev pub swapped : ℕ → List LineNo → List LineNo
 swapped k o = set (set o k (placeAt o (k + 1))) (k + 1) (placeAt o k)
 
 -- where the place j was before
-abbrev was : ℕ → ℕ → ℕ
+abbrev pub was : ℕ → ℕ → ℕ
 was k j = cond (eqb j k) (k + 1) (cond (eqb j (k + 1)) k j)
 
-first : (k : ℕ) → was k k ≡ k + 1
+pub first : (k : ℕ) → was k k ≡ k + 1
 first k = rw (eq-eqb k k refl)
 
-second : (k : ℕ) → was k (k + 1) ≡ k
+pub second : (k : ℕ) → was k (k + 1) ≡ k
 second k = rw (ne-eqb (k + 1) k (λ e. omega arith), eq-eqb (k + 1) (k + 1) refl)
 
-other : (k j : ℕ) → j ≢ k → j ≢ k + 1 → was k j ≡ j
+pub other : (k j : ℕ) → j ≢ k → j ≢ k + 1 → was k j ≡ j
 other k j p q = rw (ne-eqb j k p, ne-eqb j (k + 1) q)
 
 -- .. is one of the first c again
@@ -51,7 +51,7 @@ was-was k j = go (same? j k) (same? j (k + 1))
     go (inr n) (inl e) = rw (e, second k, first k)
     go (inr n) (inr e) = rw (other k j n e, other k j n e)
 
-swapped-place : (o : List LineNo) (k j : ℕ) → k + 1 < length o → placeAt (swapped k o) j ≡ placeAt o (was k j)
+pub swapped-place : (o : List LineNo) (k j : ℕ) → k + 1 < length o → placeAt (swapped k o) j ≡ placeAt o (was k j)
 swapped-place o k j h = go (same? j k) (same? j (k + 1))
   where
     go : (j ≡ k) ⊎ (j ≢ k) → (j ≡ k + 1) ⊎ (j ≢ k + 1) → placeAt (swapped k o) j ≡ placeAt o (was k j)
@@ -78,7 +78,7 @@ swap-keeps c k o h l g =
 carry-keeps : (c j k : ℕ) (i : LineNo) (o : List LineNo) → k + 1 < c → c ≤ length o → Ordered c o → Ordered c (carryOf i j k o)
 carry-keeps c j k i o h l g = pick (Ordered c) (eqb (placeAt o j .0) (i .0)) (swapped k o) o (λ _. swap-keeps c k o h l g) (λ _. g)
 
-carry-length : (j k : ℕ) (i : LineNo) (o : List LineNo) → length (carryOf i j k o) ≡ length o
+pub carry-length : (j k : ℕ) (i : LineNo) (o : List LineNo) → length (carryOf i j k o) ≡ length o
 carry-length j k i o =
     pick (λ (r : List LineNo). length r ≡ length o) (eqb (placeAt o j .0) (i .0)) (swapped k o) o
     (λ _. length-set (set o k (placeAt o (k + 1))) (k + 1) (placeAt o k) ∙ length-set o k (placeAt o (k + 1)))
