@@ -62,7 +62,7 @@ pub fn complete_with(l: Lane, order: [LineNo; 8], i: LineNo, x: Line, op: Op, w:
     }
 }
 
-// .. a use of that line.
+// The same, and it is a use of that line.
 pub fn complete(l: Lane, c: u8, i: LineNo, x: Line, op: Op, w: WordNo) -> LaneStep
     requires { ⌜ (c ≤ 8) × (i .0 < 8) ⌝ }
     ensures { λ r. ⌜ r ≡ complete c i x op w l ⌝ }
