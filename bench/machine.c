@@ -49,7 +49,7 @@ typedef struct {
 
 typedef struct {
     Line lines[MAX_LINES];
-    uint8_t order[MAX_LINES]; /* line numbers, oldest use first */
+    uint8_t order[MAX_LINES]; /* line numbers, oldest first */
     Queue returns, downs;
     Waiting waiting;
 } Lane;

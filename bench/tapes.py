@@ -43,7 +43,7 @@ class Chance:
 
 class Lane:
     def __init__(self):
-        self.lines = {}  # block: PRIVATE, of the valid lines, oldest use first
+        self.lines = {}  # block: PRIVATE, of the valid lines, oldest first
         self.returns = deque()  # (is an answer, block, with words, resets PRESENT)
         self.downs = deque()  # (message, block)
         self.waiting = None  # [is a load, block, is EXCLUDE, is served]

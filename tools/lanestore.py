@@ -1,7 +1,7 @@
 """A small model of document 01's machine (with the places of 02, W1, and the fills of W3), for the charts: which messages a tape's records send and take.
 
 What benchtape prints does not name messages, so the charts need it. It knows the refusals 8 to 11 only. Each answer it gives is held
-to the line that benchtape printed (tools/charts); nothing else rests on it. A tape's bytes, for the tools that make tapes.
+to the line that benchtape printed (tools/charts); nothing else rests on it. `tape_of` gives a tape's bytes to the tools that make tapes.
 """
 from dataclasses import dataclass, field
 

@@ -43,7 +43,7 @@ pub fn refused(a: LaneAnswer) -> bool
     }
 }
 
-// The operation is done on line x, which comes to stand at i; the lane waits no more, and its use order is another.
+// The operation is done on line x, which comes to stand at i; the lane waits no more, and its use order is the one given.
 pub fn complete_with(l: Lane, order: [LineNo; 8], i: LineNo, x: Line, op: Op, w: WordNo) -> LaneStep
     requires { ⌜ i .0 < 8 ⌝ }
     ensures { λ r. ⌜ r ≡ completeWith order i x op w l ⌝ }

@@ -101,7 +101,7 @@ fn claim(x: Line, op: Op) -> Line
     y
 }
 
-// A grant's words come into the lowest-numbered line that is not valid.
+// A grant's words come into the lowest-numbered line that is not valid. Filled for a load, it is the oldest then.
 fn fill(l: Lane, c: u8, m: DownMessage, o: Operation) -> LaneStep
     requires { ⌜ c ≤ 8 ⌝ }
     ensures { λ r. ⌜ r ≡ fillAt LoadsOldest (vacantOf l c) c m o l ⌝ }

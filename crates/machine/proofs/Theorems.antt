@@ -18,7 +18,7 @@ use Rattle.machine.specs.Calls.{Call, Settle, run}
 use Rattle.machine.specs.Attribution.{Begun}
 use Rattle.machine.specs.Demand3.{Demand3, begun, operations}
 use Rattle.machine.specs.Places.{PlacesKept}
-use Rattle.machine.specs.UseOrders.{FillsOldest, UsesNewest}
+use Rattle.machine.specs.UseOrders.{UseOrders}
 use Rattle.machine.specs.SameValues.{SameValues}
 use Rattle.machine.specs.Completion.{AlwaysSettles, SettleBound}
 use Rattle.machine.specs.Sized.{Sized}
@@ -26,7 +26,7 @@ use Rattle.machine.specs.PictureOrder.{PictureInOrder, OneOrder, SamePic
 pub use Rattle.machine.proofs.Table.{cases}
 use Rattle.words.specs.declared.Shape.{Shape}
 use Rattle.machine.specs.Potential.{ExactSteps}
-use Rattle.machine.proofs.laws.UseOrders.{fills-oldest, uses-newest}
+use Rattle.machine.proofs.laws.UseOrders.{use-orders}
 use Rattle.machine.proofs.settle.Falls.{steps-exact}
 use Rattle.machine.proofs.settle.FallsSettle.{startAt, settle-count, repeat-ends, repeat-same}
 use Rattle.machine.proofs.places.PlacesCalls.{places-kept}
@@ -38,7 +38,7 @@ use Rattle.machine.proofs.settle.LiveSettle.{always-settles, all-comple
 
 -- Demand 3: the order of completion is the order of memory.
 --
---   ins     which place a fill gives its line, 01's rule or 02's W3; the program's is `LoadsOldest`
+--   ins     the insertion policy, where a fill puts its line in the use order: 01's, or 02's W3, which is the program's (`LoadsOldest`)
 --   calls   any list of load, store, exchange, add, serve, return, deliver and settle calls; lanes, words and v are any numbers, so
 --           that refused calls are in it. "In every order in which the messages reach the controller": the order in which serve,
 --           return and deliver stand in the list is that order, and it is any.
@@ -78,15 +78,12 @@ no-free-order = one-order
 pub pictures-same : SamePictures
 pictures-same = same-pictures
 
--- 02, W3: what a fill for a load and a use make of a use order that 14 passes, in places (specs/UseOrders.antt): the filled line becomes the oldest, those that
--- were older move up by one, and all else stays; the used line becomes the newest.
-pub load-fills-oldest : FillsOldest
-load-fills-oldest = fills-oldest
+-- 02, W3: what a lane's part makes of a use order that 14 passes, in places, when an operation completes (`Completes`, specs/UseOrders.antt): a line filled for a load
+-- becomes the oldest, and those that were older move up by one; by a hit, a bare grant and a fill for the other operations it becomes the newest.
+pub use-order-after : UseOrders
+use-order-after = use-orders
 
-pub use-makes-newest : UsesNewest
-use-makes-newest = uses-newest
-
--- 02, W3: two lists of calls from openings, under either rule each, that complete the same operations in the same order get the same values and places. What
+-- 02, W3: two lists of calls from openings, each under either policy, that complete the same operations in the same order get the same values and places. What
 -- is the same is the operation with its v and the word (`Asked`, specs/SameValues.antt); n, c, m, lanes, steps and refused calls may differ.
 pub same-values : SameValues
 same-values = same-operations

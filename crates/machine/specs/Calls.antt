@@ -1,4 +1,4 @@
--- The calls of demand 3 and what a list of them gives, under either insertion of a fill (02, W3). Assumes nothing.
+-- The calls of demand 3 and what a list of them gives, under an insertion policy (02, W3). Assumes nothing.
 use mathlib.Core.Bool.{Bool, true, false}
 use mathlib.Core.List.{List, [], _∷_}
 use Rattle.words.specs.declared.LaneNo.{LaneNo}

@@ -1,4 +1,4 @@
--- 01, "Deliver k"; 02, W3: which place a fill gives its line is the first argument of what fills. Assumes nothing.
+-- 01, "Deliver k"; 02, W3: the insertion policy is an argument of what fills a line. Assumes nothing.
 use Prim.Native.Nat.{ℕ}
 use mathlib.Core.Bool.{false, not, cond}
 use lib.Dec.{eqb}

@@ -29,13 +29,13 @@ pub record ShowsSame (h g : List Entry) : Type 0 where
   pub values : valuesIn h ≡ valuesIn g
   pub places : placesIn h ≡ placesIn g
 
--- what a list of calls from an opening is answered under an insertion of a fill
+-- what a list of calls from an opening is answered, under an insertion policy
 abbrev pub historyOf : Insertion → Shape → List Call → List Entry
 historyOf ins shape calls = run ins (openOf shape .store) calls .history
 
--- the claim: of any two openings, whatever their lanes, lines and blocks, and of any two lists, each under either rule
+-- the claim: of any two openings, whatever their lanes, lines and blocks, and of any two lists, each under either policy
 abbrev pub SameValues : Type 0
 SameValues =
-    (ins other : Insertion) (shape second : Shape) (calls others : List Call) → openOf shape .answer ≡ Opened → openOf second .answer ≡ Opened →
-    askedIn (historyOf ins shape calls) ≡ askedIn (historyOf other second others) →
-    ShowsSame (historyOf ins shape calls) (historyOf other second others)
+    (ins ins′ : Insertion) (shape shape′ : Shape) (calls calls′ : List Call) → openOf shape .answer ≡ Opened → openOf shape′ .answer ≡ Opened →
+    askedIn (historyOf ins shape calls) ≡ askedIn (historyOf ins′ shape′ calls′) →
+    ShowsSame (historyOf ins shape calls) (historyOf ins′ shape′ calls′)

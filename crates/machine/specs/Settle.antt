@@ -1,4 +1,4 @@
--- 01, "Settle"; 02, W3: which place a fill gives its line is the first argument of its steps. Assumes nothing.
+-- 01, "Settle"; 02, W3: the insertion policy is an argument of its steps. Assumes nothing.
 use Prim.Native.Nat.{ℕ, zero, suc, _+_, _*_}
 use mathlib.Core.Bool.{Bool, true, false, not, cond, _||_, _&&_}
 use mathlib.Core.List.{List, [], _++_}

@@ -12,7 +12,7 @@ use Rattle.words.specs.Operations.{applyOf}
 use Rattle.words.specs.Lines.{filledLine}
 use Rattle.words.specs.Units.{shaped}
 use Rattle.queues.specs.declared.DownKind.{DownKind}
-use Rattle.queues.specs.declared.DownKind.the-variants.{Purge, Grant, BareGrant}
+use Rattle.queues.specs.declared.DownKind.the-variants.{Update, Purge, Grant, BareGrant}
 use Rattle.queues.specs.declared.ReturnKind.the-variants.{Gone}
 use Rattle.queues.specs.Queues.{pushReturn}
 use Rattle.queues.specs.Messages.{bareReturn, bareDown}
@@ -126,7 +126,7 @@ deliver k = Deliver (lane k)
 abbrev pub of : ℕ → ℕ → ℕ → Completion
 of k v p = completionOf (lane k) v p
 
--- the store after a list of calls under the program's insertion of a fill
+-- the store after a list of calls under the program's insertion policy
 abbrev pub after : Store → List Call → Store
 after s cs = run LoadsOldest s cs .store
 
@@ -139,7 +139,7 @@ infix 90 _says_
 abbrev pub _says_ : Call → Said → Turn
 x says y = record { call = x; says = y }
 
--- a row of calls one after the other, under an insertion of a fill
+-- a row of calls one after the other, under an insertion policy
 abbrev pub under : Insertion → Store → List Turn → Row
 under ins s ts = record {
   given = Says (map (λ (e : Entry). said (e .reply)) (run ins s (map (λ (t : Turn). t .call) ts) .history));
@@ -425,14 +425,14 @@ sentences =
     []) ∷
     -- the oldest line is given up: block 1, since the load of block 0 is a use
     on (opened 2 2 3)
-    (load 0 0 says wait ∷
-    Settle says settled 2 (of 0 0 1 ∷ []) ∷
-    load 0 4 says wait ∷
-    Settle says settled 2 (of 0 0 2 ∷ []) ∷
-    load 0 0 says done 0 0 3 ∷
+    (store 0 0 1 says wait ∷
+    Settle says settled 2 (of 0 1 1 ∷ []) ∷
+    store 0 4 2 says wait ∷
+    Settle says settled 2 (of 0 2 2 ∷ []) ∷
+    load 0 0 says done 0 1 3 ∷
     load 0 8 says wait ∷
     Settle says settled 3 (of 0 0 4 ∷ []) ∷
-    load 0 0 says done 0 0 5 ∷
+    load 0 0 says done 0 1 5 ∷
     load 0 4 says wait ∷
     []) ∷
     -- a store's fill is a use too: the line of block 2 was filled last, so block 0 is given up
@@ -724,20 +724,20 @@ places =
     on (gone 1 0 (opened 2 1 2)) (load 0 0 says wait ∷ serve 0 says step ∷ Settle says refused 16 ∷ deliver 0 says done 0 0 1 ∷ []) ∷
     []
 
--- lane 0's use order after a list of calls: of three lines, those given, and the places past c, which stay
+-- lane 0's use order after a list of calls, under an insertion policy: these lines first, and the places behind them as at opening
 abbrev pub inOrder : Insertion → Store → List Call → List ℕ → Row
 inOrder ins s cs is = record {
   given = Order (map (λ (i : LineNo). i .0) (laneAt (run ins s cs .store) 0 .order));
-  wanted = Order (is ++ (3 ∷ 4 ∷ 5 ∷ 6 ∷ 7 ∷ []));
+  wanted = Order (is ++ drop (length is) (0 ∷ 1 ∷ 2 ∷ 3 ∷ 4 ∷ 5 ∷ 6 ∷ 7 ∷ []));
 }
 
 -- an operation of lane 0 that misses, and its grant
 abbrev pub filling : Call → List Call
 filling x = x ∷ serve 0 ∷ deliver 0 ∷ []
 
--- a lane of three lines works on blocks 0 and 1 and counts the stock of blocks 2, 3 and 4; then it loads block 0 again
-abbrev pub stockCount : Said → List Turn
-stockCount again =
+-- a lane of three lines works on blocks 0 and 1 and counts the stock of blocks 2, 3 and 4; then it loads blocks 0 and 1 again
+abbrev pub stockCount : Said → Said → List Turn
+stockCount first second =
     load 0 0 says wait ∷
     Settle says settled 2 (of 0 0 1 ∷ []) ∷
     load 0 4 says wait ∷
@@ -750,15 +750,16 @@ stockCount again =
     Settle says settled 3 (of 0 0 6 ∷ []) ∷
     load 0 16 says wait ∷
     Settle says settled 3 (of 0 0 7 ∷ []) ∷
-    load 0 0 says again ∷
+    load 0 0 says first ∷
+    load 0 4 says second ∷
     []
 
 -- 02, W3: a line filled for a load goes in as the oldest, and that completion is no use; under 01's rule it went in as the newest
 abbrev pub insertions : List Row
 insertions =
-    -- the stock count gives up what it filled, and block 0 is still there
-    under LoadsOldest (opened 2 3 5) (stockCount (done 0 0 8)) ∷
-    under Newest (opened 2 3 5) (stockCount wait) ∷
+    -- the stock count gives up what it filled, and blocks 0 and 1 are still there
+    under LoadsOldest (opened 2 3 5) (stockCount (done 0 0 8) (done 0 0 9)) ∷
+    under Newest (opened 2 3 5) (stockCount wait (refused 8)) ∷
     -- the same of a tape, two lines and one block counted
     reads
     (0 ∷ 2 ∷ 2 ∷ 3 ∷ 1 ∷ 0 ∷ 0 ∷ 5 ∷ 0 ∷ 7 ∷ 0 ∷ 1 ∷ 0 ∷ 0 ∷ 1 ∷ 0 ∷ 4 ∷ 5 ∷ 0 ∷ 7 ∷ 0 ∷ 1 ∷ 0 ∷ 8 ∷ 6 ∷ 0 ∷ 5 ∷ 0 ∷ 7 ∷ 0 ∷ 1 ∷ 0 ∷ 0 ∷ [])
@@ -767,18 +768,27 @@ insertions =
     inOrder LoadsOldest (copied 0 1 1 0 (copied 0 2 2 0 (ordered (1 ∷ 2 ∷ 0 ∷ []) (opened 2 3 3)))) (filling (load 0 0)) (0 ∷ 1 ∷ 2 ∷ []) ∷
     inOrder LoadsOldest (ordered (2 ∷ 0 ∷ 1 ∷ []) (opened 2 3 1)) (filling (load 0 0)) (0 ∷ 2 ∷ 1 ∷ []) ∷
     inOrder LoadsOldest (ordered (0 ∷ 2 ∷ 1 ∷ []) (opened 2 3 1)) (filling (load 0 0)) (0 ∷ 2 ∷ 1 ∷ []) ∷
+    inOrder LoadsOldest (ordered (1 ∷ 2 ∷ 3 ∷ 4 ∷ 5 ∷ 6 ∷ 7 ∷ 0 ∷ []) (opened 2 8 1)) (filling (load 0 0)) (0 ∷ 1 ∷ 2 ∷ 3 ∷ 4 ∷ 5 ∷ 6 ∷ 7 ∷ []) ∷
+    inOrder LoadsOldest (opened 2 1 1) (filling (load 0 0)) (0 ∷ []) ∷
     inOrder Newest (ordered (2 ∷ 0 ∷ 1 ∷ []) (opened 2 3 1)) (filling (load 0 0)) (2 ∷ 1 ∷ 0 ∷ []) ∷
     -- for the other operations it is a use, under either rule
     inOrder LoadsOldest (ordered (2 ∷ 0 ∷ 1 ∷ []) (opened 2 3 1)) (filling (store 0 0 7)) (2 ∷ 1 ∷ 0 ∷ []) ∷
     inOrder LoadsOldest (ordered (2 ∷ 0 ∷ 1 ∷ []) (opened 2 3 1)) (filling (exchange 0 0 7)) (2 ∷ 1 ∷ 0 ∷ []) ∷
     inOrder LoadsOldest (ordered (2 ∷ 0 ∷ 1 ∷ []) (opened 2 3 1)) (filling (add 0 0 7)) (2 ∷ 1 ∷ 0 ∷ []) ∷
     inOrder Newest (ordered (2 ∷ 0 ∷ 1 ∷ []) (opened 2 3 1)) (filling (store 0 0 7)) (2 ∷ 1 ∷ 0 ∷ []) ∷
-    -- the next completion on the line makes it the newest, a load's hit too
+    inOrder Newest (ordered (2 ∷ 0 ∷ 1 ∷ []) (opened 2 3 1)) (filling (exchange 0 0 7)) (2 ∷ 1 ∷ 0 ∷ []) ∷
+    inOrder Newest (ordered (2 ∷ 0 ∷ 1 ∷ []) (opened 2 3 1)) (filling (add 0 0 7)) (2 ∷ 1 ∷ 0 ∷ []) ∷
+    -- the next completion on the line makes it the newest: a hit, of a load and of the others, and a bare grant
     inOrder LoadsOldest (ordered (2 ∷ 0 ∷ 1 ∷ []) (opened 2 3 1)) (filling (load 0 0) ++ (load 0 0 ∷ [])) (2 ∷ 1 ∷ 0 ∷ []) ∷
+    inOrder LoadsOldest (opened 2 3 2) (filling (store 0 0 7) ++ filling (store 0 4 7) ++ (store 0 0 9 ∷ [])) (2 ∷ 1 ∷ 0 ∷ []) ∷
+    inOrder LoadsOldest (opened 2 3 2) (filling (store 0 0 7) ++ filling (store 0 4 7) ++ (exchange 0 0 9 ∷ [])) (2 ∷ 1 ∷ 0 ∷ []) ∷
+    inOrder LoadsOldest (opened 2 3 2) (filling (store 0 0 7) ++ filling (store 0 4 7) ++ (add 0 0 9 ∷ [])) (2 ∷ 1 ∷ 0 ∷ []) ∷
     inOrder LoadsOldest (ordered (2 ∷ 0 ∷ 1 ∷ []) (opened 2 3 1)) (filling (load 0 0) ++ filling (store 0 0 7)) (2 ∷ 1 ∷ 0 ∷ []) ∷
+    inOrder LoadsOldest (ordered (2 ∷ 0 ∷ 1 ∷ []) (opened 2 3 1)) (filling (load 0 0) ++ filling (add 0 0 7)) (2 ∷ 1 ∷ 0 ∷ []) ∷
     -- a bare grant fills nothing: its completion is a use, of a load too
     inOrder LoadsOldest (sent BareGrant 0 0 (waits 0 (Served (operation 0)) (filled 0 0 (ordered (2 ∷ 0 ∷ 1 ∷ []) (opened 2 3 1))))) (deliver 0 ∷ []) (2 ∷ 1 ∷ 0 ∷ []) ∷
     -- orders are no use, nor is giving up a line
+    inOrder LoadsOldest (sent Update 0 0 (filled 0 0 (ordered (2 ∷ 0 ∷ 1 ∷ []) (opened 2 3 1)))) (deliver 0 ∷ []) (2 ∷ 0 ∷ 1 ∷ []) ∷
     inOrder LoadsOldest (sent Purge 0 0 (filled 0 0 (ordered (2 ∷ 0 ∷ 1 ∷ []) (opened 2 3 1)))) (deliver 0 ∷ []) (2 ∷ 0 ∷ 1 ∷ []) ∷
     inOrder LoadsOldest (copied 0 0 0 0 (copied 0 1 1 0 (copied 0 2 2 0 (ordered (2 ∷ 0 ∷ 1 ∷ []) (opened 2 3 4))))) (load 0 12 ∷ []) (2 ∷ 0 ∷ 1 ∷ []) ∷
     []

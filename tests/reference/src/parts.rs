@@ -163,7 +163,7 @@ impl<K: Copy> Queue<K> {
 #[derive(Clone, Copy, PartialEq, Eq, Debug)]
 pub struct Lane {
     pub lines: [Line; LINES],
-    /// Line numbers, oldest use first.
+    /// Line numbers, oldest first.
     pub order: [u8; LINES],
     pub returns: Queue<ReturnKind>,
     pub down: Queue<DownKind>,

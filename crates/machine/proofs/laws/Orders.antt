@@ -1,5 +1,5 @@
 -- A use of a line and a fill keep a use order one: each turn changes two places over. Assumes nothing.
-use Prim.Native.Nat.{ℕ, zero, suc, _+_, _-_, _<_, _≤_}
+use Prim.Native.Nat.{ℕ, _+_, _-_, _<_, _≤_}
 use mathlib.Core.Logic.{_⊎_, inl, inr, _≢_}
 use mathlib.Core.Path.{_≡_, refl, ap, sym, _∙_}
 use mathlib.Core.Bool.{cond}
@@ -22,7 +22,7 @@ abbrev pub swapped : ℕ → List LineNo → List LineNo
 swapped k o = set (set o k (placeAt o (k + 1))) (k + 1) (placeAt o k)
 
 -- where the place j was before
-abbrev pub was : ℕ → ℕ → ℕ
+abbrev was : ℕ → ℕ → ℕ
 was k j = cond (eqb j k) (k + 1) (cond (eqb j (k + 1)) k j)
 
 pub first : (k : ℕ) → was k k ≡ k + 1
@@ -75,14 +75,15 @@ swap-keeps c k o h l g =
           sym (was-was k i) ∙ ap (was k) same ∙ was-was k j;
     }
 
+pub swapped-length : (k : ℕ) (o : List LineNo) → length (swapped k o) ≡ length o
+swapped-length k o = length-set (set o k (placeAt o (k + 1))) (k + 1) (placeAt o k) ∙ length-set o k (placeAt o (k + 1))
+
 carry-keeps : (c j k : ℕ) (i : LineNo) (o : List LineNo) → k + 1 < c → c ≤ length o → Ordered c o → Ordered c (carryOf i j k o)
 carry-keeps c j k i o h l g = pick (Ordered c) (eqb (placeAt o j .0) (i .0)) (swapped k o) o (λ _. swap-keeps c k o h l g) (λ _. g)
 
 pub carry-length : (j k : ℕ) (i : LineNo) (o : List LineNo) → length (carryOf i j k o) ≡ length o
 carry-length j k i o =
-    pick (λ (r : List LineNo). length r ≡ length o) (eqb (placeAt o j .0) (i .0)) (swapped k o) o
-    (λ _. length-set (set o k (placeAt o (k + 1))) (k + 1) (placeAt o k) ∙ length-set o k (placeAt o (k + 1)))
-    (λ _. refl)
+    pick (λ (r : List LineNo). length r ≡ length o) (eqb (placeAt o j .0) (i .0)) (swapped k o) o (λ _. swapped-length k o) (λ _. refl)
 
 -- what a use order keeps in every change of it: its length, and that it is one
 abbrev pub Kept : ℕ → List LineNo → List LineNo → Type 0

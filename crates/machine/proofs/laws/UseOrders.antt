@@ -5,20 +5,26 @@ use mathlib.Core.Logic.{_⊎_, inl, inr, _≢_}
 use mathlib.Core.Path.{_≡_, refl, ap, sym, subst, _∙_}
 use mathlib.Core.Bool.{false}
 use mathlib.Core.List.{List}
-use lib.ListN.{length, length-set, set}
+use lib.ListN.{length}
 use borrow.Author.Tests.{eq-eqb, ne-eqb}
 use Rattle.words.specs.declared.LineNo.{LineNo}
+use Rattle.words.specs.Operations.{isLoad}
 use Rattle.words.specs.Folds.{upTo, downTo}
 use Rattle.words.proofs.Folds.{upTo-keeps}
-use Rattle.lanes.specs.UseOrder.{placeAt, carryOf, usedOf}
+use Rattle.queues.specs.declared.DownMessage.{DownMessage}
+use Rattle.lanes.specs.declared.Operation.{Operation}
+use Rattle.lanes.specs.declared.Found.the-variants.{At}
+use Rattle.lanes.specs.UseOrder.{Insertion, Newest, LoadsOldest, placeAt, carryOf, usedOf, oldestOf}
 use Rattle.machine.specs.Corruption.{badOrder}
-use Rattle.machine.specs.UseOrders.{BecomesOldest, BecomesNewest, FillsOldest, UsesNewest}
-use Rattle.machine.proofs.laws.Orders.{swapped, first, second, other, swapped-place, carry-length}
+use Rattle.machine.specs.Begin.{completeWith, hit}
+use Rattle.machine.specs.Deliver.{fillAt}
+use Rattle.machine.specs.UseOrders.{BecomesOldest, BecomesNewest, MadeNewest, UseOrders, lineNamed}
+use Rattle.machine.proofs.laws.Orders.{swapped, first, second, other, swapped-place, swapped-length, carry-length}
 use Rattle.machine.proofs.bounds.Sound.{order-sound}
 use Rattle.machine.proofs.laws.Sets.{same?}
 
 -- of the places up to n, j alone names line i
-pub record Alone (n j : ℕ) (i : LineNo) (o : List LineNo) : Type 0 where
+pub record NamedOnce (n j : ℕ) (i : LineNo) (o : List LineNo) : Type 0 where
   pub here : placeAt o j .0 ≡ i .0
   pub apart : (k : ℕ) → k ≤ n → k ≢ j → placeAt o k .0 ≢ i .0
 
@@ -40,12 +46,9 @@ module _ (o : List LineNo) (n : ℕ) (l : n + 1 < length o) where
   at-second : placeAt (swapped n o) (n + 1) ≡ placeAt o n
   at-second = swapped-place o n (n + 1) l ∙ ap (placeAt o) (second n)
 
-  swapped-length : length (swapped n o) ≡ length o
-  swapped-length = length-set (set o n (placeAt o (n + 1))) (n + 1) (placeAt o n) ∙ length-set o n (placeAt o (n + 1))
-
   -- the line at place n + 1 is carried to n, and from there on
-  carried-alone : (i : LineNo) → Alone (n + 1) (n + 1) i o → Alone n n i (swapped n o)
-  carried-alone i a =
+  carried-once : (i : LineNo) → NamedOnce (n + 1) (n + 1) i o → NamedOnce n n i (swapped n o)
+  carried-once i a =
       record {
         here = ap (λ (x : LineNo). x .0) at-first ∙ a .here;
         apart = λ k p q e. a .apart k (omega arith) (λ d. omega arith) (ap (λ (x : LineNo). x .0) (sym (stays k q (λ d. omega arith))) ∙ e);
@@ -62,7 +65,7 @@ module _ (o : List LineNo) (n : ℕ) (l : n + 1 < length o) where
           go (inr d) = b .older k (omega (arith, d)) ∙ stays k d (λ e. omega arith)
 
 -- the loop that goes down
-down : (n j : ℕ) (i : LineNo) (o : List LineNo) → j ≤ n → n < length o → Alone n j i o → BecomesOldest j o (downTo (λ k. carryOf i (k + 1) k) n o)
+down : (n j : ℕ) (i : LineNo) (o : List LineNo) → j ≤ n → n < length o → NamedOnce n j i o → BecomesOldest j o (downTo (λ k. carryOf i (k + 1) k) n o)
 unfolding downTo
 down zero j i o h l a =
     let e : 0 ≡ j = omega arith in
@@ -72,12 +75,12 @@ down (suc n) j i o h l a = go (same? j (n + 1)) (λ b. down n n i (swapped n o) 
     r : List LineNo
     r = downTo (λ k. carryOf i (k + 1) k) n (carryOf i (n + 1) n o)
 
-    go : (j ≡ n + 1) ⊎ (j ≢ n + 1) → (n ≤ n → n < length (swapped n o) → Alone n n i (swapped n o) → BecomesOldest n (swapped n o) (downTo (λ k. carryOf i (k + 1) k) n (swapped n o))) →
-        (j ≤ n → n < length o → Alone n j i o → BecomesOldest j o (downTo (λ k. carryOf i (k + 1) k) n o)) → BecomesOldest j o r
+    go : (j ≡ n + 1) ⊎ (j ≢ n + 1) → (n ≤ n → n < length (swapped n o) → NamedOnce n n i (swapped n o) → BecomesOldest n (swapped n o) (downTo (λ k. carryOf i (k + 1) k) n (swapped n o))) →
+        (j ≤ n → n < length o → NamedOnce n j i o → BecomesOldest j o (downTo (λ k. carryOf i (k + 1) k) n o)) → BecomesOldest j o r
     go (inl e) moved stayed =
         let long : n + 1 < length o = omega arith in
-        let b : Alone (n + 1) (n + 1) i o = record { here = ap (λ (k : ℕ). placeAt o k .0) (sym e) ∙ a .here; apart = λ k p q. a .apart k (omega arith) (λ d. q (d ∙ e)) } in
-        let m = moved (omega arith) (rw (swapped-length o n long) (omega arith)) (carried-alone o n long i b) in
+        let b : NamedOnce (n + 1) (n + 1) i o = record { here = ap (λ (k : ℕ). placeAt o k .0) (sym e) ∙ a .here; apart = λ k p q. a .apart k (omega arith) (λ d. q (d ∙ e)) } in
+        let m = moved (omega arith) (rw (swapped-length n o) (omega arith)) (carried-once o n long i b) in
         rw (e, carries i (n + 1) n o (b .here)) (carried-oldest o n long _ m)
     go (inr d) moved stayed =
         rw (passes i (n + 1) n o (a .apart (n + 1) (omega arith) (λ q. d (sym q))))
@@ -113,7 +116,7 @@ carried-newest n j o r h l b =
         go (inl e) = rw e (at-first r n l ∙ b .past (n + 1) (omega arith))
         go (inr d) = stays r n l k d (λ e. omega arith) ∙ b .newer k p (omega (arith, d))
 
-up : (n j : ℕ) (i : LineNo) (o : List LineNo) → j ≤ n → n < length o → Alone n j i o → BecomesNewest (n + 1) j o (upTo (λ k. carryOf i k k) n o)
+up : (n j : ℕ) (i : LineNo) (o : List LineNo) → j ≤ n → n < length o → NamedOnce n j i o → BecomesNewest (n + 1) j o (upTo (λ k. carryOf i k k) n o)
 unfolding upTo
 up zero j i o h l a =
     let e : 0 ≡ j = omega arith in
@@ -123,7 +126,7 @@ up (suc n) j i o h l a = go (same? j (n + 1)) (λ b. up n j i o b)
     p : List LineNo
     p = upTo (λ k. carryOf i k k) n o
 
-    go : (j ≡ n + 1) ⊎ (j ≢ n + 1) → (j ≤ n → n < length o → Alone n j i o → BecomesNewest (n + 1) j o p) → BecomesNewest (suc n + 1) j o (carryOf i n n p)
+    go : (j ≡ n + 1) ⊎ (j ≢ n + 1) → (j ≤ n → n < length o → NamedOnce n j i o → BecomesNewest (n + 1) j o p) → BecomesNewest (suc n + 1) j o (carryOf i n n p)
     go (inl e) moved =
         let none = up-none n i o (λ k q. a .apart k (omega arith) (λ d. omega arith)) in
         let same : carryOf i n n p ≡ o = ap (carryOf i n n) none ∙ passes i n n o (a .apart n (omega arith) (λ d. omega arith)) in
@@ -139,15 +142,33 @@ up (suc n) j i o h l a = go (same? j (n + 1)) (λ b. up n j i o b)
         rw (carries i n n p here) (subst (λ (m : ℕ). BecomesNewest (m + 1) j o (swapped n p)) z (carried-newest n j o p (omega (arith, d)) long b))
 
 -- of a use order that 14 passes, one place alone names each line
-order-alone : (c j : ℕ) (o : List LineNo) → j < c → badOrder c o ≡ false → Alone (c - 1) j (placeAt o j) o
-order-alone c j o h e =
+order-once : (c j : ℕ) (o : List LineNo) → j < c → badOrder c o ≡ false → NamedOnce (c - 1) j (placeAt o j) o
+order-once c j o h e =
     let g = order-sound c o e in
     record { here = refl; apart = λ k p d q. d (g .once k j (omega arith) h q) }
 
-pub fills-oldest : FillsOldest
-fills-oldest c j o h l e = down (c - 1) j (placeAt o j) o (omega arith) (omega arith) (order-alone c j o h e)
+fills-oldest : (c j : ℕ) (o : List LineNo) → j < c → c ≤ length o → badOrder c o ≡ false → BecomesOldest j o (oldestOf c (placeAt o j) o)
+fills-oldest c j o h l e = down (c - 1) j (placeAt o j) o (omega arith) (omega arith) (order-once c j o h e)
 
-pub uses-newest : UsesNewest
+uses-newest : (c j : ℕ) (o : List LineNo) → j < c → c ≤ length o → badOrder c o ≡ false → BecomesNewest c j o (usedOf c (placeAt o j) o)
 uses-newest c j o h l e =
     let d : c - 1 + 1 ≡ c = omega arith in
-    subst (λ (n : ℕ). BecomesNewest n j o (usedOf c (placeAt o j) o)) d (up (c - 1) j (placeAt o j) o (omega arith) (omega arith) (order-alone c j o h e))
+    subst (λ (n : ℕ). BecomesNewest n j o (usedOf c (placeAt o j) o)) d (up (c - 1) j (placeAt o j) o (omega arith) (omega arith) (order-once c j o h e))
+
+-- the lane's parts
+pub use-orders : UseOrders
+unfolding hit completeWith
+use-orders c j l h n e =
+    let u = uses-newest c j (l .order) h n e in
+    record {
+      by-hit = λ op w a. rw a u;
+      by-bare-grant = λ o. u;
+      filled-for-load = λ x o a. rw a (fills-oldest c j (l .order) h n e);
+      as-before-w3 = λ x o. u;
+      filled-for-other = other-fill u;
+    }
+  where
+    other-fill : BecomesNewest c j (l .order) (usedOf c (placeAt (l .order) j) (l .order)) → (ins : Insertion) (x : DownMessage) (o : Operation) → isLoad (o .op) ≡ false →
+        MadeNewest c j l (fillAt ins (At (lineNamed l j)) c x o l)
+    other-fill u Newest x o a = u
+    other-fill u LoadsOldest x o a = rw a u

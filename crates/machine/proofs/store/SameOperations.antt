@@ -1,10 +1,10 @@
 -- 02, W3: the same operations in the same order get the same values and places, whatever the insertions of fills and the shapes: by demand 3, since flat
 -- memory knows neither. Assumes nothing.
 use Prim.Native.Nat.{ℕ, suc, _*_, _<_}
-use mathlib.Core.Logic.{_⊎_, inl, inr}
+use mathlib.Core.Logic.{inl, inr}
 use mathlib.Core.Path.{_≡_, refl, sym, ap, _∙_}
 use mathlib.Core.Bool.{Bool, true, false}
-use mathlib.Core.List.{List, [], _∷_, List·Memᴰ, List·Memᴰ·head, List·Memᴰ·tail, List·Memᴰ·not-nil, List·Memᴰ·cases-cons, List·Memᴰ·append-cases, List·Memᴰ·eq-of-singleton}
+use mathlib.Core.List.{List, [], _∷_, List·Memᴰ, List·Memᴰ·head, List·Memᴰ·tail, List·Memᴰ·not-nil, List·Memᴰ·append-cases, List·Memᴰ·eq-of-singleton}
 use lib.ListN.{length, length-map}
 use native.Mathlib.Omega.{arith}
 use Rattle.words.specs.declared.Shape.{Shape}
@@ -18,7 +18,7 @@ use Rattle.store.specs.declared.Store.{Store}
 use Rattle.store.specs.declared.Outcome.{Outcome}
 use Rattle.store.specs.Opening.{openOf}
 use Rattle.machine.specs.Begin.{beginOf}
-use Rattle.machine.specs.Calls.{Call, Begin, Serve, Return, Deliver, Settle, Entry, callOf, run, isRefused}
+use Rattle.machine.specs.Calls.{Call, Begin, Serve, Return, Deliver, Settle, callOf, run, isRefused}
 use Rattle.machine.specs.Attribution.{Begun, Origin, Unknown, Of, Attributed, begunBy, begunFrom, known, operationsOf}
 use Rattle.machine.specs.Places.{numbersFrom}
 use Rattle.machine.specs.Demand3.{Coherent, completed, operations, valuesIn}
@@ -84,18 +84,18 @@ module _ (ins : Insertion) (shape : Shape) (calls : List Call) (e : openOf shape
 
 -- the values are flat memory's, and the places count them
 pub same-operations : SameValues
-same-operations ins other shape second calls others e d asked =
+same-operations ins ins′ shape shape′ calls calls′ e e′ asked =
     record { values = values; places = a .places ∙ ap (numbersFrom 1) count ∙ sym (b .places) }
   where
     a : Coherent shape (historyOf ins shape calls) (run ins (openOf shape .store) calls .store)
     a = coherent ins shape calls e
 
-    b : Coherent second (historyOf other second others) (run other (openOf second .store) others .store)
-    b = coherent other second others d
+    b : Coherent shape′ (historyOf ins′ shape′ calls′) (run ins′ (openOf shape′ .store) calls′ .store)
+    b = coherent ins′ shape′ calls′ e′
 
-    values : valuesIn (historyOf ins shape calls) ≡ valuesIn (historyOf other second others)
+    values : valuesIn (historyOf ins shape calls) ≡ valuesIn (historyOf ins′ shape′ calls′)
     values =
-        a .values ∙ flat-same (shape .m) (second .m) _ _ (completed-inside ins shape calls e) (completed-inside other second others d) asked ∙ sym (b .values)
+        a .values ∙ flat-same (shape .m) (shape′ .m) _ _ (completed-inside ins shape calls e) (completed-inside ins′ shape′ calls′ e′) asked ∙ sym (b .values)
 
-    count : length (completed (historyOf ins shape calls)) ≡ length (completed (historyOf other second others))
-    count = sym (length-map (completed (historyOf ins shape calls)) _) ∙ ap length values ∙ length-map (completed (historyOf other second others)) _
+    count : length (completed (historyOf ins shape calls)) ≡ length (completed (historyOf ins′ shape′ calls′))
+    count = sym (length-map (completed (historyOf ins shape calls)) _) ∙ ap length values ∙ length-map (completed (historyOf ins′ shape′ calls′)) _
