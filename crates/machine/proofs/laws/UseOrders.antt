@@ -28,7 +28,7 @@ pub record NamedOnce (n j : ℕ) (i : LineNo) (o : List LineNo) : Type 0 where
   pub here : placeAt o j .0 ≡ i .0
   pub apart : (k : ℕ) → k ≤ n → k ≢ j → placeAt o k .0 ≢ i .0
 
--- a turn that looks at place j, which names line i, or at another place up to n
+-- a turn that looks at place j: it names line i, or it does not
 carries : (i : LineNo) (j k : ℕ) (o : List LineNo) → placeAt o j .0 ≡ i .0 → carryOf i j k o ≡ swapped k o
 carries i j k o e = rw (eq-eqb _ _ e)
 
