@@ -65,7 +65,7 @@ purgeAt Nothing a l = reply (bareReturn Gone a) l
 abbrev pub claimed : Op → Line → Line
 claimed op x = withPrivate (not (isLoad op)) x
 
--- A grant with words fills the lowest-numbered line that is not valid, and the operation completes; 16 with no free line
+-- A grant with words fills the lowest-numbered line that is not valid, which goes in by the policy, and the operation completes; 16 with no free line
 abbrev pub fillAt : Insertion → Found → ℕ → DownMessage → Operation → Lane → LaneStep
 fillAt ins (At i) c x o l =
     completeWith (insertedOf ins (o .op) c i (l .order)) i (claimed (o .op) (filledLine (x .block) (x .words))) (o .op) (o .word) l

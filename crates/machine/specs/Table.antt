@@ -754,6 +754,10 @@ stockCount first second =
     load 0 4 says second ∷
     []
 
+-- a bench whose lane 0 has line 0 in the middle of its use order
+abbrev pub mixed : Store
+mixed = ordered (2 ∷ 0 ∷ 1 ∷ []) (opened 2 3 1)
+
 -- 02, W3: a line filled for a load goes in as the oldest, and that completion is no use; under 01's rule it went in as the newest
 abbrev pub insertions : List Row
 insertions =
@@ -766,30 +770,30 @@ insertions =
     (opens ∷ wait ∷ step ∷ done 0 0 1 ∷ done 0 0 2 ∷ wait ∷ step ∷ done 0 0 3 ∷ wait ∷ step ∷ step ∷ done 0 0 4 ∷ done 0 0 5 ∷ []) ∷
     -- line 0 is filled: for a load it goes before all others, be they valid or not, and those before it move up by one
     inOrder LoadsOldest (copied 0 1 1 0 (copied 0 2 2 0 (ordered (1 ∷ 2 ∷ 0 ∷ []) (opened 2 3 3)))) (filling (load 0 0)) (0 ∷ 1 ∷ 2 ∷ []) ∷
-    inOrder LoadsOldest (ordered (2 ∷ 0 ∷ 1 ∷ []) (opened 2 3 1)) (filling (load 0 0)) (0 ∷ 2 ∷ 1 ∷ []) ∷
+    inOrder LoadsOldest mixed (filling (load 0 0)) (0 ∷ 2 ∷ 1 ∷ []) ∷
     inOrder LoadsOldest (ordered (0 ∷ 2 ∷ 1 ∷ []) (opened 2 3 1)) (filling (load 0 0)) (0 ∷ 2 ∷ 1 ∷ []) ∷
     inOrder LoadsOldest (ordered (1 ∷ 2 ∷ 3 ∷ 4 ∷ 5 ∷ 6 ∷ 7 ∷ 0 ∷ []) (opened 2 8 1)) (filling (load 0 0)) (0 ∷ 1 ∷ 2 ∷ 3 ∷ 4 ∷ 5 ∷ 6 ∷ 7 ∷ []) ∷
     inOrder LoadsOldest (opened 2 1 1) (filling (load 0 0)) (0 ∷ []) ∷
-    inOrder Newest (ordered (2 ∷ 0 ∷ 1 ∷ []) (opened 2 3 1)) (filling (load 0 0)) (2 ∷ 1 ∷ 0 ∷ []) ∷
+    inOrder Newest mixed (filling (load 0 0)) (2 ∷ 1 ∷ 0 ∷ []) ∷
     -- for the other operations it is a use, under either rule
-    inOrder LoadsOldest (ordered (2 ∷ 0 ∷ 1 ∷ []) (opened 2 3 1)) (filling (store 0 0 7)) (2 ∷ 1 ∷ 0 ∷ []) ∷
-    inOrder LoadsOldest (ordered (2 ∷ 0 ∷ 1 ∷ []) (opened 2 3 1)) (filling (exchange 0 0 7)) (2 ∷ 1 ∷ 0 ∷ []) ∷
-    inOrder LoadsOldest (ordered (2 ∷ 0 ∷ 1 ∷ []) (opened 2 3 1)) (filling (add 0 0 7)) (2 ∷ 1 ∷ 0 ∷ []) ∷
-    inOrder Newest (ordered (2 ∷ 0 ∷ 1 ∷ []) (opened 2 3 1)) (filling (store 0 0 7)) (2 ∷ 1 ∷ 0 ∷ []) ∷
-    inOrder Newest (ordered (2 ∷ 0 ∷ 1 ∷ []) (opened 2 3 1)) (filling (exchange 0 0 7)) (2 ∷ 1 ∷ 0 ∷ []) ∷
-    inOrder Newest (ordered (2 ∷ 0 ∷ 1 ∷ []) (opened 2 3 1)) (filling (add 0 0 7)) (2 ∷ 1 ∷ 0 ∷ []) ∷
+    inOrder LoadsOldest mixed (filling (store 0 0 7)) (2 ∷ 1 ∷ 0 ∷ []) ∷
+    inOrder LoadsOldest mixed (filling (exchange 0 0 7)) (2 ∷ 1 ∷ 0 ∷ []) ∷
+    inOrder LoadsOldest mixed (filling (add 0 0 7)) (2 ∷ 1 ∷ 0 ∷ []) ∷
+    inOrder Newest mixed (filling (store 0 0 7)) (2 ∷ 1 ∷ 0 ∷ []) ∷
+    inOrder Newest mixed (filling (exchange 0 0 7)) (2 ∷ 1 ∷ 0 ∷ []) ∷
+    inOrder Newest mixed (filling (add 0 0 7)) (2 ∷ 1 ∷ 0 ∷ []) ∷
     -- the next completion on the line makes it the newest: a hit, of a load and of the others, and a bare grant
-    inOrder LoadsOldest (ordered (2 ∷ 0 ∷ 1 ∷ []) (opened 2 3 1)) (filling (load 0 0) ++ (load 0 0 ∷ [])) (2 ∷ 1 ∷ 0 ∷ []) ∷
+    inOrder LoadsOldest mixed (filling (load 0 0) ++ (load 0 0 ∷ [])) (2 ∷ 1 ∷ 0 ∷ []) ∷
     inOrder LoadsOldest (opened 2 3 2) (filling (store 0 0 7) ++ filling (store 0 4 7) ++ (store 0 0 9 ∷ [])) (2 ∷ 1 ∷ 0 ∷ []) ∷
     inOrder LoadsOldest (opened 2 3 2) (filling (store 0 0 7) ++ filling (store 0 4 7) ++ (exchange 0 0 9 ∷ [])) (2 ∷ 1 ∷ 0 ∷ []) ∷
     inOrder LoadsOldest (opened 2 3 2) (filling (store 0 0 7) ++ filling (store 0 4 7) ++ (add 0 0 9 ∷ [])) (2 ∷ 1 ∷ 0 ∷ []) ∷
-    inOrder LoadsOldest (ordered (2 ∷ 0 ∷ 1 ∷ []) (opened 2 3 1)) (filling (load 0 0) ++ filling (store 0 0 7)) (2 ∷ 1 ∷ 0 ∷ []) ∷
-    inOrder LoadsOldest (ordered (2 ∷ 0 ∷ 1 ∷ []) (opened 2 3 1)) (filling (load 0 0) ++ filling (add 0 0 7)) (2 ∷ 1 ∷ 0 ∷ []) ∷
+    inOrder LoadsOldest mixed (filling (load 0 0) ++ filling (store 0 0 7)) (2 ∷ 1 ∷ 0 ∷ []) ∷
+    inOrder LoadsOldest mixed (filling (load 0 0) ++ filling (add 0 0 7)) (2 ∷ 1 ∷ 0 ∷ []) ∷
     -- a bare grant fills nothing: its completion is a use, of a load too
-    inOrder LoadsOldest (sent BareGrant 0 0 (waits 0 (Served (operation 0)) (filled 0 0 (ordered (2 ∷ 0 ∷ 1 ∷ []) (opened 2 3 1))))) (deliver 0 ∷ []) (2 ∷ 1 ∷ 0 ∷ []) ∷
+    inOrder LoadsOldest (sent BareGrant 0 0 (waits 0 (Served (operation 0)) (filled 0 0 mixed))) (deliver 0 ∷ []) (2 ∷ 1 ∷ 0 ∷ []) ∷
     -- orders are no use, nor is giving up a line
-    inOrder LoadsOldest (sent Update 0 0 (filled 0 0 (ordered (2 ∷ 0 ∷ 1 ∷ []) (opened 2 3 1)))) (deliver 0 ∷ []) (2 ∷ 0 ∷ 1 ∷ []) ∷
-    inOrder LoadsOldest (sent Purge 0 0 (filled 0 0 (ordered (2 ∷ 0 ∷ 1 ∷ []) (opened 2 3 1)))) (deliver 0 ∷ []) (2 ∷ 0 ∷ 1 ∷ []) ∷
+    inOrder LoadsOldest (sent Update 0 0 (filled 0 0 mixed)) (deliver 0 ∷ []) (2 ∷ 0 ∷ 1 ∷ []) ∷
+    inOrder LoadsOldest (sent Purge 0 0 (filled 0 0 mixed)) (deliver 0 ∷ []) (2 ∷ 0 ∷ 1 ∷ []) ∷
     inOrder LoadsOldest (copied 0 0 0 0 (copied 0 1 1 0 (copied 0 2 2 0 (ordered (2 ∷ 0 ∷ 1 ∷ []) (opened 2 3 4))))) (load 0 12 ∷ []) (2 ∷ 0 ∷ 1 ∷ []) ∷
     []
 
