@@ -20,6 +20,7 @@ use Rattle.machine.specs.Demand3.{Demand3, begun, operations}
 use Rattle.machine.specs.Places.{PlacesKept}
 use Rattle.machine.specs.UseOrders.{UseOrders}
 use Rattle.machine.specs.SameValues.{SameValues}
+use Rattle.machine.specs.ServeByte.{ServeByByte}
 use Rattle.machine.specs.Completion.{AlwaysSettles, SettleBound}
 use Rattle.machine.specs.Sized.{Sized}
 use Rattle.machine.specs.PictureOrder.{PictureInOrder, OneOrder, SamePictures}
@@ -34,6 +35,7 @@ use Rattle.machine.proofs.pictures.OneOrder.{one-order}
 use Rattle.machine.proofs.pictures.PictureOrder.{in-order, same-pictures}
 use Rattle.machine.proofs.store.OrderOfMemory.{order-of-memory}
 use Rattle.machine.proofs.store.SameOperations.{same-operations}
+use Rattle.machine.proofs.store.ServeByte.{serve-by-byte}
 use Rattle.machine.proofs.settle.LiveSettle.{always-settles, all-complete}
 
 -- Demand 3: the order of completion is the order of memory.
@@ -87,6 +89,11 @@ use-order-after = use-orders
 -- is the same is the operation with its v and the word (`Asked`, specs/SameValues.antt); n, c, m, lanes, steps and refused calls may differ.
 pub same-values : SameValues
 same-values = same-operations
+
+-- 02, W4: the byte that a serve works out before it queues an order (`ordersByte`, specs/ServeByte.antt), on every store and for each serve that isn't refused: bit j
+-- is set exactly when lane j's down queue gains an order in it, and the service awaits as many answers as bits are set; with none set it closed in that step.
+pub serve-goes-by-byte : ServeByByte
+serve-goes-by-byte = serve-by-byte
 
 -- Beside demand 3: settle never fails. After any list of calls from any opening, settle is answered with its count (no 12, no 16), and
 -- nothing is under way after it (`Settles`, specs/Completion.antt).

@@ -1,4 +1,4 @@
--- Laws of tests, lines, lists, sums and updates, and of a use order.
+-- Laws of tests, lines, lists, sums and updates, of a use order, and of a set of lanes in one byte.
 pub mod Tests
 pub mod Lines
 pub mod Sets
@@ -7,3 +7,4 @@ pub mod Sums
 pub mod Updates
 pub mod Orders
 pub mod UseOrders
+pub mod LaneBytes

@@ -11,3 +11,4 @@ pub mod ConsistentSettle
 pub mod ConsistentQuiet
 pub mod OrderOfMemory
 pub mod SameOperations
+pub mod ServeByte

@@ -22,5 +22,7 @@ pub mod UseOrders
 pub mod SameValues
 pub mod Completion
 pub mod Potential
+pub mod LaneBytes
+pub mod ServeByte
 pub mod PictureOrder
 pub mod Table

@@ -39,6 +39,16 @@ pub struct Move {
     pub message: DownMessage,
 }
 
+// A Move as the code hands it over: the lanes that the message goes to are in one byte, bit j (value 2 to the power j) for lane j.
+pub struct ByteMove {
+    pub answer: Answer,
+    pub lane: Lane,
+    pub block: Block,
+    pub control: Control,
+    pub to: u8,
+    pub message: DownMessage,
+}
+
 // What settle answers: how many steps it took, or why it is refused.
 pub enum Settled {
     Steps(u16),

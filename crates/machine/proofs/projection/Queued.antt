@@ -12,7 +12,7 @@ use Rattle.queues.specs.declared.ReturnMessage.{ReturnMessage}
 use Rattle.queues.specs.declared.ReturnQueue.{ReturnQueue}
 use Rattle.queues.specs.declared.DownMessage.{DownMessage}
 use Rattle.queues.specs.declared.DownQueue.{DownQueue}
-use Rattle.queues.specs.Queues.{messages, joined, shifted, noReturn, noDown, headReturn, headDown, pushReturn, takeReturn, takeDown}
+use Rattle.queues.specs.Queues.{messages, joined, shifted, noReturn, noDown, headReturn, headDown, pushReturn, pushDown, takeReturn, takeDown}
 use Rattle.machine.proofs.protocol.BlockState.{keepIf}
 
 module _ {A : Type 0} where
@@ -68,6 +68,9 @@ queuedDowns q = messages (q .len) (q .at)
 -- the two queues when a message joins them or the head leaves them
 pub push-returns : (q : ReturnQueue) (x : ReturnMessage) → length (q .at) ≡ 2 → q .len < 2 → queuedReturns (pushReturn q x .queue) ≡ queuedReturns q ++ (x ∷ [])
 push-returns q x e h = rw (lt-leb 2 (q .len) h) (push-messages (q .len) (q .at) x e h)
+
+pub push-downs : (q : DownQueue) (x : DownMessage) → length (q .at) ≡ 2 → q .len < 2 → queuedDowns (pushDown q x .queue) ≡ queuedDowns q ++ (x ∷ [])
+push-downs q x e h = rw (lt-leb 2 (q .len) h) (push-messages (q .len) (q .at) x e h)
 
 pub take-returns : (q : ReturnQueue) → length (q .at) ≡ 2 → q .len ≢ 0 → q .len ≤ 2 → queuedReturns q ≡ headReturn q ∷ queuedReturns (takeReturn q .queue)
 take-returns q e n h = rw (ne-eqb (q .len) 0 n) (take-messages noReturn (q .len) (q .at) e n h)

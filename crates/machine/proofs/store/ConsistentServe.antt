@@ -72,7 +72,7 @@ goes-none to t e j = go (below? j 8)
 pub grant-block : (b : Block) (v : Service) → grantOf b v .block ≡ v .block
 grant-block b v = by-cond (λ (x : DownMessage). x .block ≡ v .block) (v .bare) _ _ refl refl
 
-ordered-length : (b : Block) (k : LaneNo) (x : Command) → length (b .present) ≡ 8 → length (ordered b k x) ≡ 8
+pub ordered-length : (b : Block) (k : LaneNo) (x : Command) → length (b .present) ≡ 8 → length (ordered b k x) ≡ 8
 unfolding ordered
 ordered-length b k x e = by-cond (λ (l : List Bool). length l ≡ 8) (sendsOf x (b .modified)) _ _ (length-set (b .present) (k .0) false ∙ e) refl
 
