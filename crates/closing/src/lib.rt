@@ -1,9 +1,11 @@
-// Close, which serve and return share; and what return needs beside it: a lane with another return queue, a refusal, a Move that sends nothing.
+// Close, which serve and return share; and what return needs beside it: a lane with another return queue, a refusal, a part that sends nothing.
+// Memory's part of a call goes up as a ByteMove, and a contract says which Move of the definitions it stands for.
 // Functions with a requires are for the crates above and not for others.
 ghost use mathlib.Core.Path.{_≡_};
 ghost use Prim.Native.Nat.{_<_};
 ghost use Rattle.lanes.specs.Lanes.{withReturns};
 ghost use Rattle.store.specs.LaneSets.{only};
+ghost use Rattle.machine.specs.LaneBytes.{byteOf, moveOf};
 ghost use Rattle.machine.specs.Change.{refuseMove};
 ghost use Rattle.machine.specs.Serve.{exclusively, closedBlock, grantOf, close};
 ghost use Rattle.machine.specs.Return.{sendNothing};
@@ -11,7 +13,7 @@ use answers::Answer;
 use answers::Refusal;
 use lanes::Command;
 use lanes::Lane;
-use machine::Move;
+use machine::ByteMove;
 use queues::DownKind;
 use queues::DownMessage;
 use queues::ReturnQueue;
@@ -41,32 +43,40 @@ fn only_lane(k: LaneNo) -> [bool; 8]
     t
 }
 
+// Lane k alone, in a byte.
+fn lane_byte(k: LaneNo) -> u8
+    requires { ⌜ k .0 < 8 ⌝ }
+    ensures { λ r. ⌜ r ≡ byteOf (only k) ⌝ }
+{
+    1 << k.0
+}
+
 // A refusal of memory's part.
-pub fn refuse_move(e: Refusal, l: Lane, b: Block, x: Control) -> Move
-    ensures { λ r. ⌜ r ≡ refuseMove e l b x ⌝ }
+pub fn refuse_move(e: Refusal, l: Lane, b: Block, x: Control) -> ByteMove
+    ensures { λ r. ⌜ moveOf r ≡ refuseMove e l b x ⌝ }
 {
     let m = queues::bare_down(DownKind::Update, BlockNo(0));
-    Move {
+    ByteMove {
         answer: Answer::Refused(e),
         lane: l,
         block: b,
         control: x,
-        to: [false; 8],
+        to: 0,
         message: m,
     }
 }
 
 // Memory's part where nothing is sent.
-pub fn send_nothing(l: Lane, b: Block, x: Control) -> Move
-    ensures { λ r. ⌜ r ≡ sendNothing l b x ⌝ }
+pub fn send_nothing(l: Lane, b: Block, x: Control) -> ByteMove
+    ensures { λ r. ⌜ moveOf r ≡ sendNothing l b x ⌝ }
 {
     let m = queues::bare_down(DownKind::Update, BlockNo(0));
-    Move {
+    ByteMove {
         answer: Answer::Step,
         lane: l,
         block: b,
         control: x,
-        to: [false; 8],
+        to: 0,
         message: m,
     }
 }
@@ -113,16 +123,16 @@ fn grant(b: Block, v: Service) -> DownMessage
 }
 
 // A service closes; x is the control without it.
-pub fn close_service(v: Service, l: Lane, b: Block, x: Control) -> Move
+pub fn close_service(v: Service, l: Lane, b: Block, x: Control) -> ByteMove
     requires { ⌜ v .lane .0 < 8 ⌝ }
-    ensures { λ r. ⌜ r ≡ close v l b x ⌝ }
+    ensures { λ r. ⌜ moveOf r ≡ close v l b x ⌝ }
 {
     let k = v.lane;
     let c = v.command;
     let u = closed_block(c, b, k);
     let g = grant(b, v);
-    let t = only_lane(k);
-    Move {
+    let t = lane_byte(k);
+    ByteMove {
         answer: Answer::Step,
         lane: l,
         block: u,

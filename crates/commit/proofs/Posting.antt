@@ -1,107 +1,127 @@
--- A message put in place is what `postTo` says, a queue's fullness is told by its length, and a commit has two cases. Assumes nothing.
-use Prim.Native.Nat.{ℕ, zero, suc, _+_, _<_}
-use native.Mathlib.Decide.{ℕ-discrete}
+-- The walk that posts a message: what it has done by the bits that are left of its byte. Assumes nothing.
+use Prim.Native.Nat.{ℕ, zero, suc, _+_, _<_, _≤_}
+use native.Mathlib.Nat.{eq-or-lt-of-le}
 use native.Mathlib.Omega.{arith}
-use mathlib.Core.Bool.{Bool, true, false, cond, true≢false, _&&_}
+use mathlib.Core.Logic.{_⊎_, inl, inr}
+use mathlib.Core.Bool.{Bool, true, false, _&&_}
 use mathlib.Core.Path.{_≡_, refl, sym, ap, _∙_}
 use mathlib.Core.List.{List}
-use lib.ListN.{length, getD, set}
-use lib.Seq.{getD-set-same, getD-set-other}
+use lib.ListN.{getD, set}
 use Rattle.words.specs.declared.LaneNo.{LaneNo}
 use Rattle.words.specs.declared.BlockNo.{BlockNo}
 use Rattle.words.specs.Folds.{upTo, anyTo}
-use Rattle.words.proofs.Folds.{upTo-none, upTo-more}
+use Rattle.words.proofs.Folds.{below?, upTo-none, upTo-more, any-none, any-more, any-true, any-false, any-never}
 use Rattle.queues.specs.declared.DownMessage.{DownMessage}
 use Rattle.queues.specs.Queues.{fullAt}
 use Rattle.lanes.specs.declared.Lane.{Lane}
-use Rattle.answers.specs.declared.Answer.{Answer}
-use Rattle.answers.specs.declared.Answer.the-variants.{Refused}
-use Rattle.answers.specs.declared.Refusal.the-variants.{QueueFull}
-use Rattle.answers.specs.Refusals.{refusedOf}
 use Rattle.store.specs.declared.Store.{Store}
-use Rattle.store.specs.declared.Control.{Control}
-use Rattle.store.specs.Stores.{noLane, withControl, withLanes}
-use Rattle.machine.specs.declared.Move.{Move}
 use Rattle.store.specs.LaneSets.{goesTo}
-use Rattle.machine.specs.Change.{refuse, movedStore, someFull, posted, postTo, postAll, commitMove}
-use Rattle.commit.specs.Moves.{lengthAt, lengthsOf, fullBy, moveAnswer}
+use Rattle.store.specs.Stores.{noLane, withLanes}
+use Rattle.machine.specs.LaneBytes.{bitOf, lanesOf}
+use Rattle.machine.specs.Change.{someFull, posted, postTo, postAll}
+use Rattle.machine.proofs.bounds.Posts.{posts-before}
+use Rattle.machine.proofs.laws.LaneBytes.{lanes-bit}
+use Rattle.commit.specs.Bits.{lowestBit, withoutLowest}
+use Rattle.commit.proofs.Walks.{Left, left-all, left-none, lowest-below, fewer, next-above, next-set, next-first, next-left}
 
--- ---- the loop that posts
--- before the first turn
-pub turns-none : (to : List Bool) (x : DownMessage) (s : Store) → s ≡ withLanes s (upTo (postTo to x) 0 (s .lanes))
-turns-none to x s = ap (withLanes s) (upTo-none (postTo to x) (s .lanes))
-
-module _ (to : List Bool) (x : DownMessage) (s t : Store) (j : ℕ) (p : t ≡ withLanes s (upTo (postTo to x) j (s .lanes))) where
-  -- a turn that posts
-  pub turn-posts : {l : Lane} → goesTo to j ≡ true → l ≡ posted x (getD (t .lanes) j noLane) → withLanes t (set (t .lanes) j l) ≡ withLanes s (upTo (postTo to x) (j + 1) (s .lanes))
-  unfolding postTo
-  turn-posts {l} g e =
-      ap (λ (u : Store). withLanes u (set (t .lanes) j l)) p ∙ ap (withLanes s) (upTo-more (postTo to x) (s .lanes) j (ap (λ (u : Store). u .lanes) p) (rw (postTo, g, e)))
-
-  -- a turn that does not
-  pub turn-passes : goesTo to j ≡ false → t ≡ withLanes s (upTo (postTo to x) (j + 1) (s .lanes))
-  unfolding postTo
-  turn-passes g = p ∙ ap (withLanes s) (upTo-more (postTo to x) (s .lanes) j refl (rw (postTo, g)))
-
--- after the last turn, with the new control
-pub turns-all : (to : List Bool) (x : DownMessage) (y : Control) (s t : Store) (j : ℕ) → t ≡ withLanes s (upTo (postTo to x) j (s .lanes)) → j ≡ 8 →
-    withControl t y ≡ withControl (withLanes s (postAll to x (s .lanes))) y
-unfolding postAll
-turns-all to x y s t j p e = ap (λ (u : Store). withControl u y) (p ∙ ap (λ (n : ℕ). withLanes s (upTo (postTo to x) n (s .lanes))) e)
-
--- ---- 12 by the queues' lengths
-any-same : (p q : ℕ → Bool) (n : ℕ) → ((k : ℕ) → k < n → p k ≡ q k) → anyTo p n ≡ anyTo q n
-unfolding anyTo
-any-same p q zero h = refl
-any-same p q (suc n) h = rw (any-same p q n (λ k l. h k (omega arith)), h n (omega arith))
-
--- each of the eight lengths
-length-at : (ls : List Lane) (j : ℕ) → j < 8 → getD (lengthsOf ls) j 0 ≡ lengthAt ls j
-length-at ls zero h = refl
-length-at ls (suc zero) h = refl
-length-at ls (suc (suc zero)) h = refl
-length-at ls (suc (suc (suc zero))) h = refl
-length-at ls (suc (suc (suc (suc zero)))) h = refl
-length-at ls (suc (suc (suc (suc (suc zero))))) h = refl
-length-at ls (suc (suc (suc (suc (suc (suc zero)))))) h = refl
-length-at ls (suc (suc (suc (suc (suc (suc (suc zero))))))) h = refl
-length-at ls (suc (suc (suc (suc (suc (suc (suc (suc j)))))))) h = absurd (omega arith)
-
--- the lengths with lane i's are the lengths of the lanes with lane i
-length-set-at : (ls : List Lane) (i : ℕ) (l : Lane) (j : ℕ) → i < 8 → length ls ≡ 8 → j < 8 → getD (set (lengthsOf ls) i (l .downs .len)) j 0 ≡ lengthAt (set ls i l) j
-length-set-at ls i l j hi e hj = go (ℕ-discrete j i)
+-- turns that do nothing can be left out
+skip-turns : {A : Type 0} (f : ℕ → A → A) (a : A) (j n : ℕ) → j ≤ n → ((i : ℕ) (b : A) → j ≤ i → i < n → f i b ≡ b) → upTo f n a ≡ upTo f j a
+unfolding upTo
+skip-turns f a j zero h e = let q : j ≡ 0 = omega arith in rw q refl
+skip-turns f a j (suc n) h e = go (eq-or-lt-of-le h) (λ l. e n (upTo f n a) l (omega arith) ∙ skip-turns f a j n l (λ i b g k. e i b g (omega arith)))
   where
-    go : Dec (j ≡ i) → getD (set (lengthsOf ls) i (l .downs .len)) j 0 ≡ lengthAt (set ls i l) j
-    go (yes q) = rw q (getD-set-same (lengthsOf ls) i (l .downs .len) 0 hi ∙ sym (ap (λ (u : Lane). u .downs .len) (getD-set-same ls i l noLane (omega arith))))
-    go (no n) = getD-set-other (lengthsOf ls) i j (l .downs .len) 0 n ∙ (length-at ls j hj ∙ sym (ap (λ (u : Lane). u .downs .len) (getD-set-other ls i j l noLane n)))
+    go : (j ≡ suc n) ⊎ (j < suc n) → (j ≤ n → upTo f (suc n) a ≡ upTo f j a) → upTo f (suc n) a ≡ upTo f j a
+    go (inl q) r = rw q refl
+    go (inr l) r = r (omega arith)
 
-pub full-is : (to : List Bool) (ls : List Lane) (i : ℕ) (l : Lane) → i < 8 → length ls ≡ 8 → fullBy to (set (lengthsOf ls) i (l .downs .len)) ≡ someFull to (set ls i l)
-unfolding fullBy someFull
-full-is to ls i l hi e = any-same _ _ 8 (λ j hj. ap (λ (n : ℕ). goesTo to j && fullAt n) (length-set-at ls i l j hi e hj))
+-- .. and so can tests that fail
+skip-tests : (p : ℕ → Bool) (j n : ℕ) → anyTo p j ≡ false → ((i : ℕ) → j ≤ i → i < n → p i ≡ false) → anyTo p n ≡ false
+skip-tests p j n h e = any-never p n (λ i l. go i l (below? i j))
+  where
+    go : (i : ℕ) → i < n → (i < j) ⊎ (j ≤ i) → p i ≡ false
+    go i l (inl b) = any-false p j i h b
+    go i l (inr b) = e i b l
 
--- ---- a commit by its cases
-module _ (s : Store) (k : LaneNo) (a : BlockNo) (v : Move) where
-  -- refused
-  pub commit-refused : refusedOf (moveAnswer (s .lanes) k v) ≡ true → (record { answer = moveAnswer (s .lanes) k v; store = s }) ≡ commitMove s k a v
-  unfolding moveAnswer commitMove
-  commit-refused = go (refusedOf (v .answer)) (someFull (v .to) (set (s .lanes) (k .0) (v .lane))) refl
-    where
-      go : (b f : Bool) → refusedOf (v .answer) ≡ b → refusedOf (cond b (v .answer) (cond f (Refused QueueFull) (v .answer))) ≡ true →
-          (record { answer = cond b (v .answer) (cond f (Refused QueueFull) (v .answer)); store = s }) ≡ cond b (record { answer = v .answer; store = s }) (cond f (refuse QueueFull s) (record { answer = v .answer; store = movedStore s k a v }))
-      go true f p e = refl
-      go false true p e = refl
-      go false false p e = absurd (true≢false (sym e ∙ p))
+-- a lane that the message goes to has no room for it
+abbrev full : ℕ → List Lane → ℕ → Bool
+full to ls i = goesTo (lanesOf to) i && fullAt (getD ls i noLane .downs .len)
 
-  -- done
-  done : refusedOf (moveAnswer (s .lanes) k v) ≡ false → (record { answer = moveAnswer (s .lanes) k v; store = movedStore s k a v }) ≡ commitMove s k a v
-  unfolding moveAnswer commitMove
-  done = go (refusedOf (v .answer)) (someFull (v .to) (set (s .lanes) (k .0) (v .lane))) refl
-    where
-      go : (b f : Bool) → refusedOf (v .answer) ≡ b → refusedOf (cond b (v .answer) (cond f (Refused QueueFull) (v .answer))) ≡ false →
-          (record { answer = cond b (v .answer) (cond f (Refused QueueFull) (v .answer)); store = movedStore s k a v }) ≡ cond b (record { answer = v .answer; store = s }) (cond f (refuse QueueFull s) (record { answer = v .answer; store = movedStore s k a v }))
-      go true f p e = absurd (true≢false (sym p ∙ e))
-      go false true p e = absurd (true≢false e)
-      go false false p e = refl
+-- from s to t message x has been posted to the lanes below j that are in the byte, each of which had room; the byte left has the others
+pub record Posted (to : ℕ) (x : DownMessage) (s t : Store) (left j : ℕ) : Type 0 where
+  pub below : j ≤ 8
+  pub fits : left < 256
+  pub rest : Left to left j
+  pub done : t ≡ withLanes s (upTo (postTo (lanesOf to) x) j (s .lanes))
+  pub room : anyTo (full to (s .lanes)) j ≡ false
 
-  pub commit-done : (e : Answer) (t : Store) → e ≡ moveAnswer (s .lanes) k v → t ≡ movedStore s k a v → refusedOf e ≡ false → (record { answer = e; store = t }) ≡ commitMove s k a v
-  commit-done e t p q f = (λ i. record { answer = p i; store = q i }) ∙ done (rw (← p) f)
+module _ (to : ℕ) (x : DownMessage) (s : Store) where
+  -- before the first turn
+  pub posted-none : to < 256 → Posted to x s s to 0
+  posted-none h = record {
+    below = omega arith;
+    fits = h;
+    rest = left-all to;
+    done = ap (withLanes s) (upTo-none (postTo (lanesOf to) x) (s .lanes));
+    room = any-none (full to (s .lanes));
+  }
+
+  not-full : (i : ℕ) → i < 8 → bitOf to i ≡ false → full to (s .lanes) i ≡ false
+  not-full i h e = rw (lanes-bit to i h, e) refl
+
+  not-posted : (i : ℕ) (ls : List Lane) → i < 8 → bitOf to i ≡ false → postTo (lanesOf to) x i ls ≡ ls
+  unfolding postTo
+  not-posted i ls h e = rw (postTo, lanes-bit to i h, e) refl
+
+  -- after the last one
+  module _ (t : Store) (j : ℕ) (w : Posted to x s t 0 j) where
+    pub posted-all : t ≡ withLanes s (postAll (lanesOf to) x (s .lanes))
+    unfolding postAll
+    posted-all = w .done ∙ ap (withLanes s) (sym (skip-turns (postTo (lanesOf to) x) (s .lanes) j 8 (w .below) (λ i ls h g. not-posted i ls g (left-none to j (w .rest) i h g))))
+
+    pub room-all : someFull (lanesOf to) (s .lanes) ≡ false
+    unfolding someFull
+    room-all = skip-tests (full to (s .lanes)) j 8 (w .room) (λ i h g. not-full i g (left-none to j (w .rest) i h g))
+
+  -- a turn, at the lowest lane that is left
+  module _ (t : Store) (left j : ℕ) (w : Posted to x s t left j) (h : 0 < left) where
+    abbrev z : ℕ
+    z = lowestBit left
+
+    pub turn-below : z < 8
+    turn-below = lowest-below left (w .fits) h
+
+    reached : t ≡ withLanes s (upTo (postTo (lanesOf to) x) z (s .lanes))
+    reached =
+        let b = turn-below in
+        w .done ∙ ap (withLanes s) (sym (skip-turns (postTo (lanesOf to) x) (s .lanes) j z (next-above to left j (w .rest) h (w .fits))
+        (λ i ls g l. not-posted i ls (omega arith) (next-first to left j (w .rest) h (w .fits) i g l))))
+
+    clear : anyTo (full to (s .lanes)) z ≡ false
+    clear = let b = turn-below in skip-tests (full to (s .lanes)) j z (w .room) (λ i g l. not-full i (omega arith) (next-first to left j (w .rest) h (w .fits) i g l))
+
+    -- its queue is as it was
+    same-lane : getD (t .lanes) z noLane ≡ getD (s .lanes) z noLane
+    same-lane = ap (λ (u : Store). getD (u .lanes) z noLane) reached ∙ posts-before (lanesOf to) x z z (s .lanes) (omega arith)
+
+    goes : goesTo (lanesOf to) z ≡ true
+    goes = lanes-bit to z turn-below ∙ next-set to left j (w .rest) h (w .fits)
+
+    full-here : full to (s .lanes) z ≡ fullAt (getD (t .lanes) z noLane .downs .len)
+    full-here = rw (goes, same-lane) refl
+
+    pub turn-full : fullAt (getD (t .lanes) z noLane .downs .len) ≡ true → someFull (lanesOf to) (s .lanes) ≡ true
+    unfolding someFull
+    turn-full e = any-true (full to (s .lanes)) 8 z (full-here ∙ e) turn-below
+
+    pub turn-posts : {l : Lane} → fullAt (getD (t .lanes) z noLane .downs .len) ≡ false → l ≡ posted x (getD (t .lanes) z noLane) →
+        Posted to x s (withLanes t (set (t .lanes) z l)) (withoutLowest left) (z + 1)
+    unfolding postTo
+    turn-posts {l} e q = record {
+      below = let b = turn-below in omega arith;
+      fits = let b = fewer left (w .fits) h in let g = w .fits in omega arith;
+      rest = next-left to left j (w .rest) h (w .fits);
+      done =
+          ap (λ (u : Store). withLanes u (set (t .lanes) z l)) reached ∙
+          ap (withLanes s) (upTo-more (postTo (lanesOf to) x) (s .lanes) z (ap (λ (u : Store). u .lanes) reached) (rw (postTo, goes, q)));
+      room = any-more (full to (s .lanes)) z clear (full-here ∙ e);
+    }

@@ -1,15 +1,15 @@
 // A refusal, and a store put back together after memory's part of a call: lane, block, control and the queues of those that a message goes to.
+// The lanes that a message goes to are the set bits of a byte, bit j for lane j: the look at full queues and the queueing walk the set bits, the lowest first.
 // The store is handed in by value and changed in a local. Functions with a requires are for the crates above and not for others.
 ghost use mathlib.Core.Path.{_≡_};
-ghost use mathlib.Core.Bool.{_&&_};
 ghost use Prim.Native.Nat.{_<_};
-ghost use Rattle.queues.specs.Queues.{fullAt};
+ghost use Rattle.machine.specs.LaneBytes.{moveOf};
 ghost use Rattle.machine.specs.Change.{refuse, posted, commitMove};
-ghost use Rattle.commit.specs.Moves.{lengthsOf, fullBy, moveAnswer};
+ghost use Rattle.commit.specs.Bits.{lowestBit, withoutLowest};
 use answers::Answer;
 use answers::Refusal;
 use lanes::Lane;
-use machine::Move;
+use machine::ByteMove;
 use queues::CAPACITY;
 use queues::DownMessage;
 use store::Outcome;
@@ -17,64 +17,19 @@ use store::Store;
 use words::BlockNo;
 use words::LaneNo;
 
-// Whether a message goes to a lane whose down queue has len messages and takes no more.
-fn blocked(goes: bool, len: u8) -> bool
-    ensures { λ r. ⌜ r ≡ (goes && fullAt len) ⌝ }
+// The lowest set bit of a byte, 8 for the byte 0.
+fn lowest(x: u8) -> usize
+    ensures { λ r. ⌜ r ≡ lowestBit x ⌝ }
 {
-    if goes {
-        return CAPACITY <= len;
-    }
-    false
+    u8::trailing_zeros(x) as usize
 }
 
-// The lengths of the lanes' down queues.
-fn lengths(ls: [Lane; 8]) -> [u8; 8]
-    ensures { λ r. ⌜ r ≡ lengthsOf ls ⌝ }
+// A byte without its lowest set bit.
+fn without_lowest(x: u8) -> u8
+    requires { ⌜ 0 < x ⌝ }
+    ensures { λ r. ⌜ r ≡ withoutLowest x ⌝ }
 {
-    [
-        ls[0].downs.len,
-        ls[1].downs.len,
-        ls[2].downs.len,
-        ls[3].downs.len,
-        ls[4].downs.len,
-        ls[5].downs.len,
-        ls[6].downs.len,
-        ls[7].downs.len,
-    ]
-}
-
-// Whether a message goes to a lane whose down queue is full, by the queues' lengths.
-fn some_full(to: [bool; 8], lens: [u8; 8]) -> bool
-    ensures { λ r. ⌜ r ≡ fullBy to lens ⌝ }
-{
-    let mut i: usize = 0;
-    while i < 8 {
-        if blocked(to[i], lens[i]) {
-            return true;
-        }
-        i += 1;
-    }
-    false
-}
-
-// The answer of memory's part of a call: 12 if a queue that its message joins is full.
-fn move_answer(ls: [Lane; 8], k: LaneNo, v: Move) -> Answer
-    requires { ⌜ k .0 < 8 ⌝ }
-    ensures { λ r. ⌜ r ≡ moveAnswer ls k v ⌝ }
-{
-    let e = v.answer;
-    if e.refused() {
-        return e;
-    }
-    let i = k.0 as usize;
-    let l = v.lane;
-    let mut lens = lengths(ls);
-    lens[i] = l.downs.len;
-    let to = v.to;
-    if some_full(to, lens) {
-        return Answer::Refused(Refusal::QueueFull);
-    }
-    e
+    x & (x - 1)
 }
 
 // The message joins the lane's down queue.
@@ -99,35 +54,36 @@ pub fn refused(r: Refusal, s: Store) -> Outcome
     }
 }
 
-// Lane k, block a, the control and the down queues after memory's part of a call.
-pub fn commit_move(s: Store, k: LaneNo, a: BlockNo, v: Move) -> Outcome
+// Lane k, block a, the control and the down queues after memory's part of a call; 12, with the store as it was, if a queue that its message joins is full.
+pub fn commit_move(s: Store, k: LaneNo, a: BlockNo, v: ByteMove) -> Outcome
     requires { ⌜ (k .0 < 8) × (a .0 < 64) ⌝ }
-    ensures { λ r. ⌜ r ≡ commitMove s k a v ⌝ }
+    ensures { λ r. ⌜ r ≡ commitMove s k a (moveOf v) ⌝ }
 {
-    let mut t = s;
-    let e = move_answer(t.lanes, k, v);
+    let e = v.answer;
     if e.refused() {
         return Outcome {
             answer: e,
-            store: t,
+            store: s,
         };
     }
+    let mut t = s;
     let i = k.0 as usize;
     let l = v.lane;
     t.lanes[i] = l;
     let j = a.0 as usize;
     let b = v.block;
     t.blocks[j] = b;
-    let to = v.to;
     let m = v.message;
-    let mut h: usize = 0;
-    while h < 8 {
-        if to[h] {
-            let old = t.lanes[h];
-            let new = post(m, old);
-            t.lanes[h] = new;
+    let mut left = v.to;
+    while 0 < left {
+        let h = lowest(left);
+        let old = t.lanes[h];
+        if CAPACITY <= old.downs.len {
+            return refused(Refusal::QueueFull, s);
         }
-        h += 1;
+        let new = post(m, old);
+        t.lanes[h] = new;
+        left = without_lowest(left);
     }
     let x = v.control;
     Outcome {

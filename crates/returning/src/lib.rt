@@ -1,13 +1,14 @@
-// Memory's part of return: a lane, a block and the control are handed in by value and come back in a Move.
+// Memory's part of return: a lane, a block and the control are handed in by value and come back in a ByteMove.
 // Functions with a requires are for the crates above and not for others.
 ghost use mathlib.Core.Path.{_≡_};
 ghost use Prim.Native.Nat.{_<_};
 ghost use Rattle.store.specs.Control.{answerOf};
+ghost use Rattle.machine.specs.LaneBytes.{moveOf};
 ghost use Rattle.machine.specs.Return.{absent, writtenBack, takenBy, isAnswer, countedMove, returnMove};
 ghost use Rattle.returning.specs.Bounds.{laneBelow};
 use answers::Refusal;
 use lanes::Lane;
-use machine::Move;
+use machine::ByteMove;
 use queues::ReturnKind;
 use queues::ReturnMessage;
 use store::Block;
@@ -70,9 +71,9 @@ fn is_answer(kind: ReturnKind) -> bool
 }
 
 // An answer for block a is counted: l and b are the lane and the block before the message is taken, t and u after it.
-fn count_answer(y: Control, a: BlockNo, l: Lane, b: Block, t: Lane, u: Block) -> Move
+fn count_answer(y: Control, a: BlockNo, l: Lane, b: Block, t: Lane, u: Block) -> ByteMove
     requires { ⌜ laneBelow y 8 ⌝ }
-    ensures { λ r. ⌜ r ≡ countedMove (answerOf y a) l b y t u ⌝ }
+    ensures { λ r. ⌜ moveOf r ≡ countedMove (answerOf y a) l b y t u ⌝ }
 {
     let n = y.answer(a);
     match n {
@@ -83,9 +84,9 @@ fn count_answer(y: Control, a: BlockNo, l: Lane, b: Block, t: Lane, u: Block) ->
 }
 
 // Memory takes x, the head of lane k's return queue.
-pub fn return_move(l: Lane, b: Block, y: Control, k: LaneNo, x: ReturnMessage) -> Move
+pub fn return_move(l: Lane, b: Block, y: Control, k: LaneNo, x: ReturnMessage) -> ByteMove
     requires { ⌜ (k .0 < 8) × laneBelow y 8 ⌝ }
-    ensures { λ r. ⌜ r ≡ returnMove k x l b y ⌝ }
+    ensures { λ r. ⌜ moveOf r ≡ returnMove k x l b y ⌝ }
 {
     let q = l.returns;
     let p = q.take();

@@ -1,17 +1,19 @@
-// Memory's part of serve: a lane, a block and the control are handed in by value and come back in a Move.
+// Memory's part of serve: a lane, a block and the control are handed in by value and come back in a ByteMove.
+// The orders of a serve are one byte, bit j (value 2 to the power j) for lane j, worked out before any of them is queued.
 // Functions with a requires are for the crates above and not for others.
 ghost use mathlib.Core.Path.{_≡_};
 ghost use mathlib.Core.Bool.{cond};
 ghost use Prim.Native.Nat.{_<_};
-ghost use Rattle.store.specs.LaneSets.{countOf};
-ghost use Rattle.machine.specs.Serve.{sendsOf, orderOf, ordered, bareOf, readyOf, serviceFor, serveMove};
+ghost use Rattle.machine.specs.LaneBytes.{bitsIn, byteOf, moveOf};
+ghost use Rattle.machine.specs.Serve.{sendsOf, orderOf, bareOf, readyOf, serviceFor, serveMove};
+ghost use Rattle.machine.specs.ServeByte.{ordersByte};
 use answers::Answer;
 use answers::Refusal;
 use lanes::Command;
 use lanes::Lane;
 use lanes::Operation;
 use lanes::Waiting;
-use machine::Move;
+use machine::ByteMove;
 use machine::Ready;
 use queues::DownKind;
 use store::Block;
@@ -41,43 +43,44 @@ fn order_kind(x: Command) -> DownKind
     }
 }
 
-// The lanes that lane k's command sends orders to.
-fn ordered_lanes(b: Block, k: LaneNo, x: Command) -> [bool; 8]
+// The value of a lane's bit if its flag is set, else 0.
+fn bit(flag: bool, value: u8) -> u8
+    ensures { λ r. ⌜ r ≡ cond flag value 0 ⌝ }
+{
+    if flag {
+        return value;
+    }
+    0
+}
+
+// Eight flags in a byte, without a loop.
+fn flags_byte(p: [bool; 8]) -> u8
+    ensures { λ r. ⌜ r ≡ byteOf p ⌝ }
+{
+    let low = bit(p[0], 1) + bit(p[1], 2) + bit(p[2], 4) + bit(p[3], 8);
+    let high = bit(p[4], 16) + bit(p[5], 32) + bit(p[6], 64) + bit(p[7], 128);
+    low + high
+}
+
+// The lanes that lane k's command sends orders to, in a byte.
+fn orders_byte(b: Block, k: LaneNo, x: Command) -> u8
     requires { ⌜ k .0 < 8 ⌝ }
-    ensures { λ r. ⌜ r ≡ ordered b k x ⌝ }
+    ensures { λ r. ⌜ r ≡ ordersByte b k x ⌝ }
 {
     if sends(x, b.modified) {
         let i = k.0 as usize;
         let mut others = b.present;
         others[i] = false;
-        return others;
-    }
-    [false; 8]
-}
-
-// 1 for a lane that a message goes to.
-fn one(goes: bool) -> u8
-    ensures { λ r. ⌜ r ≡ cond goes 1 0 ⌝ }
-{
-    if goes {
-        return 1;
+        return flags_byte(others);
     }
     0
 }
 
-// How many lanes a message goes to.
-fn count(to: [bool; 8]) -> u8
-    ensures { λ r. ⌜ r ≡ countOf to ⌝ }
+// How many bits of a byte are set.
+fn count(x: u8) -> u8
+    ensures { λ r. ⌜ r ≡ bitsIn x ⌝ }
 {
-    let mut n: u8 = 0;
-    let mut k: usize = 0;
-    while k < 8 {
-        let p = to[k];
-        let d = one(p);
-        n += d;
-        k += 1;
-    }
-    n
+    u8::count_ones(x) as u8
 }
 
 // Whether the grant for a command is bare, by the lane's PRESENT.
@@ -132,12 +135,12 @@ fn service_for(k: LaneNo, o: Operation, b: Block, awaited: u8) -> Service
 }
 
 // Memory takes lane k's command: orders go out, or the service closes at once.
-pub fn serve_move(l: Lane, b: Block, x: Control, k: LaneNo, o: Operation) -> Move
+pub fn serve_move(l: Lane, b: Block, x: Control, k: LaneNo, o: Operation) -> ByteMove
     requires { ⌜ k .0 < 8 ⌝ }
-    ensures { λ r. ⌜ r ≡ serveMove k o l b x ⌝ }
+    ensures { λ r. ⌜ moveOf r ≡ serveMove k o l b x ⌝ }
 {
     let c = o.command;
-    let to = ordered_lanes(b, k, c);
+    let to = orders_byte(b, k, c);
     let n = count(to);
     let v = service_for(k, o, b, n);
     let t = l.with_waiting(Waiting::Served(o));
@@ -148,7 +151,7 @@ pub fn serve_move(l: Lane, b: Block, x: Control, k: LaneNo, o: Operation) -> Mov
     let w = o.word;
     let a = w.block();
     let m = queues::bare_down(d, a);
-    Move {
+    ByteMove {
         answer: Answer::Step,
         lane: t,
         block: b,

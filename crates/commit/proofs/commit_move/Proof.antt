@@ -1,30 +1,33 @@
--- `commit::commit_move` meets its contract: a refusal leaves the store; else lane and block are put in, and the loop posts to each lane named. Assumes nothing.
+-- `commit::commit_move` meets its contract: a refusal leaves the store; else lane and block are put in, and the walk posts to each lane of the byte. Assumes nothing.
 use borrow.Author.Needs.{needs}
-use Prim.Native.Nat.{_≤_, _-_}
+use borrow.Author.Tests.{le-leb, lt-leb}
+use Prim.Native.Nat.{ℕ, _+_}
 use native.Mathlib.Omega.{arith}
-use mathlib.Core.Logic.{⊎-elim}
-use mathlib.Core.Path.{_≡_, sym, _∙_}
-use Rattle.words.specs.Folds.{upTo}
-use Rattle.machine.specs.Change.{postTo}
-use Rattle.commit.proofs.Posting.{turns-none, turn-posts, turn-passes, turns-all, commit-refused, commit-done}
+use mathlib.Core.Bool.{true}
+use mathlib.Core.Path.{_≡_, sym, ap, _∙_}
+use lib.ListN.{set}
+use Rattle.store.specs.declared.Store.{Store}
+use Rattle.store.specs.Stores.{withControl}
+use Rattle.machine.specs.LaneBytes.{lanesOf}
+use Rattle.machine.specs.Change.{someFull, commitMove}
+use Rattle.commit.specs.Bits.{lowestBit}
+use Rattle.commit.proofs.Walks.{fewer}
+use Rattle.commit.proofs.Posting.{Posted, posted-none, posted-all, room-all, turn-below, turn-full, turn-posts}
 use Rattle.commit.proofs.commit_move.Statement.{statement}
 use Rattle.commit.proofs.commit_move.Tie as tie
-use Rattle.store.specs.Stores.{withLanes}
 
 abbrev Inv-loop : tie.InvT-loop
-Inv-loop v t₀ e i j to m h₀ t h = (h ≤ 8) × (t ≡ withLanes t₀ (upTo (postTo to m) h (t₀ .lanes)))
+Inv-loop s v e t₀ i j m left₀ t left = (n : ℕ) × Posted (v .to) m t₀ t left n
 
 abbrev μ-loop : tie.MeasureT-loop
-μ-loop v t₀ e i j to m h₀ t h = 8 - h
-
-move-answer-requires : tie.Need-move-answer-requires Inv-loop μ-loop
-move-answer-requires c κs = search needs
+μ-loop s v e t₀ i j m left₀ t left = left
 
 refused-requires : tie.Need-refused-requires Inv-loop μ-loop
 refused-requires c κs = search needs
 
 returns : tie.Need-returns Inv-loop μ-loop
-returns c = rw (c .before .before .move-answer .ensures) (commit-refused (c .before .before .before .before .args .s) (c .before .before .before .before .args .k) (c .before .before .before .before .args .a) (c .before .before .before .before .args .v) (rw (← c .before .before .move-answer .ensures) (sym (c .before .refused .ensures) ∙ c .if1 .taken)))
+unfolding commitMove
+returns c = rw (commitMove, sym (c .before .refused .ensures) ∙ c .if1 .taken)
 
 cast-i : tie.Need-cast-i Inv-loop μ-loop
 cast-i c = search needs
@@ -45,56 +48,80 @@ element-set-from-b : tie.Need-element-set-from-b Inv-loop μ-loop
 element-set-from-b c = search needs
 
 loop-holds : tie.Need-loop-holds Inv-loop μ-loop
-loop-holds c = (omega arith, turns-none _ _ _)
+loop-holds c = (0, posted-none _ _ _ (omega arith))
 
-array-read-if2 : tie.Need-array-read-if2 Inv-loop μ-loop
-array-read-if2 c = search needs
+lowest-requires : tie.Need-lowest-requires Inv-loop μ-loop
+lowest-requires c κs = search needs
 
 mul-old : tie.Need-mul-old Inv-loop μ-loop
-mul-old c = search needs
+mul-old c = omega (arith, c .lowest .ensures, turn-below _ _ _ _ _ _ (c .before .before .loop .inv .1) (c .before .loop-test .taken))
 
 element-copy-out-old : tie.Need-element-copy-out-old Inv-loop μ-loop
-element-copy-out-old c = search needs
+element-copy-out-old c = omega (arith, c .lowest .ensures, turn-below _ _ _ _ _ _ (c .before .before .loop .inv .1) (c .before .loop-test .taken))
+
+refused-requires-2 : tie.Need-refused-requires-2 Inv-loop μ-loop
+refused-requires-2 c κs = search needs
+
+returns-2 : tie.Need-returns-2 Inv-loop μ-loop
+unfolding commitMove
+returns-2 c =
+    let at-lowest = c .before .before .before .before in
+    let at-loop = at-lowest .before .before in
+    let at-if1 = at-loop .before .before .before .before .before .before in
+    let args = at-if1 .before .before .args in
+    let f : someFull (lanesOf (args .v .to)) (set (args .s .lanes) (args .k .0) (args .v .lane)) ≡ true =
+    turn-full (args .v .to) (args .v .message) _ (at-loop .loop .t) (at-loop .loop .left) _ (at-loop .loop .inv .1) (at-lowest .before .loop-test .taken)
+    (rw (← at-lowest .lowest .ensures) (le-leb _ _ (c .before .if2 .taken))) in
+    rw (commitMove, sym (at-if1 .before .refused .ensures) ∙ at-if1 .if1 .left, f, c .refused2 .ensures)
 
 post-requires : tie.Need-post-requires Inv-loop μ-loop
 post-requires c κs = search needs
 
 mul-new : tie.Need-mul-new Inv-loop μ-loop
-mul-new c = search needs
+mul-new c =
+    let at-lowest = c .before .before .before .before in
+    omega (arith, at-lowest .lowest .ensures, turn-below _ _ _ _ _ _ (at-lowest .before .before .loop .inv .1) (at-lowest .before .loop-test .taken))
 
 element-set-from-new : tie.Need-element-set-from-new Inv-loop μ-loop
-element-set-from-new c = search needs
+element-set-from-new c =
+    let at-lowest = c .before .before .before .before in
+    omega (arith, at-lowest .lowest .ensures, turn-below _ _ _ _ _ _ (at-lowest .before .before .loop .inv .1) (at-lowest .before .loop-test .taken))
 
-add-h : tie.Need-add-h Inv-loop μ-loop
-add-h c = omega arith
+without-lowest-requires : tie.Need-without-lowest-requires Inv-loop μ-loop
+without-lowest-requires c κs = c .before .before .before .before .before .loop-test .taken
 
 loop-less : tie.Need-loop-less Inv-loop μ-loop
-loop-less c = omega arith
+loop-less c =
+    let at-test = c .before .before .before .before .before .before in
+    let at-loop = at-test .before in
+    omega (arith, c .without-lowest .ensures, fewer (at-loop .loop .left) (at-loop .loop .inv .1 .fits) (at-test .loop-test .taken))
 
 loop-again : tie.Need-loop-again Inv-loop μ-loop
 loop-again c =
-    let at-loop = c .before .before in
-    let at-l = at-loop .before .before .before .before .before in
-    let at-move-answer = at-l .before .before .before .before in
-    let args = at-move-answer .before .before .args in (
-      omega arith,
-      ⊎-elim
-          (λ w. w .3 ∙ turn-posts (args .v .to) (args .v .message) _ (at-loop .loop .t) (at-loop .loop .h) (at-loop .loop .inv .1) (w .0 .taken) (w .2 .ensures))
-          (λ w. w .1 ∙ turn-passes (args .v .to) (args .v .message) _ (at-loop .loop .t) (at-loop .loop .h) (at-loop .loop .inv .1) (w .0 .left))
-          (c .if2 .came),
+    let at-lowest = c .before .before .before .before .before in
+    let at-loop = at-lowest .before .before in
+    let args = at-loop .before .before .before .before .before .before .before .before .args in (
+      lowestBit (at-loop .loop .left) + 1,
+      rw (c .without-lowest .ensures, at-lowest .lowest .ensures)
+          (turn-posts (args .v .to) (args .v .message) _ (at-loop .loop .t) (at-loop .loop .left) _ (at-loop .loop .inv .1) (at-lowest .before .loop-test .taken)
+          (rw (← at-lowest .lowest .ensures) (lt-leb _ _ (c .before .before .if2 .left))) (rw (← at-lowest .lowest .ensures) (c .before .post .ensures))),
     )
 
-returns-2 : tie.Need-returns-2 Inv-loop μ-loop
-returns-2 c =
+returns-3 : tie.Need-returns-3 Inv-loop μ-loop
+unfolding commitMove
+returns-3 c =
     let at-loop = c .before .before .before .before in
-    let at-lane = at-loop .before .before .before .before .before in
-    let at-if = at-lane .before .before in
-    let at-answer = at-if .before .before in
-    let args = at-answer .before .before .args in
-    let e : at-loop .loop .h ≡ 8 = omega arith in
-    commit-done (args .s) (args .k) (args .a) (args .v) _ _ (at-answer .move-answer .ensures)
-    (turns-all (args .v .to) (args .v .message) (args .v .control) _ (at-loop .loop .t) (at-loop .loop .h) (at-loop .loop .inv .1) e)
-    (sym (at-if .before .refused .ensures) ∙ at-if .if1 .left)
+    let at-if1 = at-loop .before .before .before .before .before .before in
+    let args = at-if1 .before .before .args in
+    let none : at-loop .loop .left ≡ 0 = omega arith in
+    let w : Posted (args .v .to) (args .v .message) _ (at-loop .loop .t) 0 (at-loop .loop .inv .0) = rw none at (at-loop .loop .inv .1) in
+    rw (
+      commitMove,
+      sym (at-if1 .before .refused .ensures) ∙ at-if1 .if1 .left,
+      room-all (args .v .to) (args .v .message) _ (at-loop .loop .t) (at-loop .loop .inv .0) w,
+    )
+    (ap (λ (u : Store). record { answer = args .v .answer; store = withControl u (args .v .control) })
+    (posted-all (args .v .to) (args .v .message) _ (at-loop .loop .t) (at-loop .loop .inv .0) w))
 
 pub commit-move-spec : {M : Type 1} → statement M
 commit-move-spec =
@@ -102,7 +129,6 @@ commit-move-spec =
     (tie.spec
     Inv-loop
     μ-loop
-    move-answer-requires
     refused-requires
     returns
     cast-i
@@ -112,13 +138,15 @@ commit-move-spec =
     mul-b
     element-set-from-b
     loop-holds
-    array-read-if2
+    lowest-requires
     mul-old
     element-copy-out-old
+    refused-requires-2
+    returns-2
     post-requires
     mul-new
     element-set-from-new
-    add-h
+    without-lowest-requires
     loop-less
     loop-again
-    returns-2)
+    returns-3)

@@ -44,7 +44,7 @@ module _ (to : List Bool) (x : DownMessage) where
   posts-length (suc t) ls = post-length t (upTo (postTo to x) t ls) ∙ posts-length t ls
 
   -- before its turn, and after it
-  posts-before : (t j : ℕ) (ls : List Lane) → t ≤ j → getD (upTo (postTo to x) t ls) j noLane ≡ getD ls j noLane
+  pub posts-before : (t j : ℕ) (ls : List Lane) → t ≤ j → getD (upTo (postTo to x) t ls) j noLane ≡ getD ls j noLane
   unfolding upTo
   posts-before zero j ls h = refl
   posts-before (suc t) j ls h = post-other t j (upTo (postTo to x) t ls) (λ e. omega arith) ∙ posts-before t j ls (omega arith)

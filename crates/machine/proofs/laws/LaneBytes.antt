@@ -1,17 +1,21 @@
 -- A set of lanes and its byte say the same, lane by lane. Assumes nothing.
 use Prim.Native.Nat.{ℕ, zero, suc, _+_, _-_, _*_, _/_, _%_, _^_, _<_, _≤_}
-use native.Mathlib.Nat.{add-comm, add-zero, add-mul-div-right, mul-add-mod-self-right, pow-suc, zero-lt-suc, eq-or-lt-of-le}
+use native.Mathlib.Nat.{one-mul, add-comm, add-zero, add-mul-div-right, mul-add-mod-self-right, pow-suc, zero-lt-suc, eq-or-lt-of-le}
 use native.Mathlib.Omega.{arith}
 use mathlib.Core.Logic.{_⊎_, inl, inr}
 use mathlib.Core.Path.{_≡_, refl, sym, ap, _∙_}
-use mathlib.Core.Bool.{Bool, true, false, cond}
+use mathlib.Core.Bool.{Bool, true, false, not, cond}
 use mathlib.Core.List.{List}
 use lib.Dec.{eqb}
-use lib.ListN.{length}
-use lib.Pow.{pow-add, pow-pos, high}
+use lib.Count.{onesIn, ones}
+use borrow.Author.Tests.{eqb-true}
+use lib.ListN.{length, set}
+use lib.Pow.{pow-add, pow-pos, high, shl-exact}
 use lib.Seq.{ext-getD}
-use Rattle.words.specs.Folds.{countTo, sumTo}
-use Rattle.store.specs.LaneSets.{goesTo, countOf}
+use Rattle.words.specs.declared.LaneNo.{LaneNo}
+use Rattle.words.specs.Folds.{anyTo, countTo, sumTo}
+use Rattle.words.proofs.Folds.{any-false}
+use Rattle.store.specs.LaneSets.{nobody, only, goesTo, countOf}
 use Rattle.machine.specs.LaneBytes.{bitOf, bitsIn, byteOf, lanesOf}
 
 -- lane j's flag in a byte's set is bit j
@@ -88,3 +92,32 @@ module _ (to : List Bool) where
   -- the byte's set is the set
   pub byte-lanes : length to ≡ 8 → lanesOf (byteOf to) ≡ to
   byte-lanes e = ext-getD false (lanesOf (byteOf to)) to (sym e) (λ j h. lanes-bit (byteOf to) j h ∙ byte-bit j h)
+
+-- the byte of one lane is its bit alone
+one-lane : (j : ℕ) → j < 8 → byteOf (set nobody j true) ≡ 2 ^ j
+unfolding byteOf sumTo
+one-lane zero h = refl
+one-lane (suc zero) h = refl
+one-lane (suc (suc zero)) h = refl
+one-lane (suc (suc (suc zero))) h = refl
+one-lane (suc (suc (suc (suc zero)))) h = refl
+one-lane (suc (suc (suc (suc (suc zero))))) h = refl
+one-lane (suc (suc (suc (suc (suc (suc zero)))))) h = refl
+one-lane (suc (suc (suc (suc (suc (suc (suc zero))))))) h = refl
+one-lane (suc (suc (suc (suc (suc (suc (suc (suc j)))))))) h = absurd (omega arith)
+
+pub only-byte : (k : LaneNo) → k .0 < 8 → 1 * 2 ^ k .0 % 2 ^ 8 ≡ byteOf (only k)
+only-byte k h = let f : 1 + k .0 ≤ 8 = omega arith in let o : 1 < 2 ^ 1 = omega arith in shl-exact 1 (k .0) 8 o f ∙ (one-mul (2 ^ k .0) ∙ sym (one-lane (k .0) h))
+
+-- ---- a test that each of the 256 bytes passes, computed
+pub each : (test : ℕ → Bool) → anyTo (λ x. not (test x)) 256 ≡ false → (x : ℕ) → x < 256 → test x ≡ true
+each test e x h = go (test x) (any-false (λ y. not (test y)) 256 x e h)
+  where
+    go : (b : Bool) → not b ≡ false → b ≡ true
+    go true q = refl
+    go false q = sym q
+
+-- the set digits are the set bits
+pub ones-bits : (x : ℕ) → x < 256 → ones x ≡ bitsIn x
+unfolding anyTo ones onesIn bitsIn countTo
+ones-bits x h = eqb-true (ones x) (bitsIn x) (each (λ y. eqb (ones y) (bitsIn y)) refl x h)

@@ -38,10 +38,10 @@ use Rattle.machine.specs.Change.{someFull, movedStore}
 use Rattle.machine.specs.Serve.{ordered, orderOf, grantOf, close, serviceFor, serveMove}
 use Rattle.machine.specs.Settle.{isOrder}
 use Rattle.machine.specs.Sized.{Sized}
-use Rattle.machine.specs.LaneBytes.{bitOf, bitsIn}
+use Rattle.machine.specs.LaneBytes.{bitOf, bitsIn, lanesOf}
 use Rattle.machine.specs.ServeByte.{ordersByte, downsAt, Gains, GoesByByte, ServeByByte}
 use Rattle.machine.proofs.laws.Tests.{on}
-use Rattle.machine.proofs.laws.LaneBytes.{byte-bit, byte-count}
+use Rattle.machine.proofs.laws.LaneBytes.{byte-bit, byte-count, byte-lanes}
 use Rattle.machine.proofs.bounds.Sound.{sound}
 use Rattle.machine.proofs.bounds.KeepsLane.{clash}
 use Rattle.machine.proofs.rules.Rules.{ServeReady, served, serve-rule, move-rule}
@@ -50,6 +50,20 @@ use Rattle.machine.proofs.protocol.Directories.{nobody-none, order-self
 use Rattle.machine.proofs.projection.Queued.{queuedDowns, push-downs}
 use Rattle.machine.proofs.projection.Project.{getD-set, goes-below, room, lane-sent}
 use Rattle.machine.proofs.store.ConsistentServe.{goes-none, grant-block, ordered-length, only-length, not-busy}
+
+-- ---- the byte of a serve's orders says what `ordered` says
+module _ (b : Block) (k : LaneNo) (x : Command) where
+  pub orders-bit : (j : ℕ) → j < 8 → bitOf (ordersByte b k x) j ≡ goesTo (ordered b k x) j
+  unfolding ordersByte
+  orders-bit j h = byte-bit (ordered b k x) j h
+
+  pub orders-count : bitsIn (ordersByte b k x) ≡ countOf (ordered b k x)
+  unfolding ordersByte
+  orders-count = byte-count (ordered b k x)
+
+  pub orders-lanes : length (b .present) ≡ 8 → lanesOf (ordersByte b k x) ≡ ordered b k x
+  unfolding ordersByte
+  orders-lanes e = byte-lanes (ordered b k x) (ordered-length b k x e)
 
 -- ---- lists with one message more
 -- no list is itself with one more
@@ -145,12 +159,10 @@ module _ (s : Store) (k : LaneNo) (o : Operation) (z : Sized s) (r : ServeReady 
   to-length = ordered-length b k (o .command) (z .present (a .0) entry-below)
 
   bit : (j : ℕ) → j < 8 → bitOf x j ≡ goesTo to j
-  unfolding ordersByte
-  bit j h = byte-bit to j h
+  bit j h = orders-bit b k (o .command) j h
 
   bits : bitsIn x ≡ countOf to
-  unfolding ordersByte
-  bits = byte-count to
+  bits = orders-count b k (o .command)
 
   -- orders go out
   abbrev opening : Move

@@ -1,15 +1,19 @@
 -- `serving::serve_move` meets its contract: the service closes at once where no lane is ordered, else the orders go out. Assumes nothing.
 use borrow.Author.Tests.{eq-eqb, ne-eqb}
 use native.Mathlib.Omega.{arith}
-use mathlib.Core.Path.{ap}
+use mathlib.Core.Path.{_≡_, ap, _∙_}
+use lib.ListN.{length, length-map}
 use Rattle.store.specs.declared.Service.{Service}
-use Rattle.machine.specs.Serve.{serveMove}
+use Rattle.store.specs.LaneSets.{countOf}
+use Rattle.machine.specs.LaneBytes.{bitsIn}
+use Rattle.machine.specs.Serve.{ordered, serveMove}
+use Rattle.machine.proofs.store.ServeByte.{orders-count, orders-lanes}
 use borrow.Author.Needs.{needs}
 use Rattle.serving.proofs.serve_move.Statement.{statement}
 use Rattle.serving.proofs.serve_move.Tie as tie
 
-ordered-lanes-requires : tie.Need-ordered-lanes-requires
-ordered-lanes-requires c κs = search needs
+orders-byte-requires : tie.Need-orders-byte-requires
+orders-byte-requires c κs = search needs
 
 count-requires : tie.Need-count-requires
 count-requires c κs = search needs
@@ -25,7 +29,12 @@ close-service-requires c κs = omega (arith, ap (λ (v : Service). v .lane .0) (
 
 returns : tie.Need-returns
 unfolding serveMove
-returns c = rw (serveMove, ← c .before .before .before .before .before .ordered-lanes .ensures, ← c .before .before .before .before .count .ensures, eq-eqb _ _ (c .before .if1 .taken), c .close-service .ensures, c .before .before .with-waiting .ensures, c .before .before .before .service-for .ensures)
+returns c =
+    let at-count = c .before .before .before .before in
+    let args = at-count .before .before .args in
+    let n : at-count .count .result ≡ countOf (ordered (args .b) (args .k) (args .o .command)) =
+    at-count .count .ensures ∙ (ap bitsIn (at-count .before .orders-byte .ensures) ∙ orders-count (args .b) (args .k) (args .o .command)) in
+    rw (serveMove, ← n, eq-eqb _ _ (c .before .if1 .taken), c .close-service .ensures, c .before .before .with-waiting .ensures, c .before .before .before .service-for .ensures)
 
 order-kind-requires : tie.Need-order-kind-requires
 order-kind-requires c κs = search needs
@@ -44,12 +53,16 @@ returns-2 c =
     let at-with-waiting = at-if1 .before in
     let at-service-for = at-with-waiting .before in
     let at-count = at-service-for .before in
-    let at-ordered-lanes = at-count .before in
+    let args = at-count .before .before .args in
+    let n : at-count .count .result ≡ countOf (ordered (args .b) (args .k) (args .o .command)) =
+    at-count .count .ensures ∙ (ap bitsIn (at-count .before .orders-byte .ensures) ∙ orders-count (args .b) (args .k) (args .o .command)) in
+    let flags : length (args .b .present) ≡ 8 = simp length-map at (at-count .before .before .good .1 .0 .1 .1 .1 .0 .1 .0 .1) in
     rw (
       serveMove,
-      ← at-ordered-lanes .ordered-lanes .ensures,
-      ← at-count .count .ensures,
+      ← n,
       ne-eqb _ _ (at-if1 .if1 .left),
+      at-count .before .orders-byte .ensures,
+      orders-lanes (args .b) (args .k) (args .o .command) flags,
       c .bare-down .ensures,
       c .before .block .ensures,
       at-order-kind .order-kind .ensures,
@@ -61,7 +74,7 @@ pub serve-move-spec : {M : Type 1} → statement M
 serve-move-spec =
     tie.close
     (tie.spec
-    ordered-lanes-requires
+    orders-byte-requires
     count-requires
     service-for-requires
     with-waiting-requires
