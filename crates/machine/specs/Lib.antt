@@ -4,6 +4,7 @@ pub mod Corruption
 pub mod Change
 pub mod Begin
 pub mod Serve
+pub mod LaneBytes
 pub mod Return
 pub mod Deliver
 pub mod Settle
@@ -22,7 +23,6 @@ pub mod UseOrders
 pub mod SameValues
 pub mod Completion
 pub mod Potential
-pub mod LaneBytes
 pub mod ServeByte
 pub mod PictureOrder
 pub mod Table

@@ -1,4 +1,4 @@
--- 02, W4: the byte that a serve works out before it queues an order, and what that serve then does. The claims are only stated here;
+-- 02, W4: what a serve does by the byte that it works out before it queues an order (`ordersByte`, LaneBytes.antt). This file only states it;
 -- proofs/Theorems.antt has the theorem. Assumes nothing.
 use Prim.Native.Nat.{ℕ, _<_}
 use mathlib.Core.Path.{_≡_}
@@ -10,24 +10,18 @@ use Rattle.words.specs.declared.BlockNo.{BlockNo}
 use Rattle.words.specs.Units.{blockOf}
 use Rattle.queues.specs.declared.DownMessage.{DownMessage}
 use Rattle.queues.specs.Queues.{messages}
-use Rattle.lanes.specs.declared.Command.{Command}
 use Rattle.lanes.specs.declared.Operation.{Operation}
 use Rattle.lanes.specs.declared.Waiting.the-variants.{Unserved}
 use Rattle.answers.specs.Refusals.{refusedOf}
 use Rattle.store.specs.declared.Store.{Store}
-use Rattle.store.specs.declared.Block.{Block}
 use Rattle.store.specs.declared.Service.{Service}
 use Rattle.store.specs.declared.Lookup.the-variants.{Of, Nothing}
 use Rattle.store.specs.Control.{serviceOf}
 use Rattle.store.specs.Stores.{laneAt, blockAt}
 use Rattle.machine.specs.Sized.{Sized}
 use Rattle.machine.specs.Settle.{isOrder}
-use Rattle.machine.specs.Serve.{ordered, serveOf}
-use Rattle.machine.specs.LaneBytes.{bitOf, bitsIn, byteOf}
-
--- the byte that lane k's command on block b has
-unfoldable pub ordersByte : Block → LaneNo → Command → ℕ
-ordersByte b k x = byteOf (ordered b k x)
+use Rattle.machine.specs.Serve.{serveOf}
+use Rattle.machine.specs.LaneBytes.{bitOf, bitsIn, ordersByte}
 
 -- the messages of lane j's down queue, head first
 abbrev pub downsAt : Store → ℕ → List DownMessage

@@ -10,16 +10,17 @@ use Rattle.words.specs.declared.BlockNo.{BlockNo}
 use Rattle.words.specs.declared.Op.the-variants as Op
 use Rattle.words.specs.Operations.{applyOf}
 use Rattle.words.specs.Lines.{filledLine}
-use Rattle.words.specs.Units.{shaped}
+use Rattle.words.specs.Units.{shaped, blockOf}
 use Rattle.queues.specs.declared.DownKind.{DownKind}
 use Rattle.queues.specs.declared.DownKind.the-variants.{Update, Purge, Grant, BareGrant}
 use Rattle.queues.specs.declared.ReturnKind.the-variants.{Gone}
 use Rattle.queues.specs.Queues.{pushReturn}
 use Rattle.queues.specs.Messages.{bareReturn, bareDown}
-use Rattle.lanes.specs.declared.Command.the-variants.{ReadShared, ReadExclusive}
+use Rattle.lanes.specs.declared.Command.{Command}
+use Rattle.lanes.specs.declared.Command.the-variants.{ReadShared, ReadExclusive, Exclude}
 use Rattle.lanes.specs.declared.Operation.{Operation}
 use Rattle.lanes.specs.declared.Waiting.{Waiting}
-use Rattle.lanes.specs.declared.Waiting.the-variants.{Unserved, Served}
+use Rattle.lanes.specs.declared.Waiting.the-variants.{Idle, Unserved, Served}
 use Rattle.lanes.specs.UseOrder.{Insertion, Newest, LoadsOldest}
 use Rattle.lanes.specs.Lanes.{withWaiting, withReturns, withDowns, withLine, withOrder}
 use Rattle.answers.specs.declared.Answer.{Answer}
@@ -29,15 +30,18 @@ use Rattle.answers.specs.declared.Completion.{Completion}
 use Rattle.answers.specs.Completions.{completionOf}
 use Rattle.answers.specs.Refusals.{numberOf}
 use Rattle.store.specs.declared.Store.{Store}
-use Rattle.store.specs.declared.Control.the-variants.{Busy}
+use Rattle.store.specs.declared.Control.{Control}
+use Rattle.store.specs.declared.Control.the-variants.{Free, Busy}
 use Rattle.store.specs.Opening.{freshOf, openOf, line}
 use Rattle.store.specs.Stores.{laneAt, blockAt, withCompletions, withLane, withControl, withBlock}
 use Rattle.store.specs.Quiet.{quietOf}
-use Rattle.store.specs.Blocks.{withPresent}
+use Rattle.store.specs.Blocks.{withPresent, withModified}
 use Rattle.machine.specs.declared.Settled.{Settled}
 use Rattle.machine.specs.declared.Settled.the-variants.{Steps}
 use Rattle.machine.specs.declared.Filled.the-variants as Filled
 use Rattle.machine.specs.Change.{posted}
+use Rattle.machine.specs.Serve.{serveOf}
+use Rattle.machine.specs.LaneBytes.{bitsIn, ordersByte}
 use Rattle.machine.specs.Settle.{lane, boundOf}
 use Rattle.machine.specs.Flags.{lineIn}
 use Rattle.machine.specs.Calls.{Call, Begin, Serve, Return, Deliver, Settle, Reply, Entry, run}
@@ -45,7 +49,7 @@ use Rattle.machine.specs.Fill.{Filling}
 use Rattle.machine.specs.Picture.{pictureOf}
 use Rattle.machine.specs.Tape.{replayOf}
 use Rattle.machine.specs.Text.{printed, textMost, printOf}
-use Rattle.store.specs.LaneSets.{including}
+use Rattle.store.specs.LaneSets.{LaneSet, nobody, including}
 
 -- an answer in 01's words: open; done with lane, value and place; wait; step; refused with the number; a settle with its count and its completions
 pub data Said : Type 0 where
@@ -797,6 +801,69 @@ insertions =
     inOrder LoadsOldest (copied 0 0 0 0 (copied 0 1 1 0 (copied 0 2 2 0 (ordered (2 ∷ 0 ∷ 1 ∷ []) (opened 2 3 4))))) (load 0 12 ∷ []) (2 ∷ 0 ∷ 1 ∷ []) ∷
     []
 
+-- a set of lanes, by their numbers
+abbrev pub setOf : List ℕ → LaneSet
+setOf [] = nobody
+setOf (k ∷ ks) = including (lane k) (setOf ks)
+
+-- the byte of lane k's command on a block that these lanes of the eight have PRESENT, and its MODIFIED
+abbrev pub hasByte : ℕ → Command → List ℕ → Bool → ℕ → Row
+hasByte k x present modified byte =
+    record { given = Number (ordersByte (withModified modified (withPresent (setOf present) (blockAt (opened 8 1 1) 0))) (lane k) x); wanted = Number byte }
+
+-- how many bits of a byte are set
+abbrev pub hasBits : ℕ → ℕ → Row
+hasBits x n = record { given = Number (bitsIn x); wanted = Number n }
+
+-- the byte of what waits unserved on lane k
+abbrev pub waitingByte : Store → ℕ → Waiting → ℕ
+waitingByte s k Idle = 0
+waitingByte s k (Unserved o) = ordersByte (blockAt s (blockOf (o .word) .0)) (lane k) (o .command)
+waitingByte s k (Served o) = 0
+
+-- the answers that a control awaits
+abbrev pub awaitedBy : Control → ℕ
+awaitedBy Free = 0
+awaitedBy (Busy v) = v .awaited
+
+-- serve k after a list of calls on four lanes: its byte and the byte's set bits; after it, the answers awaited and the messages in each down queue
+abbrev pub servedByByte : List Call → ℕ → List ℕ → Row
+servedByByte cs k xs =
+    let s = run LoadsOldest (opened 4 1 2) cs .store in
+    let t = serveOf s (lane k) .store in
+    let x = waitingByte s k (laneAt s k .waiting) in
+    record { given = Bytes (x ∷ bitsIn x ∷ awaitedBy (t .control) ∷ map (λ j. laneAt t j .downs .len) (0 ∷ 1 ∷ 2 ∷ 3 ∷ [])); wanted = Bytes xs }
+
+-- lanes 1 and 2 load block 0
+abbrev pub twoCopies : List Call
+twoCopies = load 1 0 ∷ serve 1 ∷ deliver 1 ∷ load 2 0 ∷ serve 2 ∷ deliver 2 ∷ []
+
+-- 02, W4: the byte of a serve, bit j for each lane j that it sends an order
+abbrev pub serveBytes : List Row
+serveBytes =
+    -- every other PRESENT lane: READ exclusive, EXCLUDE, READ shared with MODIFIED set
+    hasByte 0 ReadExclusive (0 ∷ 1 ∷ 3 ∷ []) false 10 ∷
+    hasByte 1 Exclude (0 ∷ 1 ∷ 3 ∷ []) false 9 ∷
+    hasByte 0 ReadShared (5 ∷ []) true 32 ∷
+    hasByte 3 ReadExclusive (0 ∷ 1 ∷ 2 ∷ 3 ∷ 4 ∷ 5 ∷ 6 ∷ 7 ∷ []) false 247 ∷
+    hasByte 7 Exclude (0 ∷ 1 ∷ 2 ∷ 3 ∷ 4 ∷ 5 ∷ 6 ∷ 7 ∷ []) false 127 ∷
+    -- none: READ shared with MODIFIED reset, no other PRESENT lane
+    hasByte 0 ReadShared (1 ∷ 2 ∷ []) false 0 ∷
+    hasByte 2 Exclude (2 ∷ []) false 0 ∷
+    hasByte 2 ReadExclusive [] false 0 ∷
+    -- the number of set bits
+    hasBits 0 0 ∷
+    hasBits 128 1 ∷
+    hasBits 10 2 ∷
+    hasBits 127 7 ∷
+    hasBits 255 8 ∷
+    -- orders to the lanes of the byte, and as many answers awaited; of none, the grant and no service
+    servedByByte (twoCopies ++ (store 3 0 7 ∷ [])) 3 (6 ∷ 2 ∷ 2 ∷ 0 ∷ 1 ∷ 1 ∷ 0 ∷ []) ∷
+    servedByByte (twoCopies ++ (store 1 0 7 ∷ [])) 1 (4 ∷ 1 ∷ 1 ∷ 0 ∷ 0 ∷ 1 ∷ 0 ∷ []) ∷
+    servedByByte (twoCopies ++ (load 0 0 ∷ [])) 0 (0 ∷ 0 ∷ 0 ∷ 1 ∷ 0 ∷ 0 ∷ 0 ∷ []) ∷
+    servedByByte (filling (store 0 0 7) ++ (load 3 0 ∷ [])) 3 (1 ∷ 1 ∷ 1 ∷ 1 ∷ 0 ∷ 0 ∷ 0 ∷ []) ∷
+    []
+
 -- the table
 unfoldable pub rows : List Row
-rows = casesOf01 ++ races ++ shutOut ++ bounds ++ sentences ++ pictures ++ corruptStores ++ heldStores ++ places ++ insertions
+rows = casesOf01 ++ races ++ shutOut ++ bounds ++ sentences ++ pictures ++ corruptStores ++ heldStores ++ places ++ insertions ++ serveBytes

@@ -4,9 +4,8 @@
 ghost use mathlib.Core.Path.{_≡_};
 ghost use mathlib.Core.Bool.{cond};
 ghost use Prim.Native.Nat.{_<_};
-ghost use Rattle.machine.specs.LaneBytes.{bitsIn, byteOf, moveOf};
+ghost use Rattle.machine.specs.LaneBytes.{bitsIn, byteOf, ordersByte, moveOf};
 ghost use Rattle.machine.specs.Serve.{sendsOf, orderOf, bareOf, readyOf, serviceFor, serveMove};
-ghost use Rattle.machine.specs.ServeByte.{ordersByte};
 use answers::Answer;
 use answers::Refusal;
 use lanes::Command;

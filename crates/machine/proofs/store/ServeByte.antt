@@ -38,8 +38,8 @@ use Rattle.machine.specs.Change.{someFull, movedStore}
 use Rattle.machine.specs.Serve.{ordered, orderOf, grantOf, close, serviceFor, serveMove}
 use Rattle.machine.specs.Settle.{isOrder}
 use Rattle.machine.specs.Sized.{Sized}
-use Rattle.machine.specs.LaneBytes.{bitOf, bitsIn, lanesOf}
-use Rattle.machine.specs.ServeByte.{ordersByte, downsAt, Gains, GoesByByte, ServeByByte}
+use Rattle.machine.specs.LaneBytes.{bitOf, bitsIn, lanesOf, ordersByte}
+use Rattle.machine.specs.ServeByte.{downsAt, Gains, GoesByByte, ServeByByte}
 use Rattle.machine.proofs.laws.Tests.{on}
 use Rattle.machine.proofs.laws.LaneBytes.{byte-bit, byte-count, byte-lanes}
 use Rattle.machine.proofs.bounds.Sound.{sound}

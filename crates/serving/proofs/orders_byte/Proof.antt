@@ -1,8 +1,7 @@
 -- `serving::orders_byte` meets its contract. Assumes nothing.
 use Rattle.words.specs.Folds.{sumTo}
-use Rattle.machine.specs.LaneBytes.{byteOf}
+use Rattle.machine.specs.LaneBytes.{byteOf, ordersByte}
 use Rattle.machine.specs.Serve.{ordered}
-use Rattle.machine.specs.ServeByte.{ordersByte}
 use borrow.Author.Needs.{needs}
 use Rattle.serving.proofs.orders_byte.Statement.{statement}
 use Rattle.serving.proofs.orders_byte.Tie as tie
