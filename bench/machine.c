@@ -293,7 +293,12 @@ static void close_service(Store *s, const Control *service)
     s->control.busy = false;
 }
 
-static Answer serve(Store *s, unsigned k)
+/* bench/serves counts a serve's instructions apart: it compiles with SERVE_CALL as noinline, noclone */
+#ifndef SERVE_CALL
+#define SERVE_CALL
+#endif
+
+SERVE_CALL static Answer serve(Store *s, unsigned k)
 {
     if (k >= s->n)
         return refused(NO_SUCH_LANE);
@@ -318,14 +323,12 @@ static Answer serve(Store *s, unsigned k)
         close_service(s, &service);
         return stepped();
     }
-    for (unsigned j = 0; ordered >> j; j++)
-        if (ordered >> j & 1 && is_full(&s->lanes[j].downs))
+    for (unsigned left = ordered; left != 0; left &= left - 1)
+        if (is_full(&s->lanes[__builtin_ctz(left)].downs))
             return refused(QUEUE_FULL);
-    for (unsigned j = 0; ordered >> j; j++)
-        if (ordered >> j & 1) {
-            push(&s->lanes[j].downs, command == READ_SHARED ? UPDATE : PURGE, number);
-            service.awaited++;
-        }
+    for (unsigned left = ordered; left != 0; left &= left - 1)
+        push(&s->lanes[__builtin_ctz(left)].downs, command == READ_SHARED ? UPDATE : PURGE, number);
+    service.awaited = __builtin_popcount(ordered);
     waiting->state = SERVED;
     s->control = service;
     return stepped();
