@@ -326,9 +326,10 @@ SERVE_CALL static Answer serve(Store *s, unsigned k)
     for (unsigned left = ordered; left != 0; left &= left - 1)
         if (is_full(&s->lanes[__builtin_ctz(left)].downs))
             return refused(QUEUE_FULL);
-    for (unsigned left = ordered; left != 0; left &= left - 1)
+    for (unsigned left = ordered; left != 0; left &= left - 1) {
         push(&s->lanes[__builtin_ctz(left)].downs, command == READ_SHARED ? UPDATE : PURGE, number);
-    service.awaited = __builtin_popcount(ordered);
+        service.awaited++;
+    }
     waiting->state = SERVED;
     s->control = service;
     return stepped();
