@@ -7,8 +7,6 @@ use mathlib.Core.Bool.{Bool, true, false, _&&_}
 use mathlib.Core.Path.{_≡_, refl, sym, ap, _∙_}
 use mathlib.Core.List.{List}
 use lib.ListN.{getD, set}
-use Rattle.words.specs.declared.LaneNo.{LaneNo}
-use Rattle.words.specs.declared.BlockNo.{BlockNo}
 use Rattle.words.specs.Folds.{upTo, anyTo}
 use Rattle.words.proofs.Folds.{below?, upTo-none, upTo-more, any-none, any-more, any-true, any-false, any-never}
 use Rattle.queues.specs.declared.DownMessage.{DownMessage}

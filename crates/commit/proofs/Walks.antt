@@ -1,18 +1,17 @@
 -- A walk of the set bits of a byte, the lowest first. Assumes nothing.
-use Prim.Native.Nat.{ℕ, zero, suc, _+_, _-_, _^_, _<_, _≤_}
+use Prim.Native.Nat.{ℕ, _+_, _-_, _<_, _≤_}
 use native.Mathlib.Omega.{arith}
-use native.Mathlib.Numerals.{add-one}
 use mathlib.Core.Logic.{_⊎_, inl, inr}
 use mathlib.Core.Path.{_≡_, refl, sym, _∙_}
 use mathlib.Core.Bool.{Bool, true, false, true≢false, not, cond, _&&_, _||_}
 use lib.Dec.{eqb, ltb, leb}
 use lib.Bits.{bitAnd}
-use lib.Count.{under, trailingZeros}
+use lib.Count.{trailingZeros}
 use borrow.Author.Tests.{eqb-true, ne-eqb, ltb-true, lt-ltb, le-ltb, leb-true, le-leb, lt-leb}
 use Rattle.words.specs.Folds.{anyTo, lowestTo}
 use Rattle.words.proofs.Folds.{below?, any-false}
 use Rattle.machine.specs.LaneBytes.{bitOf}
-use Rattle.machine.proofs.laws.LaneBytes.{each}
+use Rattle.machine.proofs.laws.LaneBytes.{not-not, each}
 use Rattle.commit.specs.Bits.{lowestBit, withoutLowest}
 
 -- ---- the two operations
@@ -65,12 +64,8 @@ module _ (x : ℕ) (f : x < 256) where
   pub rest-bit : (i : ℕ) → i < 8 → bitOf (withoutLowest x) i ≡ (ltb (lowestBit x) i && bitOf x i)
   unfolding anyTo lowestTo lowestBit withoutLowest agree
   rest-bit i h =
-      agree-same _ _ (unnot _ (any-false (λ j. not (agree (bitOf (withoutLowest x) j) (ltb (lowestBit x) j && bitOf x j))) 8 i
+      agree-same _ _ (not-not _ (any-false (λ j. not (agree (bitOf (withoutLowest x) j) (ltb (lowestBit x) j && bitOf x j))) 8 i
       (not-false _ (each (λ y. not (anyTo (λ j. not (agree (bitOf (withoutLowest y) j) (ltb (lowestBit y) j && bitOf y j))) 8)) refl x f)) h))
-    where
-      unnot : (b : Bool) → not b ≡ false → b ≡ true
-      unnot true e = refl
-      unnot false e = sym e
 
 -- ---- a byte's bits at j and above, which are left when those below are done
 abbrev pub Left : ℕ → ℕ → ℕ → Type 0

@@ -1,9 +1,26 @@
--- A flag's bit is at most its value. Assumes nothing.
-use Prim.Native.Nat.{ℕ, _≤_}
-use native.Mathlib.Omega.{arith}
-use mathlib.Core.Bool.{Bool, true, false, cond}
-use mathlib.Core.Path.{_≡_}
+-- Eight flags, shifted and joined, are their byte. Assumes nothing.
+use Prim.Native.Nat.{ℕ, _*_, _%_, _^_}
+use mathlib.Core.Path.{_≡_, refl, sym, ap, _∙_}
+use mir.Val.{boolByte}
+use lib.Bits.{bitOr}
+use lib.Dec.{eqb}
+use lib.ListN.{length}
+use borrow.Author.Tests.{eqb-true}
+use Rattle.words.specs.Folds.{anyTo}
+use Rattle.store.specs.LaneSets.{LaneSet, goesTo}
+use Rattle.machine.specs.LaneBytes.{byteOf, lanesOf}
+use Rattle.machine.proofs.laws.LaneBytes.{each, byte-fits, byte-lanes}
 
-pub bit-most : (b : Bool) (v : ℕ) {r : ℕ} → r ≡ cond b v 0 → r ≤ v
-bit-most true v e = omega arith
-bit-most false v e = omega arith
+-- flag j in its place
+abbrev shifted : LaneSet → ℕ → ℕ
+shifted p j = boolByte (goesTo p j) * 2 ^ j % 256
+
+abbrev joined : LaneSet → ℕ
+joined p =
+    bitOr (bitOr (bitOr (bitOr (boolByte (goesTo p 0)) (shifted p 1)) (shifted p 2)) (shifted p 3))
+    (bitOr (bitOr (bitOr (shifted p 4) (shifted p 5)) (shifted p 6)) (shifted p 7))
+
+-- tried on the flags of each byte
+pub joined-byte : (p : LaneSet) → length p ≡ 8 → joined p ≡ byteOf p
+unfolding anyTo
+joined-byte p e = ap joined (sym (byte-lanes p e)) ∙ eqb-true (joined (lanesOf (byteOf p))) (byteOf p) (each (λ x. eqb (joined (lanesOf x)) x) refl (byteOf p) (byte-fits p))

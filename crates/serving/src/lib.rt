@@ -2,7 +2,6 @@
 // The orders of a serve are one byte, bit j (value 2 to the power j) for lane j, worked out before any of them is queued.
 // Functions with a requires are for the crates above and not for others.
 ghost use mathlib.Core.Path.{_≡_};
-ghost use mathlib.Core.Bool.{cond};
 ghost use Prim.Native.Nat.{_<_};
 ghost use Rattle.machine.specs.LaneBytes.{bitsIn, byteOf, ordersByte, moveOf};
 ghost use Rattle.machine.specs.Serve.{sendsOf, orderOf, bareOf, readyOf, serviceFor, serveMove};
@@ -42,23 +41,13 @@ fn order_kind(x: Command) -> DownKind
     }
 }
 
-// The value of a lane's bit if its flag is set, else 0.
-fn bit(flag: bool, value: u8) -> u8
-    ensures { λ r. ⌜ r ≡ cond flag value 0 ⌝ }
-{
-    if flag {
-        return value;
-    }
-    0
-}
-
 // Eight flags in a byte, without a loop.
 fn flags_byte(p: [bool; 8]) -> u8
     ensures { λ r. ⌜ r ≡ byteOf p ⌝ }
 {
-    let low = bit(p[0], 1) + bit(p[1], 2) + bit(p[2], 4) + bit(p[3], 8);
-    let high = bit(p[4], 16) + bit(p[5], 32) + bit(p[6], 64) + bit(p[7], 128);
-    low + high
+    let low = p[0] as u8 | (p[1] as u8) << 1 | (p[2] as u8) << 2 | (p[3] as u8) << 3;
+    let high = (p[4] as u8) << 4 | (p[5] as u8) << 5 | (p[6] as u8) << 6 | (p[7] as u8) << 7;
+    low | high
 }
 
 // The lanes that lane k's command sends orders to, in a byte.

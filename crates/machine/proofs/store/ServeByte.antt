@@ -82,13 +82,13 @@ only-other : (k : LaneNo) (j : ℕ) → j ≢ k .0 → goesTo (only k) j ≡ fal
 only-other k j n = getD-set-other nobody (k .0) j true false n ∙ nobody-none j
 
 -- a grant is no order, and what a command sends is one
-grant-kind : (b : Block) (v : Service) → isOrder (grantOf b v .kind) ≡ false
-grant-kind b v = by-cond (λ (x : DownMessage). isOrder (x .kind) ≡ false) (v .bare) _ _ refl refl
+grant-no-order : (b : Block) (v : Service) → isOrder (grantOf b v .kind) ≡ false
+grant-no-order b v = by-cond (λ (x : DownMessage). isOrder (x .kind) ≡ false) (v .bare) _ _ refl refl
 
-order-kind : (x : Command) → isOrder (orderOf x) ≡ true
-order-kind ReadShared = refl
-order-kind ReadExclusive = refl
-order-kind Exclude = refl
+order-sent : (x : Command) → isOrder (orderOf x) ≡ true
+order-sent ReadShared = refl
+order-sent ReadExclusive = refl
+order-sent Exclude = refl
 
 -- ---- the down queues after memory's part of a call that leaves its own lane's alone
 module _ (s : Store) (k : LaneNo) (a : BlockNo) (v : Move) (z : Sized s) (h : k .0 < 8) (t : length (v .to) ≡ 8) (same : v .lane .downs ≡ laneAt s (k .0) .downs)
@@ -170,7 +170,7 @@ module _ (s : Store) (k : LaneNo) (o : Operation) (z : Sized s) (r : ServeReady 
 
   opens : countOf to ≢ 0 → someFull to (set (s .lanes) (k .0) t) ≡ false → GoesByByte s (movedStore s k a opening) k a x
   opens some space = record {
-    set = λ j h e. (record { message = opening .message; behind = sent j (sym (bit j h) ∙ e); kind = order-kind (o .command) }, refl);
+    set = λ j h e. (record { message = opening .message; behind = sent j (sym (bit j h) ∙ e); kind = order-sent (o .command) }, refl);
     gains = λ j h g. bit j h ∙ gained s k a opening z lane-below to-length refl space j g .0;
     others = λ j h e n. kept j (sym (bit j h) ∙ e);
     awaits = λ n. (v, rw (eq-eqb (a .0) (a .0) refl) refl, sym bits, kept (k .0) (order-self b k (o .command)));
@@ -191,12 +191,12 @@ module _ (s : Store) (k : LaneNo) (o : Operation) (z : Sized s) (r : ServeReady 
   unfolding close
   closes none space = record {
     set = λ j h e. clash (cc (none-goes j, bit j h));
-    gains = λ j h g. clash (cc (grant-kind b v, gained s k a closing z lane-below (only-length k) refl space j g .1));
+    gains = λ j h g. clash (cc (grant-no-order b v, gained s k a closing z lane-below (only-length k) refl space j g .1));
     others = λ j h e n. kept j (only-other k j n);
     awaits = λ n. absurd (n (bits ∙ none));
     closed = λ e. (
       ap (λ (y : Control). serviceOf y a) (not-busy (s .control) (r .free)),
-      record { message = grantOf b v; behind = sent-downs s k a closing z lane-below (only-length k) refl space (k .0) (only-self k lane-below); kind = grant-kind b v },
+      record { message = grantOf b v; behind = sent-downs s k a closing z lane-below (only-length k) refl space (k .0) (only-self k lane-below); kind = grant-no-order b v },
       grant-block b v,
     );
   }
