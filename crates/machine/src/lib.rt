@@ -28,8 +28,8 @@ pub enum Ready {
     No(Refusal),
 }
 
-// Memory's part of a call: the answer; what becomes of the lane, the block and the control; the message that it sends, and to
-// which lanes. On a refusal lane, block and control are as they were and nothing is sent.
+// Memory's part of a call, as the definitions have it: the answer; what becomes of the lane, the block and the control; the message that it
+// sends, and to which lanes. On a refusal lane, block and control are as they were and nothing is sent.
 pub struct Move {
     pub answer: Answer,
     pub lane: Lane,
@@ -39,7 +39,7 @@ pub struct Move {
     pub message: DownMessage,
 }
 
-// A Move as the code hands it over: the lanes that the message goes to are in one byte, bit j (value 2 to the power j) for lane j.
+// Memory's part as the code hands it over: a Move whose lanes are in one byte, bit j (value 2 to the power j) for lane j.
 pub struct ByteMove {
     pub answer: Answer,
     pub lane: Lane,
