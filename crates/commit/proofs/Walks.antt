@@ -3,7 +3,7 @@ use Prim.Native.Nat.{ℕ, _+_, _-_, _<_, _≤_}
 use native.Mathlib.Omega.{arith}
 use mathlib.Core.Logic.{_⊎_, inl, inr}
 use mathlib.Core.Path.{_≡_, refl, sym, _∙_}
-use mathlib.Core.Bool.{Bool, true, false, true≢false, not, cond, _&&_, _||_}
+use mathlib.Core.Bool.{Bool, true, false, not, cond, _&&_, _||_}
 use lib.Dec.{eqb, ltb, leb}
 use lib.Bits.{bitAnd}
 use lib.Count.{trailingZeros}
@@ -11,7 +11,8 @@ use borrow.Author.Tests.{eqb-true, ne-eqb, ltb-true, lt-ltb, le-ltb, leb-true, l
 use Rattle.words.specs.Folds.{anyTo, lowestTo}
 use Rattle.words.proofs.Folds.{below?, any-false}
 use Rattle.machine.specs.LaneBytes.{bitOf}
-use Rattle.machine.proofs.laws.LaneBytes.{not-not, each}
+use Rattle.machine.proofs.laws.LaneBytes.{each}
+use Rattle.machine.proofs.laws.Tests.{and-both, not-false, not-true}
 use Rattle.commit.specs.Bits.{lowestBit, withoutLowest}
 
 -- ---- the two operations
@@ -24,12 +25,14 @@ unfolding anyTo lowestTo lowestBit withoutLowest
 and-without x h = eqb-true (bitAnd x (x - 1)) (withoutLowest x) (each (λ y. eqb (bitAnd y (y - 1)) (withoutLowest y)) refl x h)
 
 -- ---- the lowest set bit of a byte that isn't 0
-abbrev other : ℕ → Bool → Bool
-other x b = eqb x 0 || b
+-- a test of every number but 0
+abbrev unlessZero : ℕ → Bool → Bool
+unlessZero x b = eqb x 0 || b
 
-holds-other : (x : ℕ) (b : Bool) → 0 < x → other x b ≡ true → b ≡ true
-holds-other x b h e = rw (ne-eqb x 0 (λ q. omega arith)) at e
+not-zero : (x : ℕ) (b : Bool) → 0 < x → unlessZero x b ≡ true → b ≡ true
+not-zero x b h e = rw (ne-eqb x 0 (λ q. omega arith)) at e
 
+-- two tests that agree
 agree : Bool → Bool → Bool
 agree a b = cond a b (not b)
 
@@ -39,18 +42,14 @@ agree-same true b e = sym e
 agree-same false true e = e
 agree-same false false e = refl
 
-not-false : (b : Bool) → not b ≡ true → b ≡ false
-not-false true e = sym e
-not-false false e = refl
-
 module _ (x : ℕ) (f : x < 256) where
   pub lowest-below : 0 < x → lowestBit x < 8
   unfolding anyTo lowestTo lowestBit
-  lowest-below h = ltb-true (lowestBit x) 8 (holds-other x (ltb (lowestBit x) 8) h (each (λ y. other y (ltb (lowestBit y) 8)) refl x f))
+  lowest-below h = ltb-true (lowestBit x) 8 (not-zero x (ltb (lowestBit x) 8) h (each (λ y. unlessZero y (ltb (lowestBit y) 8)) refl x f))
 
   pub lowest-set : 0 < x → bitOf x (lowestBit x) ≡ true
   unfolding anyTo lowestTo lowestBit
-  lowest-set h = holds-other x (bitOf x (lowestBit x)) h (each (λ y. other y (bitOf y (lowestBit y))) refl x f)
+  lowest-set h = not-zero x (bitOf x (lowestBit x)) h (each (λ y. unlessZero y (bitOf y (lowestBit y))) refl x f)
 
   pub lowest-first : (i : ℕ) → i < lowestBit x → bitOf x i ≡ false
   unfolding anyTo lowestTo lowestBit
@@ -58,26 +57,18 @@ module _ (x : ℕ) (f : x < 256) where
 
   pub fewer : 0 < x → withoutLowest x < x
   unfolding anyTo lowestTo lowestBit withoutLowest
-  fewer h = ltb-true (withoutLowest x) x (holds-other x (ltb (withoutLowest x) x) h (each (λ y. other y (ltb (withoutLowest y) y)) refl x f))
+  fewer h = ltb-true (withoutLowest x) x (not-zero x (ltb (withoutLowest x) x) h (each (λ y. unlessZero y (ltb (withoutLowest y) y)) refl x f))
 
   -- the other bits stay
   pub rest-bit : (i : ℕ) → i < 8 → bitOf (withoutLowest x) i ≡ (ltb (lowestBit x) i && bitOf x i)
   unfolding anyTo lowestTo lowestBit withoutLowest agree
   rest-bit i h =
-      agree-same _ _ (not-not _ (any-false (λ j. not (agree (bitOf (withoutLowest x) j) (ltb (lowestBit x) j && bitOf x j))) 8 i
+      agree-same _ _ (not-true _ (any-false (λ j. not (agree (bitOf (withoutLowest x) j) (ltb (lowestBit x) j && bitOf x j))) 8 i
       (not-false _ (each (λ y. not (anyTo (λ j. not (agree (bitOf (withoutLowest y) j) (ltb (lowestBit y) j && bitOf y j))) 8)) refl x f)) h))
 
 -- ---- a byte's bits at j and above, which are left when those below are done
 abbrev pub Left : ℕ → ℕ → ℕ → Type 0
 Left to left j = (i : ℕ) → i < 8 → bitOf left i ≡ (leb j i && bitOf to i)
-
-and-left : (a b : Bool) → (a && b) ≡ true → a ≡ true
-and-left true b e = refl
-and-left false b e = e
-
-and-right : (a b : Bool) → (a && b) ≡ true → b ≡ true
-and-right true b e = e
-and-right false b e = absurd (true≢false (sym e))
 
 pub left-all : (to : ℕ) → Left to to 0
 left-all to i h = rw (le-leb 0 i (omega arith)) refl
@@ -93,10 +84,10 @@ module _ (to left j : ℕ) (l : Left to left j) (h : 0 < left) (f : left < 256) 
   set-left = sym (l (lowestBit left) (lowest-below left f h)) ∙ lowest-set left f h
 
   pub next-above : j ≤ lowestBit left
-  next-above = leb-true j (lowestBit left) (and-left _ _ set-left)
+  next-above = leb-true j (lowestBit left) (and-both _ _ set-left .0)
 
   pub next-set : bitOf to (lowestBit left) ≡ true
-  next-set = and-right (leb j (lowestBit left)) _ set-left
+  next-set = and-both (leb j (lowestBit left)) _ set-left .1
 
   pub next-first : (i : ℕ) → j ≤ i → i < lowestBit left → bitOf to i ≡ false
   next-first i a b =

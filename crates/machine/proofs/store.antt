@@ -4,6 +4,7 @@ pub mod ConsistentLane
 pub mod ConsistentMove
 pub mod ConsistentOpen
 pub mod ConsistentBegin
+pub mod ServeBounds
 pub mod ConsistentServe
 pub mod ConsistentReturn
 pub mod ConsistentDeliver

@@ -27,7 +27,7 @@ use Rattle.machine.specs.LaneBytes.{bitOf, bitsIn, ordersByte}
 abbrev pub downsAt : Store → ℕ → List DownMessage
 downsAt s j = messages (laneAt s j .downs .len) (laneAt s j .downs .at)
 
--- from s to t lane j's down queue gains an order, an UPDATE or a PURGE, or a grant: it stands behind the messages that were there
+-- from s to t lane j's down queue gains one message, an order (UPDATE or PURGE) or a grant, behind those that were there
 pub record Gains (order : Bool) (s t : Store) (j : ℕ) : Type 0 where
   pub message : DownMessage
   pub behind : downsAt t j ≡ downsAt s j ++ (message ∷ [])
@@ -41,13 +41,14 @@ GainsGrant s t j = Gains false s t j
 
 -- a serve of lane k's operation on block a that has the byte x, by the stores before and after it
 pub record GoesByByte (s t : Store) (k : LaneNo) (a : BlockNo) (x : ℕ) : Type 0 where
+  pub fits : x < 256
   -- bit j is set exactly when lane j's down queue gains an order, which is about the block
   pub set : (j : ℕ) → j < 8 → bitOf x j ≡ true → (g : GainsOrder s t j) × (g .message .block ≡ a)
   pub gains : (j : ℕ) → j < 8 → GainsOrder s t j → bitOf x j ≡ true
   -- the other down queues stay, all but lane k's
   pub others : (j : ℕ) → j < 8 → bitOf x j ≡ false → j ≢ k .0 → downsAt t j ≡ downsAt s j
   -- with orders: the block's service awaits as many answers as bits are set, and lane k's queue stays too
-  pub awaits : bitsIn x ≢ 0 → (v : Service) × (serviceOf (t .control) a ≡ Of v) × (v .awaited ≡ bitsIn x) × (downsAt t (k .0) ≡ downsAt s (k .0))
+  pub awaits : bitsIn x ≢ 0 → (v : Service) × (serviceOf (t .control) a ≡ Of v) × (v .lane ≡ k) × (v .awaited ≡ bitsIn x) × (downsAt t (k .0) ≡ downsAt s (k .0))
   -- with none: the service closed in that step, and lane k has the grant
   pub closed : bitsIn x ≡ 0 → (serviceOf (t .control) a ≡ Nothing) × (g : GainsGrant s t (k .0)) × (g .message .block ≡ a)
 

@@ -40,9 +40,8 @@ use Rattle.machine.specs.declared.Settled.{Settled}
 use Rattle.machine.specs.declared.Settled.the-variants.{Steps}
 use Rattle.machine.specs.declared.Filled.the-variants as Filled
 use Rattle.machine.specs.Change.{posted}
-use Rattle.machine.specs.Serve.{serveOf}
-use Rattle.machine.specs.LaneBytes.{bitsIn, ordersByte}
-use Rattle.machine.specs.Settle.{lane, boundOf}
+use Rattle.machine.specs.LaneBytes.{bitsIn, ordersByte, lanesOf}
+use Rattle.machine.specs.Settle.{lane, downsOf, boundOf}
 use Rattle.machine.specs.Flags.{lineIn}
 use Rattle.machine.specs.Calls.{Call, Begin, Serve, Return, Deliver, Settle, Reply, Entry, run}
 use Rattle.machine.specs.Fill.{Filling}
@@ -60,7 +59,7 @@ pub data Said : Type 0 where
   refused : ℕ → Said
   settled : ℕ → List Completion → Said
 
--- what a row shows: the answer of an opening with n, c and m of its store, the answers of a list of calls or of a tape, bytes, a word, a number, a flag, a use order, or what a lent buffer is filled with
+-- what a row shows: the answer of an opening with n, c and m of its store, the answers of a list of calls or of a tape, bytes, a word, a number, a flag, flags, a use order, or what a lent buffer is filled with
 pub data Shown : Type 0 where
   Opening : Said → ℕ → ℕ → ℕ → Shown
   Says : List Said → Shown
@@ -68,6 +67,7 @@ pub data Shown : Type 0 where
   Word : ℕ → Shown
   Number : ℕ → Shown
   Flag : Bool → Shown
+  Flags : List Bool → Shown
   Order : List ℕ → Shown
   Fills : Filling → Shown
 
@@ -806,14 +806,17 @@ abbrev pub setOf : List ℕ → LaneSet
 setOf [] = nobody
 setOf (k ∷ ks) = including (lane k) (setOf ks)
 
--- the byte of lane k's command on a block that these lanes of the eight have PRESENT, and its MODIFIED
+-- the byte of lane k's command, on a block for which these lanes have PRESENT and MODIFIED is so
 abbrev pub hasByte : ℕ → Command → List ℕ → Bool → ℕ → Row
 hasByte k x present modified byte =
     record { given = Number (ordersByte (withModified modified (withPresent (setOf present) (blockAt (opened 8 1 1) 0))) (lane k) x); wanted = Number byte }
 
--- how many bits of a byte are set
-abbrev pub hasBits : ℕ → ℕ → Row
-hasBits x n = record { given = Number (bitsIn x); wanted = Number n }
+-- a byte, how many of its bits are set, and the lanes that it stands for
+abbrev pub hasBits : ℕ → ℕ → List ℕ → List Row
+hasBits x n ks =
+    record { given = Number (bitsIn x); wanted = Number n } ∷
+    record { given = Flags (lanesOf x); wanted = Flags (setOf ks) } ∷
+    []
 
 -- the byte of what waits unserved on lane k
 abbrev pub waitingByte : Store → ℕ → Waiting → ℕ
@@ -821,22 +824,27 @@ waitingByte s k Idle = 0
 waitingByte s k (Unserved o) = ordersByte (blockAt s (blockOf (o .word) .0)) (lane k) (o .command)
 waitingByte s k (Served o) = 0
 
--- the answers that a control awaits
-abbrev pub awaitedBy : Control → ℕ
-awaitedBy Free = 0
-awaitedBy (Busy v) = v .awaited
+-- the answers that a control awaits: none, or those of its service
+abbrev pub awaitedBy : Control → List ℕ
+awaitedBy Free = []
+awaitedBy (Busy v) = v .awaited ∷ []
 
--- serve k after a list of calls on four lanes: its byte and the byte's set bits; after it, the answers awaited and the messages in each down queue
-abbrev pub servedByByte : List Call → ℕ → List ℕ → Row
-servedByByte cs k xs =
-    let s = run LoadsOldest (opened 4 1 2) cs .store in
-    let t = serveOf s (lane k) .store in
-    let x = waitingByte s k (laneAt s k .waiting) in
-    record { given = Bytes (x ∷ bitsIn x ∷ awaitedBy (t .control) ∷ map (λ j. laneAt t j .downs .len) (0 ∷ 1 ∷ 2 ∷ 3 ∷ [])); wanted = Bytes xs }
+-- serve k of four lanes after an operation that waits: its byte; after it, what the service awaits, if there is one, and the orders and the grants in each down queue
+abbrev pub servedByByte : Store → Call → ℕ → ℕ → List ℕ → List ℕ → List ℕ → List Row
+servedByByte s x k byte awaited orders grants =
+    record { given = Number (waitingByte (after s (x ∷ [])) k (laneAt (after s (x ∷ [])) k .waiting)); wanted = Number byte } ∷
+    record { given = Bytes (awaitedBy (after s (x ∷ serve k ∷ []) .control)); wanted = Bytes awaited } ∷
+    record { given = Bytes (map (λ j. downsOf true (laneAt (after s (x ∷ serve k ∷ [])) j .downs)) (0 ∷ 1 ∷ 2 ∷ 3 ∷ [])); wanted = Bytes orders } ∷
+    record { given = Bytes (map (λ j. downsOf false (laneAt (after s (x ∷ serve k ∷ [])) j .downs)) (0 ∷ 1 ∷ 2 ∷ 3 ∷ [])); wanted = Bytes grants } ∷
+    []
 
--- lanes 1 and 2 load block 0
-abbrev pub twoCopies : List Call
-twoCopies = load 1 0 ∷ serve 1 ∷ deliver 1 ∷ load 2 0 ∷ serve 2 ∷ deliver 2 ∷ []
+-- lanes 1 and 2 have a copy of block 0
+abbrev pub twoCopies : Store
+twoCopies = flagged 1 (flagged 2 (opened 4 1 1))
+
+-- .. and lane k's down queue is full
+abbrev pub fullDowns : ℕ → Store
+fullDowns k = sent Purge k 0 (sent Purge k 0 twoCopies)
 
 -- 02, W4: the byte of a serve, bit j for each lane j that it sends an order
 abbrev pub serveBytes : List Row
@@ -851,18 +859,25 @@ serveBytes =
     hasByte 0 ReadShared (1 ∷ 2 ∷ []) false 0 ∷
     hasByte 2 Exclude (2 ∷ []) false 0 ∷
     hasByte 2 ReadExclusive [] false 0 ∷
-    -- the number of set bits
-    hasBits 0 0 ∷
-    hasBits 128 1 ∷
-    hasBits 10 2 ∷
-    hasBits 127 7 ∷
-    hasBits 255 8 ∷
+    -- the number of set bits, and the lanes
+    (hasBits 0 0 [] ++
+    hasBits 128 1 (7 ∷ []) ++
+    hasBits 10 2 (1 ∷ 3 ∷ []) ++
+    hasBits 127 7 (0 ∷ 1 ∷ 2 ∷ 3 ∷ 4 ∷ 5 ∷ 6 ∷ []) ++
+    hasBits 255 8 (0 ∷ 1 ∷ 2 ∷ 3 ∷ 4 ∷ 5 ∷ 6 ∷ 7 ∷ []) ++
     -- orders to the lanes of the byte, and as many answers awaited; of none, the grant and no service
-    servedByByte (twoCopies ++ (store 3 0 7 ∷ [])) 3 (6 ∷ 2 ∷ 2 ∷ 0 ∷ 1 ∷ 1 ∷ 0 ∷ []) ∷
-    servedByByte (twoCopies ++ (store 1 0 7 ∷ [])) 1 (4 ∷ 1 ∷ 1 ∷ 0 ∷ 0 ∷ 1 ∷ 0 ∷ []) ∷
-    servedByByte (twoCopies ++ (load 0 0 ∷ [])) 0 (0 ∷ 0 ∷ 0 ∷ 1 ∷ 0 ∷ 0 ∷ 0 ∷ []) ∷
-    servedByByte (filling (store 0 0 7) ++ (load 3 0 ∷ [])) 3 (1 ∷ 1 ∷ 1 ∷ 1 ∷ 0 ∷ 0 ∷ 0 ∷ []) ∷
-    []
+    servedByByte twoCopies (store 3 0 7) 3 6 (2 ∷ []) (0 ∷ 1 ∷ 1 ∷ 0 ∷ []) (0 ∷ 0 ∷ 0 ∷ 0 ∷ []) ++
+    servedByByte twoCopies (store 1 0 7) 1 4 (1 ∷ []) (0 ∷ 0 ∷ 1 ∷ 0 ∷ []) (0 ∷ 0 ∷ 0 ∷ 0 ∷ []) ++
+    servedByByte twoCopies (load 0 0) 0 0 [] (0 ∷ 0 ∷ 0 ∷ 0 ∷ []) (1 ∷ 0 ∷ 0 ∷ 0 ∷ []) ++
+    -- 12 for a full queue of a lane in the byte, the first and the last; a full queue of another lane, the asking one too, is not looked at
+    (on (fullDowns 1) (store 3 0 7 says wait ∷ serve 3 says refused 12 ∷ []) ∷
+    on (fullDowns 2) (store 3 0 7 says wait ∷ serve 3 says refused 12 ∷ []) ∷
+    on (fullDowns 0) (store 3 0 7 says wait ∷ serve 3 says step ∷ []) ∷
+    on (fullDowns 3) (store 3 0 7 says wait ∷ serve 3 says step ∷ []) ∷
+    -- .. and with the byte 0 the asking lane's, for the grant, alone
+    on (fullDowns 0) (load 0 0 says wait ∷ serve 0 says refused 12 ∷ []) ∷
+    on (fullDowns 1) (load 0 0 says wait ∷ serve 0 says step ∷ []) ∷
+    []))
 
 -- the table
 unfoldable pub rows : List Row

@@ -41,7 +41,7 @@ fn order_kind(x: Command) -> DownKind
     }
 }
 
-// Eight flags in a byte, without a loop.
+// Eight flags in one byte, flag j as bit j.
 fn flags_byte(p: [bool; 8]) -> u8
     ensures { λ r. ⌜ r ≡ byteOf p ⌝ }
 {

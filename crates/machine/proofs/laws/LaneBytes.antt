@@ -16,6 +16,7 @@ use Rattle.words.specs.declared.LaneNo.{LaneNo}
 use Rattle.words.specs.Folds.{anyTo, countTo, sumTo}
 use Rattle.words.proofs.Folds.{any-false}
 use Rattle.store.specs.LaneSets.{nobody, only, goesTo, countOf}
+use Rattle.machine.proofs.laws.Tests.{not-true}
 use Rattle.machine.specs.LaneBytes.{bitOf, bitsIn, byteOf, lanesOf}
 
 -- lane j's flag in a byte's set is bit j
@@ -110,12 +111,8 @@ pub only-byte : (k : LaneNo) → k .0 < 8 → 1 * 2 ^ k .0 % 2 ^ 8 ≡ byteOf (o
 only-byte k h = let f : 1 + k .0 ≤ 8 = omega arith in let o : 1 < 2 ^ 1 = omega arith in shl-exact 1 (k .0) 8 o f ∙ (one-mul (2 ^ k .0) ∙ sym (one-lane (k .0) h))
 
 -- ---- a test that each of the 256 bytes passes, computed
-pub not-not : (b : Bool) → not b ≡ false → b ≡ true
-not-not true e = refl
-not-not false e = sym e
-
 pub each : (test : ℕ → Bool) → anyTo (λ x. not (test x)) 256 ≡ false → (x : ℕ) → x < 256 → test x ≡ true
-each test e x h = not-not (test x) (any-false (λ y. not (test y)) 256 x e h)
+each test e x h = not-true (test x) (any-false (λ y. not (test y)) 256 x e h)
 
 -- the set digits are the set bits
 pub ones-bits : (x : ℕ) → x < 256 → ones x ≡ bitsIn x

@@ -128,14 +128,14 @@ pub record Moves (s : Store) (k : LaneNo) (a : BlockNo) (v : Move) : Type 0 wher
 
 module _ (s : Store) (k : LaneNo) (x : BlockNo) (v : Move) (g : Moves s k x v) where
   -- lane j before the message is sent
-  was : ℕ → Lane
+  unfoldable pub was : ℕ → Lane
   was j = cond (eqb j (k .0)) (v .lane) (laneAt s j)
 
-  was-sized : (j : ℕ) → j < 8 → LaneSized (was j)
+  pub was-sized : (j : ℕ) → j < 8 → LaneSized (was j)
   unfolding was
   was-sized j h = by-cond LaneSized (eqb j (k .0)) (v .lane) (laneAt s j) (g .lane) (g .sized .lane j h)
 
-  was-room : (j : ℕ) → goesTo (v .to) j ≡ true → was j .downs .len < 2
+  pub was-room : (j : ℕ) → goesTo (v .to) j ≡ true → was j .downs .len < 2
   unfolding was
   was-room j e =
       let z = g .sized .lanes in

@@ -68,7 +68,7 @@ grant-due Exclude l o false c e = (not-held l (sym e), rw (c .1))
 grant-kind : (b : Block) (s : Service) → grantOf b s .kind ≡ cond (s .bare) BareGrant Grant
 grant-kind b s = pick (λ (m : DownMessage). m .kind ≡ cond (s .bare) BareGrant Grant) (s .bare) _ _ (λ e. rw e) (λ e. rw e)
 
-grant-no-order : (b : Block) (s : Service) → isOrder (grantOf b s .kind) ≡ false
+pub grant-no-order : (b : Block) (s : Service) → isOrder (grantOf b s .kind) ≡ false
 grant-no-order b s = pick (λ (m : DownMessage). isOrder (m .kind) ≡ false) (s .bare) _ _ (λ e. refl) (λ e. refl)
 
 grant-words : (b : Block) (s : Service) → isGrant (grantOf b s .kind) ≡ true → grantOf b s .words ≡ b .words

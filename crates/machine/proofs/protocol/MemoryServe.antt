@@ -91,7 +91,7 @@ due-order w l (n ∷ q) x m d z o = go (n .kind) d z
     go BareGrant h e = (h .0, h .1, rest-order Modified q x m (h .2) (omega arith) o)
 
 -- the kind of the order
-order-order : (x : Command) → isOrder (orderOf x) ≡ true
+pub order-order : (x : Command) → isOrder (orderOf x) ≡ true
 order-order ReadShared = refl
 order-order ReadExclusive = refl
 order-order Exclude = refl

@@ -2,14 +2,11 @@
 use Prim.Native.Nat.{ℕ, _<_, _≤_}
 use mathlib.Core.Logic.{_≢_}
 use mathlib.Core.Path.{_≡_, refl, ap}
-use mathlib.Core.Bool.{false}
 use mathlib.Core.List.{List}
 use native.Mathlib.Omega.{arith}
 use Rattle.words.specs.declared.LaneNo.{LaneNo}
 use Rattle.words.specs.declared.BlockNo.{BlockNo}
-use Rattle.words.proofs.Folds.{by-cond}
 use Rattle.queues.specs.declared.ReturnMessage.{ReturnMessage}
-use Rattle.queues.specs.declared.DownMessage.{DownMessage}
 use Rattle.queues.specs.Queues.{headReturn, takeReturn}
 use Rattle.lanes.specs.declared.Lane.{Lane}
 use Rattle.lanes.specs.Lanes.{withReturns}
@@ -26,7 +23,6 @@ use Rattle.machine.specs.declared.Move.{Move}
 use Rattle.machine.specs.Change.{noMessage, commitMove}
 use Rattle.machine.specs.Serve.{grantOf, close}
 use Rattle.machine.specs.Return.{takenBy, sendNothing, returnMove, returnOf}
-use Rattle.machine.specs.Settle.{isOrder}
 use Rattle.machine.proofs.bounds.KeepsLane.{clash}
 use Rattle.machine.proofs.bounds.Sound.{sound}
 use Rattle.machine.proofs.list.Owes.{upd}
@@ -42,14 +38,11 @@ use Rattle.machine.proofs.store.ConsistentReturn.{taken, has-head, ejec
 use Rattle.machine.proofs.settle.Live.{ejectCount, LaneLive, Live}
 use Rattle.machine.proofs.settle.LiveLane.{stays-live}
 use Rattle.machine.proofs.settle.LiveOwed.{take-owed}
+use Rattle.machine.proofs.protocol.MemoryClose.{grant-no-order}
 use Rattle.machine.proofs.settle.LiveMove.{send-grant, ShowsLive, commit-live}
 use Rattle.machine.proofs.rules.Rules.{return-rule}
 use Rattle.machine.proofs.rules.RulesMemory.{return-move-rule}
 use Rattle.machine.proofs.store.ConsistentMove.{Shows}
-
--- a grant is no order
-grant-order : (b : Block) (v : Service) → isOrder (grantOf b v .kind) ≡ false
-grant-order b v = by-cond (λ (m : DownMessage). isOrder (m .kind) ≡ false) (v .bare) _ _ refl refl
 
 -- a service that awaits more than one answer still awaits one
 lowered-awaits : (v w : Service) → v .awaited ≢ 0 → v .awaited ≢ 1 → Busy (lowered v) ≡ Busy w → w .awaited ≢ 0
@@ -113,7 +106,7 @@ module _ (s : Store) (f : List ℕ) (i : Consistent s f) (live : Live s) (k : La
   unfolding close
   close-live v = record {
     lane = taken-live;
-    one = λ j. let p = send-grant (only (v .lane)) (grantOf u v) lanes j (grant-order u v) in let q = one-owed j in omega arith;
+    one = λ j. let p = send-grant (only (v .lane)) (grantOf u v) lanes j (grant-no-order u v) in let q = one-owed j in omega arith;
     awaits = λ w e. clash (cc);
   }
 

@@ -3,7 +3,7 @@
 use Prim.Native.Nat.{ℕ, zero, suc, _<_, _≤_}
 use mathlib.Core.Logic.{_⊎_, inl, inr, _≢_}
 use mathlib.Core.Path.{_≡_, refl, sym, ap, _∙_}
-use mathlib.Core.Bool.{Bool, true, false, cond, not, _||_, _&&_}
+use mathlib.Core.Bool.{Bool, true, false, cond, not, _||_}
 use mathlib.Core.List.{List, []}
 use lib.Dec.{ltb}
 use lib.ListN.{length, List·getD-eq-default}
@@ -25,7 +25,7 @@ use Rattle.store.specs.Stores.{laneAt, blockAt}
 use Rattle.store.specs.Quiet.{activeOf, quietOf}
 use Rattle.machine.specs.Flat.{flatBlock}
 use Rattle.machine.specs.Flags.{lineIn, presentIn, hasCopy, owns, shownOf, Flags}
-use Rattle.machine.proofs.laws.Tests.{on}
+use Rattle.machine.proofs.laws.Tests.{on, and-both, not-false}
 use Rattle.machine.proofs.laws.Sets.{same?}
 use Rattle.machine.proofs.bounds.Sound.{sound}
 use Rattle.machine.proofs.bounds.KeepsLane.{clash}
@@ -55,15 +55,6 @@ loop-gives P g (suc n) a t h o e =
     go : (t ≡ n) ⊎ (t < n) → (t < n → P (upTo g n a)) → P (g n (upTo g n a))
     go (inl q) r = rw (← q) (o (upTo g t a))
     go (inr q) r = e n (omega arith) (upTo g n a) (r q)
-
--- both hold
-and-both : (a b : Bool) → (a && b) ≡ true → (a ≡ true) × (b ≡ true)
-and-both true b e = (refl, e)
-and-both false b e = clash (cc)
-
-not-false : (b : Bool) → not b ≡ true → b ≡ false
-not-false true e = clash (cc)
-not-false false e = refl
 
 -- a lane that does not stir
 record Still (l : Lane) : Type 0 where

@@ -15,7 +15,6 @@ use Rattle.words.proofs.Folds.{below?, by-cond}
 use Rattle.queues.specs.declared.DownMessage.{DownMessage}
 use Rattle.queues.specs.Messages.{bareDown}
 use Rattle.lanes.specs.declared.Lane.{Lane}
-use Rattle.lanes.specs.declared.Command.{Command}
 use Rattle.lanes.specs.declared.Operation.{Operation}
 use Rattle.lanes.specs.declared.Waiting.the-variants.{Unserved, Served}
 use Rattle.lanes.specs.Lanes.{withWaiting}
@@ -30,10 +29,9 @@ use Rattle.store.specs.Control.{busyOf, serviceOf}
 use Rattle.store.specs.Stores.{laneAt, blockAt}
 use Rattle.store.specs.LaneSets.{nobody, only, goesTo, countOf}
 use Rattle.machine.specs.Change.{commitMove}
-use Rattle.machine.specs.Serve.{orderOf, sendsOf, ordered, closedBlock, grantOf, close, serviceFor, serveMove, serveOf}
+use Rattle.machine.specs.Serve.{orderOf, ordered, closedBlock, grantOf, close, serviceFor, serveMove, serveOf}
 use Rattle.machine.specs.Flat.{flatBlock}
 use Rattle.machine.specs.Sized.{LaneSized}
-use Rattle.machine.proofs.bounds.Sound.{sound}
 use Rattle.machine.proofs.bounds.KeepsLane.{clash}
 use Rattle.machine.proofs.laws.Sums.{sum-zero, count-sum}
 use Rattle.machine.proofs.list.Owes.{upd}
@@ -43,6 +41,7 @@ use Rattle.machine.proofs.protocol.Moves.{waitSeen, sendAll, serveState
 use Rattle.machine.proofs.protocol.MemoryClose.{close-keeps}
 use Rattle.machine.proofs.protocol.MemoryServe.{serve-opens}
 use Rattle.machine.proofs.projection.Project.{project-here}
+use Rattle.machine.proofs.store.ServeBounds.{served-lane, served-block, served-entry, served-to, served-sized}
 use Rattle.machine.proofs.store.Consistent.{Consistent, StaysConsistent, refused-consistent}
 use Rattle.machine.proofs.store.ConsistentMove.{Shows, commit-consistent}
 use Rattle.machine.proofs.rules.Rules.{serve-rule}
@@ -72,10 +71,6 @@ goes-none to t e j = go (below? j 8)
 pub grant-block : (b : Block) (v : Service) → grantOf b v .block ≡ v .block
 grant-block b v = by-cond (λ (x : DownMessage). x .block ≡ v .block) (v .bare) _ _ refl refl
 
-pub ordered-length : (b : Block) (k : LaneNo) (x : Command) → length (b .present) ≡ 8 → length (ordered b k x) ≡ 8
-unfolding ordered
-ordered-length b k x e = by-cond (λ (l : List Bool). length l ≡ 8) (sendsOf x (b .modified)) _ _ (length-set (b .present) (k .0) false ∙ e) refl
-
 pub only-length : (k : LaneNo) → length (only k) ≡ 8
 only-length k = length-set nobody (k .0) true
 
@@ -103,19 +98,19 @@ module _ (s : Store) (f : List ℕ) (i : Consistent s f) (k : LaneNo) (h : k .0 
   t = withWaiting (Served o) (laneAt s (k .0))
 
   lane-below : k .0 < 8
-  lane-below = let p = sound s (i .sound) .n-high in omega arith
+  lane-below = served-lane s k o (i .sound) (i .sized) h e
 
   block-below : x .0 < s .shape .m
-  block-below = sound s (i .sound) .lane (k .0) h .unserved o e
+  block-below = served-block s k o (i .sound) (i .sized) h e
 
   entry-below : x .0 < 64
-  entry-below = let p = sound s (i .sound) .m-high in let q = block-below in omega arith
+  entry-below = served-entry s k o (i .sound) (i .sized) h e
 
   to-length : length to ≡ 8
-  to-length = ordered-length b k (o .command) (i .sized .present (x .0) entry-below)
+  to-length = served-to s k o (i .sound) (i .sized) h e
 
   t-sized : LaneSized t
-  t-sized = let z = i .sized .lane (k .0) lane-below in record { lines = z .lines; order = z .order; returns = z .returns; downs = z .downs }
+  t-sized = served-sized s k o (i .sound) (i .sized) h e
 
   seen-here : seen (s .shape .c) x t ≡ waitSeen (Served o) (seen (s .shape .c) x (laneAt s (k .0)))
   unfolding seen

@@ -1,6 +1,6 @@
 -- `serving::flags_byte` meets its contract. Assumes nothing.
 use borrow.Author.Needs.{needs}
-use Rattle.serving.proofs.Flags.{joined-byte}
+use Rattle.serving.proofs.Bytes.{joined-byte}
 use Rattle.serving.proofs.flags_byte.Statement.{statement}
 use Rattle.serving.proofs.flags_byte.Tie as tie
 

@@ -1,13 +1,12 @@
 -- `serving::serve_move` meets its contract: the service closes at once where no lane is ordered, else the orders go out. Assumes nothing.
 use borrow.Author.Tests.{eq-eqb, ne-eqb}
 use native.Mathlib.Omega.{arith}
-use mathlib.Core.Path.{_≡_, ap, _∙_}
+use mathlib.Core.Path.{_≡_, ap}
 use lib.ListN.{length, length-map}
 use Rattle.store.specs.declared.Service.{Service}
-use Rattle.store.specs.LaneSets.{countOf}
-use Rattle.machine.specs.LaneBytes.{bitsIn}
-use Rattle.machine.specs.Serve.{ordered, serveMove}
-use Rattle.machine.proofs.store.ServeByte.{orders-count, orders-lanes}
+use Rattle.machine.specs.Serve.{serveMove}
+use Rattle.machine.proofs.store.ServeByte.{orders-lanes}
+use Rattle.serving.proofs.Bytes.{count-orders}
 use borrow.Author.Needs.{needs}
 use Rattle.serving.proofs.serve_move.Statement.{statement}
 use Rattle.serving.proofs.serve_move.Tie as tie
@@ -32,8 +31,7 @@ unfolding serveMove
 returns c =
     let at-count = c .before .before .before .before in
     let args = at-count .before .before .args in
-    let n : at-count .count .result ≡ countOf (ordered (args .b) (args .k) (args .o .command)) =
-    at-count .count .ensures ∙ (ap bitsIn (at-count .before .orders-byte .ensures) ∙ orders-count (args .b) (args .k) (args .o .command)) in
+    let n = count-orders (args .b) (args .k) (args .o .command) (at-count .before .orders-byte .ensures) (at-count .count .ensures) in
     rw (serveMove, ← n, eq-eqb _ _ (c .before .if1 .taken), c .close-service .ensures, c .before .before .with-waiting .ensures, c .before .before .before .service-for .ensures)
 
 order-kind-requires : tie.Need-order-kind-requires
@@ -54,8 +52,7 @@ returns-2 c =
     let at-service-for = at-with-waiting .before in
     let at-count = at-service-for .before in
     let args = at-count .before .before .args in
-    let n : at-count .count .result ≡ countOf (ordered (args .b) (args .k) (args .o .command)) =
-    at-count .count .ensures ∙ (ap bitsIn (at-count .before .orders-byte .ensures) ∙ orders-count (args .b) (args .k) (args .o .command)) in
+    let n = count-orders (args .b) (args .k) (args .o .command) (at-count .before .orders-byte .ensures) (at-count .count .ensures) in
     let flags : length (args .b .present) ≡ 8 = simp length-map at (at-count .before .before .good .1 .0 .1 .1 .1 .0 .1 .0 .1) in
     rw (
       serveMove,
