@@ -1,6 +1,7 @@
 //! A reference of the lane store of document 01 with W1, W2 and W3 of document
 //! 02, written from the documents and their readings only, with generators of
-//! tapes, of lists of calls and of held stores.
+//! tapes, of lists of calls and of held stores. W4 changes no answer; answers are
+//! held to it.
 
 pub mod bounds;
 pub mod choice;
@@ -22,6 +23,9 @@ pub mod pictures;
 pub mod places;
 pub mod rng;
 pub mod scramble;
+pub mod serve_byte;
+pub mod serve_maker;
+pub mod serves;
 pub mod settle;
 pub mod situations;
 pub mod stores;

@@ -2,8 +2,10 @@
 
 use reference::cover::{self, Cover};
 use reference::parts::Rule;
+use reference::serves::Serves;
 use reference::summary::{Cases, Tapes};
 use reference::{bounds, choice, held, judge, list_maker, lists, stores, tape, tapes};
+use reference::{serve_byte, serve_maker};
 use std::fs;
 use std::io::{self, BufWriter, Read, Write};
 use std::path::{Path, PathBuf};
@@ -18,8 +20,10 @@ const USAGE: &str = "usage:
   reference expect-tapes DIR
   reference make-held SEED COUNT FILE
   reference choose-held SEED COUNT FILE
+  reference make-serves SEED COUNT FILE
   reference differ-held CASES ANSWERS
   reference bound-held CASES ANSWERS
+  reference byte-held CASES ANSWERS
   reference lists < LISTS
   reference make-lists SEED COUNT FILE
   reference draw-lists SEED COUNT FILE
@@ -34,7 +38,26 @@ type Outcome = Result<(), String>;
 fn main() -> ExitCode {
     let args: Vec<String> = std::env::args().skip(1).collect();
     let args: Vec<&str> = args.iter().map(String::as_str).collect();
-    let result = match args[..] {
+    match args[..] {
+        ["byte-held", cases, answers] => exit_code(byte_held(cases, answers), 1),
+        _ => exit_code(run(&args), 2),
+    }
+}
+
+/// A command that fails says why, and exits with its code.
+fn exit_code(result: Outcome, failed: u8) -> ExitCode {
+    match result {
+        Ok(()) => ExitCode::SUCCESS,
+        Err(text) => {
+            eprintln!("{text}");
+            ExitCode::from(failed)
+        }
+    }
+}
+
+/// The other commands.
+fn run(args: &[&str]) -> Outcome {
+    match args[..] {
         ["tape"] => run_tape(Rule::LoadFillsOldest),
         ["tape-before-w3"] => run_tape(Rule::FillsNewest),
         ["held"] => run_held(),
@@ -43,6 +66,7 @@ fn main() -> ExitCode {
         ["expect-tapes", dir] => expect_tapes(Path::new(dir)),
         ["make-held", seed, count, file] => make_held(seed, count, Path::new(file)),
         ["choose-held", seed, count, file] => choose_held(seed, count, Path::new(file)),
+        ["make-serves", seed, count, file] => make_serves(seed, count, Path::new(file)),
         ["differ-held", cases, answers] => differ_held(cases, answers),
         ["bound-held", cases, answers] => bound_held(cases, answers),
         ["lists"] => run_lists(),
@@ -54,13 +78,6 @@ fn main() -> ExitCode {
         ["bound-lists", lists, answers] => bound_lists(lists, answers),
         ["differ-lists", lists, answers] => differ_lists(lists, answers),
         _ => Err(USAGE.to_string()),
-    };
-    match result {
-        Ok(()) => ExitCode::SUCCESS,
-        Err(text) => {
-            eprintln!("{text}");
-            ExitCode::from(2)
-        }
     }
 }
 
@@ -153,6 +170,20 @@ fn choose_held(seed: &str, count: &str, file: &Path) -> Outcome {
     Ok(())
 }
 
+fn make_serves(seed: &str, count: &str, file: &Path) -> Outcome {
+    let (seed, count) = (number(seed)?, number(count)?);
+    let mut out = BufWriter::new(fs::File::create(file).map_err(text)?);
+    let mut summary = Serves::default();
+    for index in 0..count {
+        let (store, k) = serve_maker::make(seed, index);
+        summary.add(&store, k).map_err(|e| format!("case {index}: {e}"))?;
+        out.write_all(&held::encode_case(&store, serve_maker::call(k))).map_err(text)?;
+    }
+    out.flush().map_err(text)?;
+    print!("{summary}");
+    Ok(())
+}
+
 fn differ_held(cases: &str, answers: &str) -> Outcome {
     let (cases, answers) = (fs::read(cases).map_err(text)?, fs::read(answers).map_err(text)?);
     let found = held::differences(&cases, &answers, 20)?;
@@ -166,6 +197,12 @@ fn differ_held(cases: &str, answers: &str) -> Outcome {
 fn bound_held(cases: &str, answers: &str) -> Outcome {
     let (cases, answers) = (fs::read(cases).map_err(text)?, fs::read(answers).map_err(text)?);
     print!("{}", bounds::of_held(&cases, &answers)?);
+    Ok(())
+}
+
+fn byte_held(cases: &str, answers: &str) -> Outcome {
+    let (cases, answers) = (fs::read(cases).map_err(text)?, fs::read(answers).map_err(text)?);
+    print!("{}", serve_byte::of_held(&cases, &answers)?);
     Ok(())
 }
 
