@@ -225,8 +225,9 @@ fn held_serves_hold() {
     assert!(given.orders.iter().all(|&count| count > 0), "{given}");
 }
 
-/// Harms the store after; false or no change where it has no place for it.
-type Spoil = fn(&Served, &mut Store) -> bool;
+/// Changes the store after, as a wrong program might; false or no change where it has
+/// no place for it.
+type Mutation = fn(&Served, &mut Store) -> bool;
 
 fn of_first(s: &Served, act: impl FnOnce(usize, usize)) -> bool {
     s.first().map(|(j, place)| act(j, place)).is_some()
@@ -265,7 +266,7 @@ fn replaced(s: &Served, after: &mut Store, kind: DownKind, words: Words) -> bool
     of_first(s, |j, place| after.lanes[j].down.places[place] = Message { kind, block, words })
 }
 
-const OF_QUEUES: [(&str, Spoil); 18] = [
+const OF_QUEUES: [(&str, Mutation); 18] = [
     ("no order to the first lane", |s, after| {
         of_first(s, |j, _| after.lanes[j].down = s.before.lanes[j].down)
     }),
@@ -327,7 +328,7 @@ const OF_QUEUES: [(&str, Spoil); 18] = [
     }),
 ];
 
-const OF_THE_GRANT: [(&str, Spoil); 6] = [
+const OF_THE_GRANT: [(&str, Mutation); 6] = [
     ("the asking lane sent an order too", |s, after| {
         let sent = after.lanes[s.k].down.push(s.order());
         sent && of_service(after, |service| service.awaited += 1)
@@ -347,7 +348,7 @@ const OF_THE_GRANT: [(&str, Spoil); 6] = [
     }),
 ];
 
-const OF_THE_SERVICE: [(&str, Spoil); 7] = [
+const OF_THE_SERVICE: [(&str, Mutation); 7] = [
     ("awaited one more", |_, after| of_service(after, |service| service.awaited += 1)),
     ("awaited one less", |_, after| of_service(after, |service| service.awaited -= 1)),
     ("awaited is the byte", |s, after| {
@@ -364,18 +365,18 @@ const OF_THE_SERVICE: [(&str, Spoil); 7] = [
 ];
 
 /// Each way, in each of many serves that have a place for it.
-fn are_found(spoils: &[(&str, Spoil)]) {
+fn are_found(mutations: &[(&str, Mutation)]) {
     let serves = Served::made(4, 2_000);
-    for (name, spoil) in spoils {
-        let found = serves.iter().filter(|served| is_found(served, name, *spoil)).count();
+    for (name, mutate) in mutations {
+        let found = serves.iter().filter(|served| is_found(served, name, *mutate)).count();
         assert!(found >= 100, "{name}: {found}");
     }
 }
 
 /// False where the serve has no place for it.
-fn is_found(served: &Served, name: &str, spoil: Spoil) -> bool {
+fn is_found(served: &Served, name: &str, mutate: Mutation) -> bool {
     let mut after = served.after.clone();
-    if !spoil(served, &mut after) || after == served.after {
+    if !mutate(served, &mut after) || after == served.after {
         return false;
     }
     let told = served.judge(&after).expect_err(name);
@@ -384,17 +385,17 @@ fn is_found(served: &Served, name: &str, spoil: Spoil) -> bool {
 }
 
 #[test]
-fn spoilt_queues_are_found() {
+fn mutated_queues_are_found() {
     are_found(&OF_QUEUES);
 }
 
 #[test]
-fn spoilt_grants_are_found() {
+fn mutated_grants_are_found() {
     are_found(&OF_THE_GRANT);
 }
 
 #[test]
-fn spoilt_services_are_found() {
+fn mutated_services_are_found() {
     are_found(&OF_THE_SERVICE);
 }
 
@@ -418,18 +419,18 @@ fn only_queues_and_control_are_judged() {
     }
 }
 
-/// Spoils the control after each serve that was a step; the numbers of these cases.
-fn spoil_controls(cases: &[u8], answers: &mut [u8]) -> Vec<usize> {
-    let (mut at, mut spoilt) = (0, Vec::new());
+/// Mutates the control after each serve that was a step; the numbers of these cases.
+fn mutate_controls(cases: &[u8], answers: &mut [u8]) -> Vec<usize> {
+    let (mut at, mut mutated) = (0, Vec::new());
     for (index, case) in cases.chunks(held::CASE_BYTES).enumerate() {
         let call = held::decode_call(&case[held::STORE_BYTES..]).expect("well formed");
         if matches!(call, HeldCall::Machine(Call::Serve(_))) && answers[at] == STEP[0] {
             answers[at + AWAITED] += 1;
-            spoilt.push(index);
+            mutated.push(index);
         }
         at += held::given_length(call);
     }
-    spoilt
+    mutated
 }
 
 /// Answers of other calls are passed over by their lengths: a wrong serve behind
@@ -438,7 +439,7 @@ fn spoil_controls(cases: &[u8], answers: &mut [u8]) -> Vec<usize> {
 fn wrong_serves_are_named() {
     let cases = held_cases(1, 600);
     let mut answers = held::answers(&cases).expect("well formed");
-    let wrong = spoil_controls(&cases, &mut answers);
+    let wrong = mutate_controls(&cases, &mut answers);
     let told = serve_byte::of_held(&cases, &answers).expect_err("wrong serves");
     let lines: Vec<&str> = told.lines().collect();
     assert!(lines[0].starts_with(&format!("{} serves do not hold", wrong.len())), "{told}");
@@ -519,7 +520,7 @@ fn commands() {
     let judged = run(&["byte-held", paths[0], paths[1]]);
     let lines = String::from_utf8(judged.stdout).expect("text");
     assert!(judged.status.success() && lines.starts_with("serves by their byte: "), "{lines}");
-    assert!(spoil_controls(&bytes, &mut given).len() > 100);
+    assert!(mutate_controls(&bytes, &mut given).len() > 100);
     fs::write(&answers, &given).expect("written");
     let judged = run(&["byte-held", paths[0], paths[1]]);
     assert_eq!((judged.status.code(), judged.stdout.len()), (Some(1), 0));
