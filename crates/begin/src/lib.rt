@@ -5,7 +5,7 @@ ghost use mathlib.Core.Path.{_≡_};
 ghost use Prim.Native.Nat.{_≤_, _<_};
 ghost use Rattle.lanes.specs.UseOrder.{placeAt};
 ghost use Rattle.machine.specs.Change.{refuseLane, refusedIn};
-ghost use Rattle.machine.specs.Begin.{completeWith, complete, waits, hit, readOf, ejectOf, evict, miss, beginLane};
+ghost use Rattle.machine.specs.Begin.{completeWith, complete, waits, hit, readOf, ejectOf, evict, miss, beginLane, admitsOf};
 use answers::Refusal;
 use lanes::Command;
 use lanes::Found;
@@ -43,7 +43,7 @@ pub fn refused(a: LaneAnswer) -> bool
     }
 }
 
-// The operation is done on line x, which comes to stand at i; the lane waits no more, and its use order is the one given.
+// The operation is done on line x, which comes to stand at i, and the lane's use order is the one given. What it waits for is not touched.
 pub fn complete_with(l: Lane, order: [LineNo; 8], i: LineNo, x: Line, op: Op, w: WordNo) -> LaneStep
     requires { ⌜ i .0 < 8 ⌝ }
     ensures { λ r. ⌜ r ≡ completeWith order i x op w l ⌝ }
@@ -55,10 +55,9 @@ pub fn complete_with(l: Lane, order: [LineNo; 8], i: LineNo, x: Line, op: Op, w:
     let mut t = l;
     t.lines[j] = y;
     t.order = order;
-    let u = t.with_waiting(Waiting::Idle);
     LaneStep {
         answer: LaneAnswer::Value(v),
-        lane: u,
+        lane: t,
     }
 }
 
@@ -159,6 +158,25 @@ fn miss(l: Lane, c: u8, op: Op, w: WordNo) -> LaneStep
     };
     let read = read_of(op);
     wait(l, read, op, w)
+}
+
+// Whether the lane begins the operation: one that waits begins a load that hits, and nothing else.
+pub fn admits(l: Lane, c: u8, op: Op, w: WordNo) -> bool
+    requires { ⌜ c ≤ 8 ⌝ }
+    ensures { λ r. ⌜ r ≡ admitsOf c op w l ⌝ }
+{
+    let waiting = l.waiting;
+    if waiting.idle() {
+        return true;
+    }
+    if op.is_load() {
+        let a = w.block();
+        let Found::At(_) = l.search(c, a) else {
+            return false;
+        };
+        return true;
+    }
+    false
 }
 
 // The lane's part of begin.

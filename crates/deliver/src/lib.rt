@@ -101,7 +101,7 @@ fn claim(x: Line, op: Op) -> Line
     y
 }
 
-// A grant's words come into the lowest-numbered line that is not valid. Filled for a load, it is the oldest then.
+// A grant's words come into the lowest-numbered line that is not valid, and the lane waits no more. Filled for a load, the line is the oldest then.
 fn fill(l: Lane, c: u8, m: DownMessage, o: Operation) -> LaneStep
     requires { ⌜ c ≤ 8 ⌝ }
     ensures { λ r. ⌜ r ≡ fillAt LoadsOldest (vacantOf l c) c m o l ⌝ }
@@ -122,7 +122,8 @@ fn fill(l: Lane, c: u8, m: DownMessage, o: Operation) -> LaneStep
     let former = l.order;
     let order = lanes::inserted(former, c, i, op);
     let filled = claim(x, op);
-    begin::complete_with(l, order, i, filled, op, w)
+    let t = l.with_waiting(Waiting::Idle);
+    begin::complete_with(t, order, i, filled, op, w)
 }
 
 // A grant with words, for operation o.
@@ -137,7 +138,7 @@ fn grant(l: Lane, c: u8, m: DownMessage, o: Operation) -> LaneStep
     begin::refuse(l, Refusal::Unexpected)
 }
 
-// A bare grant of block a, for operation o.
+// A bare grant of block a, for operation o, after which the lane waits no more.
 fn bare_grant(l: Lane, c: u8, a: BlockNo, o: Operation) -> LaneStep
     requires { ⌜ c ≤ 8 ⌝ }
     ensures { λ r. ⌜ r ≡ bareAt (searchOf l c a) c o l ⌝ }
@@ -150,7 +151,8 @@ fn bare_grant(l: Lane, c: u8, a: BlockNo, o: Operation) -> LaneStep
     let op = o.op;
     let w = o.word;
     let y = claim(held, op);
-    begin::complete(l, c, i, y, op, w)
+    let t = l.with_waiting(Waiting::Idle);
+    begin::complete(t, c, i, y, op, w)
 }
 
 // The served operation on block a.

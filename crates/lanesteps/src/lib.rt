@@ -59,8 +59,7 @@ pub fn begin_sound(s: Store, k: LaneNo, op: Op, w: WordNo) -> Outcome
     }
     let i = k.0 as usize;
     let l = t.lanes[i];
-    let waiting = l.waiting;
-    if waiting.idle() {
+    if begin::admits(l, t.shape.c, op, w) {
         if places::exhausted(t) {
             return commit::refused(Refusal::PlacesExhausted, t);
         }

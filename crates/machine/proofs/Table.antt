@@ -9,7 +9,7 @@ use Rattle.machine.specs.Begun.{waitingIn, begunIn}
 use Rattle.store.specs.Quiet.{activeOf, quietOf}
 use Rattle.machine.specs.Corruption.{badLane, badFlags, corruptOf}
 use Rattle.machine.specs.Change.{commitLane, someFull, postTo, postAll, commitMove}
-use Rattle.machine.specs.Begin.{completeWith, hit, evict, miss, beginLane, beginOf}
+use Rattle.machine.specs.Begin.{completeWith, hit, evict, miss, admitsOf, beginLane, beginOf}
 use Rattle.store.specs.LaneSets.{countOf}
 use Rattle.machine.specs.Serve.{ordered, close, readyOf, serveMove, serveOf}
 use Rattle.machine.specs.LaneBytes.{bitsIn, byteOf, ordersByte}
@@ -23,5 +23,5 @@ use Rattle.machine.specs.Calls.{callOf, run}
 use Rattle.machine.specs.Table.{Row, rows, wholeTape, wholeText}
 
 pub cases : map (λ (r : Row). r .given) rows ≡ map (λ (r : Row). r .wanted) rows
-unfolding upTo downTo anyTo countTo sumTo lowestTo gatherTo anyOf firstFrom badShape blankLane blankBlock freshOf openOf waitingIn begunIn activeOf quietOf badLane badFlags corruptOf commitLane someFull postTo postAll commitMove completeWith hit evict miss beginLane beginOf ordered countOf close readyOf serveMove serveOf bitsIn byteOf ordersByte returnMove returnOf reply deliverLane deliverOf settleStep boundOf advance ended repeatStep settleOf recordBytes pictureBytes pictureOf parseOf openRecord recordOf replayFrom replayOf decimalIn answerText lineText linesText endText printed printOf callOf run rows wholeTape wholeText
+unfolding upTo downTo anyTo countTo sumTo lowestTo gatherTo anyOf firstFrom badShape blankLane blankBlock freshOf openOf waitingIn begunIn activeOf quietOf badLane badFlags corruptOf commitLane someFull postTo postAll commitMove completeWith hit evict miss admitsOf beginLane beginOf ordered countOf close readyOf serveMove serveOf bitsIn byteOf ordersByte returnMove returnOf reply deliverLane deliverOf settleStep boundOf advance ended repeatStep settleOf recordBytes pictureBytes pictureOf parseOf openRecord recordOf replayFrom replayOf decimalIn answerText lineText linesText endText printed printOf callOf run rows wholeTape wholeText
 cases = refl

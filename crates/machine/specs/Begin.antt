@@ -1,6 +1,6 @@
--- 01, "Begin": load, store v, exchange v, add v; 02, W1: 17. Assumes nothing.
+-- 01, "Begin": load, store v, exchange v, add v; 02, W1: 17; 02, W5: a load beside a waiting operation. Assumes nothing.
 use Prim.Native.Nat.{ℕ, _*_}
-use mathlib.Core.Bool.{cond, _||_}
+use mathlib.Core.Bool.{Bool, true, false, cond, _||_, _&&_}
 use mathlib.Core.List.{List}
 use lib.Dec.{leb}
 use Rattle.words.specs.declared.LaneNo.{LaneNo}
@@ -18,7 +18,7 @@ use Rattle.queues.specs.Messages.{bareReturn, wordsReturn}
 use Rattle.lanes.specs.declared.Lane.{Lane}
 use Rattle.lanes.specs.declared.Command.{Command}
 use Rattle.lanes.specs.declared.Command.the-variants.{ReadShared, ReadExclusive, Exclude}
-use Rattle.lanes.specs.declared.Waiting.the-variants.{Idle, Unserved}
+use Rattle.lanes.specs.declared.Waiting.the-variants.{Unserved}
 use Rattle.lanes.specs.declared.Found.{Found}
 use Rattle.lanes.specs.declared.Found.the-variants.{At, Nothing}
 use Rattle.lanes.specs.Search.{lineAt, searchOf, vacantOf}
@@ -38,13 +38,9 @@ use Rattle.machine.specs.Change.{refuse, refuseLane, guarded, commitLane
 abbrev pub performed : LineNo → Line → Op → WordNo → Lane → Lane
 performed i x op w l = withLine i (performOf x op w .line) l
 
--- an operation that completes waits no more
-abbrev pub waitsNoMore : Lane → Lane
-waitsNoMore l = withWaiting Idle l
-
--- Completing does the operation on that word of the line and gives the value so got; the use order is o after it
+-- Completing does the operation on that word of the line and gives the value so got; the use order is o after it. What the lane waits for is not touched
 unfoldable pub completeWith : List LineNo → LineNo → Line → Op → WordNo → Lane → LaneStep
-completeWith o i x op w l = record { answer = Value (performOf x op w .value); lane = waitsNoMore (withOrder o (performed i x op w l)) }
+completeWith o i x op w l = record { answer = Value (performOf x op w .value); lane = withOrder o (performed i x op w l) }
 
 -- .. and is a use of the line
 abbrev pub complete : ℕ → LineNo → Line → Op → WordNo → Lane → LaneStep
@@ -81,7 +77,7 @@ missWith Nothing op w l = evict (placeAt (l .order) 0) op w l
 unfoldable pub miss : ℕ → Op → WordNo → Lane → LaneStep
 miss c op w l = missWith (vacantOf l c) op w l
 
--- the lane's part of begin, of a lane that waits for nothing, by what Search finds
+-- the lane's part of begin, by what Search finds
 abbrev pub beginAt : Found → ℕ → Op → WordNo → Lane → LaneStep
 beginAt (At i) c op w l = hit c i op w l
 beginAt Nothing c op w l = miss c op w l
@@ -89,12 +85,22 @@ beginAt Nothing c op w l = miss c op w l
 unfoldable pub beginLane : ℕ → Op → WordNo → Lane → LaneStep
 beginLane c op w l = beginAt (searchOf l c (blockOf w)) c op w l
 
--- begin on a lane that waits for nothing: 17, then the lane's part, put back
-abbrev pub beginIdle : Store → LaneNo → Op → WordNo → Outcome
-beginIdle s k op w = cond (exhaustedOf s) (refuse PlacesExhausted s) (commitLane s k (beginLane (s .shape .c) op w (laneAt s (k .0))))
+-- whether Search has found a line
+abbrev pub isHit : Found → Bool
+isHit (At i) = true
+isHit Nothing = false
+
+-- 02, W5: a lane that waits begins nothing but a load that hits; one that waits for nothing begins any operation
+unfoldable pub admitsOf : ℕ → Op → WordNo → Lane → Bool
+admitsOf c op w l = idleOf (l .waiting) || (isLoad op && isHit (searchOf l c (blockOf w)))
+
+-- begin on a lane that takes the operation: 17, then the lane's part, put back
+abbrev pub beginAdmitted : Store → LaneNo → Op → WordNo → Outcome
+beginAdmitted s k op w = cond (exhaustedOf s) (refuse PlacesExhausted s) (commitLane s k (beginLane (s .shape .c) op w (laneAt s (k .0))))
 
 -- 14, 6, 7, 8, 17, 12
 unfoldable pub beginOf : Store → LaneNo → Op → WordNo → Outcome
 beginOf s k op w =
     guarded s k
-    (cond (leb (4 * s .shape .m) (w .0)) (refuse NoSuchWord s) (cond (idleOf (laneAt s (k .0) .waiting)) (beginIdle s k op w) (refuse LaneBusy s)))
+    (cond (leb (4 * s .shape .m) (w .0)) (refuse NoSuchWord s)
+    (cond (admitsOf (s .shape .c) op w (laneAt s (k .0))) (beginAdmitted s k op w) (refuse LaneBusy s)))

@@ -24,7 +24,7 @@ use Rattle.lanes.specs.declared.Found.{Found}
 use Rattle.lanes.specs.declared.Found.the-variants.{At, Nothing}
 use Rattle.lanes.specs.Search.{lineAt, searchOf, vacantOf}
 use Rattle.lanes.specs.UseOrder.{Insertion, insertedOf}
-use Rattle.lanes.specs.Lanes.{withReturns, withDowns, withLine}
+use Rattle.lanes.specs.Lanes.{withWaiting, withReturns, withDowns, withLine}
 use Rattle.answers.specs.declared.Refusal.the-variants.{NothingPending, QueueFull, Unexpected}
 use Rattle.store.specs.declared.Store.{Store}
 use Rattle.store.specs.declared.Outcome.{Outcome}
@@ -65,10 +65,14 @@ purgeAt Nothing a l = reply (bareReturn Gone a) l
 abbrev pub claimed : Op → Line → Line
 claimed op x = withPrivate (not (isLoad op)) x
 
+-- an operation that completes waits no more: a grant is for the operation that the lane waits for
+abbrev pub waitsNoMore : Lane → Lane
+waitsNoMore l = withWaiting Idle l
+
 -- A grant with words fills the lowest-numbered line that is not valid, which goes in by the policy, and the operation completes; 16 with no free line
 abbrev pub fillAt : Insertion → Found → ℕ → DownMessage → Operation → Lane → LaneStep
 fillAt ins (At i) c x o l =
-    completeWith (insertedOf ins (o .op) c i (l .order)) i (claimed (o .op) (filledLine (x .block) (x .words))) (o .op) (o .word) l
+    completeWith (insertedOf ins (o .op) c i (l .order)) i (claimed (o .op) (filledLine (x .block) (x .words))) (o .op) (o .word) (waitsNoMore l)
 fillAt ins Nothing c x o l = refuseLane Unexpected l
 
 -- 16 for a grant with words on a held block
@@ -78,7 +82,7 @@ grantAt ins Nothing c x o l = fillAt ins (vacantOf l c) c x o l
 
 -- a bare grant uses the held line, and the operation completes; 16 on a block not held
 abbrev pub bareAt : Found → ℕ → Operation → Lane → LaneStep
-bareAt (At i) c o l = complete c i (claimed (o .op) (lineAt l i)) (o .op) (o .word) l
+bareAt (At i) c o l = complete c i (claimed (o .op) (lineAt l i)) (o .op) (o .word) (waitsNoMore l)
 bareAt Nothing c o l = refuseLane Unexpected l
 
 -- the served operation on block a; 16 where there is none

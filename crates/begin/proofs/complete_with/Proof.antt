@@ -16,12 +16,9 @@ mul-y c = search needs
 element-set-from-y : tie.Need-element-set-from-y
 element-set-from-y c = search needs
 
-with-waiting-requires : tie.Need-with-waiting-requires
-with-waiting-requires c κs = search needs
-
 returns : tie.Need-returns
 unfolding completeWith
-returns c = rw (completeWith, c .with-waiting .ensures, c .before .before .before .perform .ensures)
+returns c = rw (completeWith, c .before .before .perform .ensures)
 
 pub complete-with-spec : {M : Type 1} → statement M
 complete-with-spec =
@@ -31,5 +28,4 @@ complete-with-spec =
     cast-j
     mul-y
     element-set-from-y
-    with-waiting-requires
     returns)

@@ -33,18 +33,22 @@ element-copy-out-held c = omega (arith, first-bound _ _ _ _ _ (sym (c .before .b
 claim-requires : tie.Need-claim-requires
 claim-requires c κs = search needs
 
+with-waiting-requires : tie.Need-with-waiting-requires
+with-waiting-requires c κs = search needs
+
 complete-requires : tie.Need-complete-requires
 complete-requires c κs =
-    let at-i = c .before .before .before .before .before in
+    let at-i = c .before .before .before .before .before .before in
     let at-search = at-i .before .before in
     (omega arith, omega (arith, first-bound _ _ _ _ _ (sym (at-search .search .ensures) ∙ at-i .i .given .1)))
 
 returns-2 : tie.Need-returns-2
 returns-2 c =
-    let at-claim = c .before in
+    let at-waiting = c .before in
+    let at-claim = at-waiting .before in
     let at-i = at-claim .before .before .before .before .before in
     let at-search = at-i .before .before in
-    rw (← at-search .search .ensures, at-i .i .given .1, c .complete .ensures, at-claim .claim .ensures)
+    rw (← at-search .search .ensures, at-i .i .given .1, c .complete .ensures, at-waiting .with-waiting .ensures, at-claim .claim .ensures)
 
 pub bare-grant-spec : {M : Type 1} → statement M
 bare-grant-spec =
@@ -59,5 +63,6 @@ bare-grant-spec =
     mul-held
     element-copy-out-held
     claim-requires
+    with-waiting-requires
     complete-requires
     returns-2)

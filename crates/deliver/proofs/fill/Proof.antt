@@ -27,19 +27,23 @@ inserted-requires c κs = search needs
 claim-requires : tie.Need-claim-requires
 claim-requires c κs = search needs
 
+with-waiting-requires : tie.Need-with-waiting-requires
+with-waiting-requires c κs = search needs
+
 complete-with-requires : tie.Need-complete-with-requires
 complete-with-requires c κs =
-    let at-i = c .before .before .before .before .before .before .before in
+    let at-i = c .before .before .before .before .before .before .before .before in
     let at-vacant = at-i .before .before in
     omega (arith, first-bound _ _ _ _ _ (sym (at-vacant .vacant .ensures) ∙ at-i .i .given .1))
 
 returns-2 : tie.Need-returns-2
 returns-2 c =
-    let at-claim = c .before in
+    let at-waiting = c .before in
+    let at-claim = at-waiting .before in
     let at-inserted = at-claim .before in
     let at-i = at-inserted .before .before .before .before .before .before in
     let at-vacant = at-i .before .before in
-    rw (← at-vacant .vacant .ensures, at-i .i .given .1, c .complete-with .ensures, at-inserted .inserted .ensures, at-claim .claim .ensures)
+    rw (← at-vacant .vacant .ensures, at-i .i .given .1, c .complete-with .ensures, at-waiting .with-waiting .ensures, at-inserted .inserted .ensures, at-claim .claim .ensures)
 
 pub fill-spec : {M : Type 1} → statement M
 fill-spec =
@@ -52,5 +56,6 @@ fill-spec =
     returns
     inserted-requires
     claim-requires
+    with-waiting-requires
     complete-with-requires
     returns-2)

@@ -6,7 +6,7 @@ use native.Mathlib.Omega.{arith}
 use Rattle.commit.proofs.Bounds.{lane-bound, lines-bound, oldest-bound, begin-counted, lanes-bound}
 use Rattle.machine.specs.Change.{commitLane}
 use Rattle.machine.specs.Begin.{beginOf}
-use Rattle.machine.proofs.rules.Rules.{idle-waiting, answer-goes}
+use Rattle.machine.proofs.rules.Rules.{answer-goes}
 use borrow.Author.Needs.{needs}
 use Rattle.lanesteps.proofs.begin_sound.Statement.{statement}
 use Rattle.lanesteps.proofs.begin_sound.Tie as tie
@@ -40,8 +40,11 @@ element-copy-out-l c =
     let start = at-if1 .before .before in
     lane-bound _ _ (start .pre) (at-if1 .if1 .left)
 
-idle-requires : tie.Need-idle-requires
-idle-requires c κs = search needs
+admits-requires : tie.Need-admits-requires
+admits-requires c κs =
+    let at-if1 = c .before .before .before .before in
+    let start = at-if1 .before .before in
+    lines-bound _ _ (start .pre) (at-if1 .if1 .left)
 
 exhausted-requires : tie.Need-exhausted-requires
 exhausted-requires c κs =
@@ -56,15 +59,15 @@ returns-3 : tie.Need-returns-3
 unfolding beginOf
 returns-3 c =
     let at-exhausted = c .before .before in
-    let at-idle = at-exhausted .before .before in
-    let at-if1 = at-idle .before .before .before .before .before in
+    let at-admits = at-exhausted .before .before in
+    let at-if1 = at-admits .before .before .before .before .before in
     let start = at-if1 .before .before in
     rw (
       beginOf,
       start .pre,
       lt-leb _ _ (at-if1 .if1 .left),
       lt-leb (4 * start .args .s .shape .m) (start .args .w .0) (omega arith),
-      ← at-idle .idle .ensures,
+      ← at-admits .admits .ensures,
       at-exhausted .before .if3 .taken,
       ← at-exhausted .exhausted .ensures,
       c .before .if4 .taken,
@@ -80,11 +83,11 @@ begin-lane-requires c κs =
 count-requires : tie.Need-count-requires
 count-requires c κs =
     let at-exhausted = c .before .before in
-    let at-idle = at-exhausted .before .before in
-    let at-if1 = at-idle .before .before .before .before .before in
+    let at-admits = at-exhausted .before .before in
+    let at-if1 = at-admits .before .before .before .before .before in
     let start = at-if1 .before .before in
     rw (c .begin-lane .ensures)
-    (begin-counted _ _ (start .pre) (at-if1 .if1 .left) _ _ (idle-waiting _ (sym (at-idle .idle .ensures) ∙ at-exhausted .before .if3 .taken))
+    (begin-counted _ _ (start .pre) (at-if1 .if1 .left) _ _ (sym (at-admits .admits .ensures) ∙ at-exhausted .before .if3 .taken)
     (sym (at-exhausted .exhausted .ensures) ∙ c .before .if4 .left))
 
 answer-to-requires : tie.Need-answer-to-requires
@@ -98,15 +101,15 @@ unfolding beginOf commitLane
 returns-4 c =
     let at-count = c .before .before .before in
     let at-exhausted = at-count .before .before .before in
-    let at-idle = at-exhausted .before .before in
-    let at-if1 = at-idle .before .before .before .before .before in
+    let at-admits = at-exhausted .before .before in
+    let at-if1 = at-admits .before .before .before .before .before in
     let start = at-if1 .before .before in
     rw (
       beginOf,
       start .pre,
       lt-leb _ _ (at-if1 .if1 .left),
       lt-leb (4 * start .args .s .shape .m) (start .args .w .0) (omega arith),
-      ← at-idle .idle .ensures,
+      ← at-admits .admits .ensures,
       at-exhausted .before .if3 .taken,
       ← at-exhausted .exhausted .ensures,
       at-count .before .before .if4 .left,
@@ -134,15 +137,15 @@ unfolding beginOf commitLane
 returns-5 c =
     let at-count = c .before .before .before .before in
     let at-exhausted = at-count .before .before .before in
-    let at-idle = at-exhausted .before .before in
-    let at-if1 = at-idle .before .before .before .before .before in
+    let at-admits = at-exhausted .before .before in
+    let at-if1 = at-admits .before .before .before .before .before in
     let start = at-if1 .before .before in
     rw (
       beginOf,
       start .pre,
       lt-leb _ _ (at-if1 .if1 .left),
       lt-leb (4 * start .args .s .shape .m) (start .args .w .0) (omega arith),
-      ← at-idle .idle .ensures,
+      ← at-admits .admits .ensures,
       at-exhausted .before .if3 .taken,
       ← at-exhausted .exhausted .ensures,
       at-count .before .before .if4 .left,
@@ -161,15 +164,15 @@ refused-requires-5 c κs = search needs
 returns-6 : tie.Need-returns-6
 unfolding beginOf
 returns-6 c =
-    let at-idle = c .before .before in
-    let at-if1 = at-idle .before .before .before .before .before in
+    let at-admits = c .before .before in
+    let at-if1 = at-admits .before .before .before .before .before in
     let start = at-if1 .before .before in
     rw (
       beginOf,
       start .pre,
       lt-leb _ _ (at-if1 .if1 .left),
       lt-leb (4 * start .args .s .shape .m) (start .args .w .0) (omega arith),
-      ← at-idle .idle .ensures,
+      ← at-admits .admits .ensures,
       c .before .if3 .left,
       c .refused5 .ensures,
     )
@@ -185,7 +188,7 @@ begin-sound-spec =
     cast-i
     mul-l
     element-copy-out-l
-    idle-requires
+    admits-requires
     exhausted-requires
     refused-requires-3
     returns-3

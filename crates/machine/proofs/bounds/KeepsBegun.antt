@@ -18,7 +18,7 @@ use Rattle.words.specs.declared.Op.{Op}
 use Rattle.words.specs.Units.{blockOf}
 use Rattle.words.specs.Operations.{isLoad}
 use Rattle.words.specs.Folds.{upTo, sumTo}
-use Rattle.words.proofs.Folds.{below?, by-cond, pick}
+use Rattle.words.proofs.Folds.{below?, by-cond, pick, or-left}
 use Rattle.queues.specs.declared.ReturnMessage.{ReturnMessage}
 use Rattle.queues.specs.declared.DownMessage.{DownMessage}
 use Rattle.queues.specs.declared.DownKind.{DownKind}
@@ -54,9 +54,10 @@ use Rattle.machine.specs.Begin.{completeWith, complete, hit, ejectOf, ev
 use Rattle.machine.specs.Begin as begin
 use Rattle.machine.specs.Serve.{close, serveMove}
 use Rattle.machine.specs.Return.{returnMove}
-use Rattle.machine.specs.Deliver.{reply, updateAt, purgeAt, fillAt, grantAt, bareAt, servedOn, grantTo, bareTo, deliverKind, deliverLane}
+use Rattle.machine.specs.Deliver.{waitsNoMore, reply, updateAt, purgeAt, fillAt, grantAt, bareAt, servedOn, grantTo, bareTo, deliverKind, deliverLane}
 use Rattle.machine.proofs.laws.Sets.{set-cases}
 use Rattle.machine.proofs.laws.Sums.{sum-same, set-sum, sum-part, count-sum}
+use Rattle.machine.proofs.rules.Rules.{Admitted}
 use Rattle.machine.proofs.rules.RulesMemory.{serve-move-rule, return-move-rule}
 
 -- 1 where the lane's operation waits
@@ -86,40 +87,42 @@ LaneBegins b l r = refusedIn (r .answer) ≡ false → completes (r .answer) + w
 refused-begins : (b : ℕ) (l : Lane) (n : Refusal) → LaneBegins b l (refuseLane n l)
 refused-begins b l n e = absurd (true≢false e)
 
--- an operation completes: one that the lane waited for, or the one that begins
-complete-begins : (b : ℕ) (o : List LineNo) (i : LineNo) (x : Line) (op : Op) (w : WordNo) (l : Lane) → waits l + b ≡ 1 → LaneBegins b l (completeWith o i x op w l)
+-- an operation completes on a lane that waits as l did, or no more for the one that completes
+complete-begins : (b : ℕ) (o : List LineNo) (i : LineNo) (x : Line) (op : Op) (w : WordNo) (l t : Lane) → waits l + b ≡ 1 + waits t → LaneBegins b l (completeWith o i x op w t)
 unfolding completeWith
-complete-begins b o i x op w l h e = sym h
+complete-begins b o i x op w l t h e = sym h
 
-module _ (c : ℕ) (op : Op) (w : WordNo) (l : Lane) (idle : l .waiting ≡ Idle) where
+module _ (c : ℕ) (op : Op) (w : WordNo) (l : Lane) (free : Admitted c op w l) where
   -- the lane waits for nothing, and now for one operation
-  begins-one : waits l + 1 ≡ 1
-  begins-one = rw (waiting-waits l Idle idle) refl
+  begins-one : l .waiting ≡ Idle → waits l + 1 ≡ 1
+  begins-one idle = rw (waiting-waits l Idle idle) refl
 
+  -- the operation completes, and what waits still waits; or the lane waits now
   hit-begins : (i : LineNo) → LaneBegins 1 l (hit c i op w l)
   unfolding hit
   hit-begins i =
-      by-cond (LaneBegins 1 l) (isLoad op || lineAt l i .private) (complete c i (lineAt l i) op w l) (begin.waits Exclude op w l)
-      (complete-begins 1 _ i (lineAt l i) op w l begins-one) (λ _. sym begins-one)
+      pick (LaneBegins 1 l) (isLoad op || lineAt l i .private) (complete c i (lineAt l i) op w l) (begin.waits Exclude op w l)
+      (λ _. complete-begins 1 _ i (lineAt l i) op w l l (omega arith))
+      (λ t _. sym (begins-one (free .write (or-left (isLoad op) (lineAt l i .private) t))))
 
-  evict-begins : (i : LineNo) → LaneBegins 1 l (evict i op w l)
+  evict-begins : l .waiting ≡ Idle → (i : LineNo) → LaneBegins 1 l (evict i op w l)
   unfolding evict
-  evict-begins i =
-      by-cond (LaneBegins 1 l) (pushReturn (l .returns) (ejectOf (lineAt l i)) .full) (refuseLane QueueFull l) _ (refused-begins 1 l QueueFull) (λ _. sym begins-one)
+  evict-begins idle i =
+      by-cond (LaneBegins 1 l) (pushReturn (l .returns) (ejectOf (lineAt l i)) .full) (refuseLane QueueFull l) _ (refused-begins 1 l QueueFull) (λ _. sym (begins-one idle))
 
-  miss-begins : (f : Found) → LaneBegins 1 l (missWith f op w l)
-  miss-begins (At i) = λ _. sym begins-one
-  miss-begins Nothing = evict-begins (placeAt (l .order) 0)
+  miss-begins : l .waiting ≡ Idle → (f : Found) → LaneBegins 1 l (missWith f op w l)
+  miss-begins idle (At i) = λ _. sym (begins-one idle)
+  miss-begins idle Nothing = evict-begins idle (placeAt (l .order) 0)
 
-  at-begins : (f : Found) → LaneBegins 1 l (beginAt f c op w l)
+  at-begins : (f : Found) → searchOf l c (blockOf w) ≡ f → LaneBegins 1 l (beginAt f c op w l)
   unfolding miss
-  at-begins (At i) = hit-begins i
-  at-begins Nothing = miss-begins (vacantOf l c)
+  at-begins (At i) e = hit-begins i
+  at-begins Nothing e = miss-begins (free .miss e) (vacantOf l c)
 
   -- the lane's part of begin
   pub begin-lane-begins : LaneBegins 1 l (beginLane c op w l)
   unfolding beginLane
-  begin-lane-begins = at-begins (searchOf l c (blockOf w))
+  begin-lane-begins = at-begins (searchOf l c (blockOf w)) refl
 
 -- an answer joins the return queue of a lane that waits as l does
 reply-begins : (y : ReturnMessage) (l t : Lane) → waits t ≡ waits l → LaneBegins 0 l (reply y t)
@@ -138,11 +141,11 @@ module _ (ins : Insertion) (c : ℕ) (l : Lane) where
 
   -- a grant is to the operation that the lane waits for
   module _ (o : Operation) (served : l .waiting ≡ Served o) where
-    waited-one : waits l + 0 ≡ 1
+    waited-one : waits l + 0 ≡ 1 + waits (waitsNoMore l)
     waited-one = rw (waiting-waits l (Served o) served) refl
 
     fill-begins : (x : DownMessage) (f : Found) → LaneBegins 0 l (fillAt ins f c x o l)
-    fill-begins x (At i) = complete-begins 0 _ i _ (o .op) (o .word) l waited-one
+    fill-begins x (At i) = complete-begins 0 _ i _ (o .op) (o .word) l (waitsNoMore l) waited-one
     fill-begins x Nothing = refused-begins 0 l Unexpected
 
     grant-begins : (x : DownMessage) (f : Found) → LaneBegins 0 l (grantAt ins f c x o l)
@@ -150,7 +153,7 @@ module _ (ins : Insertion) (c : ℕ) (l : Lane) where
     grant-begins x Nothing = fill-begins x (vacantOf l c)
 
     bare-begins : (f : Found) → LaneBegins 0 l (bareAt f c o l)
-    bare-begins (At i) = complete-begins 0 _ i _ (o .op) (o .word) l waited-one
+    bare-begins (At i) = complete-begins 0 _ i _ (o .op) (o .word) l (waitsNoMore l) waited-one
     bare-begins Nothing = refused-begins 0 l Unexpected
 
   -- .. or is refused

@@ -32,9 +32,9 @@ use Rattle.machine.specs.declared.LaneStep.{LaneStep}
 use Rattle.machine.specs.declared.Ready.{Ready}
 use Rattle.machine.specs.declared.Ready.the-variants.{Go, No}
 use Rattle.machine.specs.Change.{refuseLane, refusedIn}
-use Rattle.machine.specs.Deliver.{shared, updateAt, purgedOf, purgeAt, claimed, fillAt, grantAt, bareAt, servedOn, grantTo, bareTo, deliverKind, deliverLane, deliverOf}
+use Rattle.machine.specs.Deliver.{waitsNoMore, shared, updateAt, purgedOf, purgeAt, claimed, fillAt, grantAt, bareAt, servedOn, grantTo, bareTo, deliverKind, deliverLane, deliverOf}
 use Rattle.machine.proofs.laws.Orders.{used-kept, inserted-kept}
-use Rattle.machine.proofs.bounds.KeepsLane.{LaneFit, clash, with-line, complete-keeps, reply-keeps, taken-keeps, head-inside}
+use Rattle.machine.proofs.bounds.KeepsLane.{LaneFit, clash, with-line, with-idle, complete-keeps, reply-keeps, taken-keeps, head-inside}
 use Rattle.machine.proofs.bounds.KeepsBegun.{deliver-lane-begins}
 use Rattle.machine.proofs.bounds.KeepsStore.{Fit, lane-fit, commit-lane-keeps}
 use Rattle.machine.proofs.rules.Rules.{deliver-rule}
@@ -59,7 +59,7 @@ module _ (ins : Insertion) (h c m : ℕ) (c₀ : 1 ≤ c) (c₁ : c ≤ h) (z : 
 
   fill-keeps : (x : DownMessage) (o : Operation) → x .block .0 < m → (f : Found) → LaneFit h c m (fillAt ins f c x o l .lane)
   fill-keeps x o b (At i) =
-      complete-keeps h c m l g _ i (claimed (o .op) (filledLine (x .block) (x .words))) (o .op) (o .word) c₀ c₁ (λ _. b) (inserted-kept ins (o .op) c i (l .order))
+      complete-keeps h c m (waitsNoMore l) (with-idle h c m l g) _ i (claimed (o .op) (filledLine (x .block) (x .words))) (o .op) (o .word) c₀ c₁ (λ _. b) (inserted-kept ins (o .op) c i (l .order))
   fill-keeps x o b Nothing = g
 
   grant-keeps : (x : DownMessage) (o : Operation) → x .block .0 < m → (f : Found) → LaneFit h c m (grantAt ins f c x o l .lane)
@@ -68,7 +68,7 @@ module _ (ins : Insertion) (h c m : ℕ) (c₀ : 1 ≤ c) (c₁ : c ≤ h) (z : 
 
   bare-keeps : (o : Operation) (a : BlockNo) (f : Found) → searchOf l c a ≡ f → LaneFit h c m (bareAt f c o l .lane)
   bare-keeps o a (At i) e =
-      complete-keeps h c m l g _ i (claimed (o .op) (lineAt l i)) (o .op) (o .word) c₀ c₁ (g .sound .lines (i .0) (found-below l c a i e)) (used-kept c i (l .order))
+      complete-keeps h c m (waitsNoMore l) (with-idle h c m l g) _ i (claimed (o .op) (lineAt l i)) (o .op) (o .word) c₀ c₁ (g .sound .lines (i .0) (found-below l c a i e)) (used-kept c i (l .order))
   bare-keeps o a Nothing e = g
 
   grants-keep : (x : DownMessage) → x .block .0 < m → (r : Ready) → LaneFit h c m (grantTo ins r c x l .lane)

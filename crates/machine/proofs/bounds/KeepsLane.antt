@@ -23,7 +23,7 @@ use Rattle.queues.specs.declared.DownQueue.{DownQueue}
 use Rattle.queues.specs.Queues.{noReturn, noDown, takeReturn, takeDown}
 use Rattle.lanes.specs.declared.Lane.{Lane}
 use Rattle.lanes.specs.declared.Operation.{Operation}
-use Rattle.lanes.specs.declared.Waiting.the-variants.{Unserved, Served}
+use Rattle.lanes.specs.declared.Waiting.the-variants.{Idle, Unserved, Served}
 use Rattle.lanes.specs.Lanes.{withWaiting, withReturns, withDowns, withLine}
 use Rattle.machine.specs.Change.{posted}
 use Rattle.machine.specs.Begin.{completeWith}
@@ -120,6 +120,20 @@ module _ (h c m : ℕ) (l : Lane) (g : LaneFit h c m l) where
         long = g .long;
       }
 
+  pub with-idle : LaneFit h c m (withWaiting Idle l)
+  with-idle =
+      record {
+        sound = record {
+          lines = g .sound .lines;
+          order = g .sound .order;
+          returns = g .sound .returns;
+          downs = g .sound .downs;
+          unserved = λ p e. clash (cc);
+          served = λ p e. clash (cc);
+        };
+        long = g .long;
+      }
+
   -- an operation completes on a line, whatever the use order is after it
   pub complete-keeps : (o : List LineNo) (i : LineNo) (x : Line) (op : Op) (w : WordNo) → 1 ≤ c → c ≤ h → (x .valid ≡ true → x .block .0 < m) →
       Kept c (l .order) o → LaneFit h c m (completeWith o i x op w l .lane)
@@ -133,8 +147,8 @@ module _ (h c m : ℕ) (l : Lane) (g : LaneFit h c m l) where
           order = k .1 p (omega arith) (g .sound .order);
           returns = g .sound .returns;
           downs = g .sound .downs;
-          unserved = λ v y. clash (cc);
-          served = λ v y. clash (cc);
+          unserved = g .sound .unserved;
+          served = g .sound .served;
         };
         long = omega arith;
       }

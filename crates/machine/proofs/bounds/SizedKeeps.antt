@@ -35,7 +35,7 @@ use Rattle.lanes.specs.declared.Operation.{Operation}
 use Rattle.lanes.specs.declared.Command.{Command}
 use Rattle.lanes.specs.declared.Command.the-variants.{ReadShared, ReadExclusive, Exclude}
 use Rattle.lanes.specs.declared.Waiting.{Waiting}
-use Rattle.lanes.specs.declared.Waiting.the-variants.{Served}
+use Rattle.lanes.specs.declared.Waiting.the-variants.{Idle, Served}
 use Rattle.lanes.specs.declared.Found.{Found}
 use Rattle.lanes.specs.declared.Found.the-variants.{At, Nothing}
 use Rattle.lanes.specs.Search.{lineAt, searchOf, vacantOf}
@@ -57,7 +57,7 @@ use Rattle.machine.specs.Change.{refuseLane, commitLane, posted, postTo,
 use Rattle.machine.specs.Begin.{completeWith, complete, waits, hit, ejectOf, evict, missWith, miss, beginAt, beginLane, beginOf}
 use Rattle.machine.specs.Serve.{closedBlock, close, serveMove, serveOf}
 use Rattle.machine.specs.Return.{takenBy, returnMove, returnOf}
-use Rattle.machine.specs.Deliver.{reply, shared, updateAt, purgeAt, fillAt, grantAt, bareAt, servedOn, grantTo, bareTo, deliverKind, deliverLane, deliverOf}
+use Rattle.machine.specs.Deliver.{waitsNoMore, reply, shared, updateAt, purgeAt, fillAt, grantAt, bareAt, servedOn, grantTo, bareTo, deliverKind, deliverLane, deliverOf}
 use Rattle.machine.specs.Settle.{settleStep, lane}
 use Rattle.machine.specs.Sized.{LaneSized, Sized}
 use Rattle.machine.proofs.laws.Sets.{set-cases}
@@ -160,7 +160,7 @@ module _ (ins : Insertion) (c : ℕ) (l : Lane) (g : LaneSized l) where
   purge-sized a Nothing = reply-sized l g _
 
   fill-sized : (x : DownMessage) (o : Operation) (f : Found) → LaneSized (fillAt ins f c x o l .lane)
-  fill-sized x o (At i) = complete-sized l g _ i _ (o .op) (o .word) (inserted-kept ins (o .op) c i (l .order) .0)
+  fill-sized x o (At i) = complete-sized (waitsNoMore l) (with-waiting-sized l g Idle) _ i _ (o .op) (o .word) (inserted-kept ins (o .op) c i (l .order) .0)
   fill-sized x o Nothing = g
 
   grant-sized : (x : DownMessage) (o : Operation) (f : Found) → LaneSized (grantAt ins f c x o l .lane)
@@ -168,7 +168,7 @@ module _ (ins : Insertion) (c : ℕ) (l : Lane) (g : LaneSized l) where
   grant-sized x o Nothing = fill-sized x o (vacantOf l c)
 
   bare-sized : (o : Operation) (f : Found) → LaneSized (bareAt f c o l .lane)
-  bare-sized o (At i) = complete-sized l g _ i _ (o .op) (o .word) (used-kept c i (l .order) .0)
+  bare-sized o (At i) = complete-sized (waitsNoMore l) (with-waiting-sized l g Idle) _ i _ (o .op) (o .word) (used-kept c i (l .order) .0)
   bare-sized o Nothing = g
 
   grants-sized : (x : DownMessage) (r : Ready) → LaneSized (grantTo ins r c x l .lane)

@@ -43,6 +43,7 @@ use Rattle.machine.specs.Sized.{LaneSized}
 use Rattle.machine.proofs.laws.Tests.{on}
 use Rattle.machine.proofs.bounds.KeepsLane.{clash}
 use Rattle.machine.proofs.bounds.KeepsBegin.{all-valid}
+use Rattle.machine.proofs.rules.Rules.{Admitted}
 use Rattle.machine.proofs.protocol.BlockState.{Status, Invalid, Shared, Modified, held, dirty, Seen, keepIf, returnAbout, downAbout, waitingOn, seen, valueDone}
 use Rattle.machine.proofs.protocol.Moves.{hitSeen, waitSeen, evictSeen, ejection}
 use Rattle.machine.proofs.projection.Queued.{queuedReturns, queuedDowns, push-returns, keep-join}
@@ -120,17 +121,17 @@ module _ (o : List LineNo) (c : ℕ) (l : Lane) (long : c ≤ length (l .lines))
   pub complete-unique : Unique c (completeWith o i x op w l .lane)
   complete-unique = unique-changed c i (performOf x op w .line) l _ complete-changed u (λ _. alone)
 
-  pub complete-here : (a : BlockNo) → x .block .0 ≡ a .0 → seen c a (completeWith o i x op w l .lane) ≡ heldAs a (performOf x op w .line) (withWaiting Idle l)
+  pub complete-here : (a : BlockNo) → x .block .0 ≡ a .0 → seen c a (completeWith o i x op w l .lane) ≡ heldAs a (performOf x op w .line) l
   unfolding completeWith
   complete-here a e =
       let f = changed-found c i (performOf x op w .line) l _ complete-changed complete-unique h a (valid-holds (performOf x op w .line) a v e) in
-      seen-held c a (completeWith o i x op w l .lane) i f ∙ ap (λ (y : Line). heldAs a y (withWaiting Idle l)) (complete-changed .here)
+      seen-held c a (completeWith o i x op w l .lane) i f ∙ ap (λ (y : Line). heldAs a y l) (complete-changed .here)
 
-  pub complete-others : (a : BlockNo) → a .0 ≢ x .block .0 → holdsOf (lineAt l i) a ≡ false → waitingOn a (l .waiting) ≡ Idle → seen c a (completeWith o i x op w l .lane) ≡ seen c a l
+  pub complete-others : (a : BlockNo) → a .0 ≢ x .block .0 → holdsOf (lineAt l i) a ≡ false → seen c a (completeWith o i x op w l .lane) ≡ seen c a l
   unfolding completeWith
-  complete-others a n f e =
+  complete-others a n f =
       let s = changed-other c i (performOf x op w .line) l (completeWith o i x op w l .lane) complete-changed a complete-unique f (other-holds (performOf x op w .line) a (λ q. n (sym q))) in
-      seen-same c a l (completeWith o i x op w l .lane) s refl refl (sym e)
+      seen-same c a l (completeWith o i x op w l .lane) s refl refl refl
 
 -- a queue that took a message had a free place
 pub push-room : (q : ReturnQueue) (m : ReturnMessage) → pushReturn q m .full ≡ false → q .len < 2
@@ -188,22 +189,23 @@ module _ (c : ℕ) (l : Lane) (z : LaneSized l) (b : c ≤ 8) (u : Unique c l) (
       let e = ap (λ (x : BlockNo). x .0) (eject-block (lineAt l i)) in
       seen-same c a l (evicted i l) s (returns-other (l .returns) (ejectOf (lineAt l i)) (z .returns) room a (λ q. n (sym q ∙ e))) refl refl
 
--- begin completes on a held line
+-- begin completes on a held line; what the lane waits for, it waits for still
 pub record HitCase (c : ℕ) (op : Op) (w : WordNo) (l : Lane) (r : LaneStep) : Type 0 where
   pub answer : r .answer ≡ Value (valueDone op w (seen c (blockOf w) l .words))
   pub copy : held (seen c (blockOf w) l .line) ≡ true
   pub able : (isLoad op || dirty (seen c (blockOf w) l .line)) ≡ true
   pub here : seen c (blockOf w) (r .lane) ≡ hitSeen op w (seen c (blockOf w) l)
   pub others : (a : BlockNo) → a .0 ≢ blockOf w .0 → seen c a (r .lane) ≡ seen c a l
-  pub waiting : r .lane .waiting ≡ Idle
+  pub waiting : r .lane .waiting ≡ l .waiting
   pub unique : Unique c (r .lane)
 
 -- the operation that a begin call leaves waiting
 abbrev pub asked : Command → Op → WordNo → Operation
 asked x op w = record { command = x; op = op; word = w }
 
--- begin waits with command x, where the lane has s of the block
+-- begin waits with command x, where the lane waited for nothing and has s of the block
 pub record WaitCase (c : ℕ) (op : Op) (w : WordNo) (x : Command) (s : Status) (l : Lane) (r : LaneStep) : Type 0 where
+  pub idle : l .waiting ≡ Idle
   pub answer : r .answer ≡ Waits
   pub line : seen c (blockOf w) l .line ≡ s
   pub here : seen c (blockOf w) (r .lane) ≡ waitSeen (Unserved (asked x op w)) (seen c (blockOf w) l)
@@ -227,7 +229,6 @@ pub record EvictCase (c : ℕ) (op : Op) (w : WordNo) (l : Lane) (r : LaneStep) 
   pub victim : BlockNo
   pub apart : victim .0 ≢ blockOf w .0
   pub copy : held (seen c victim l .line) ≡ true
-  pub idle : seen c victim l .waiting ≡ Idle
   pub there : seen c victim (r .lane) ≡ evictSeen victim (seen c victim l)
   pub others : (a : BlockNo) → a .0 ≢ blockOf w .0 → a .0 ≢ victim .0 → seen c a (r .lane) ≡ seen c a l
 
@@ -244,7 +245,7 @@ pub data BeginCase (c : ℕ) (op : Op) (w : WordNo) (l : Lane) (r : LaneStep) : 
   Evicts : EvictCase c op w l r → BeginCase c op w l r
   Refuses : RefusedCase l r → BeginCase c op w l r
 
-module _ (c : ℕ) (op : Op) (w : WordNo) (l : Lane) (z : LaneSized l) (b : c ≤ 8) (u : Unique c l) (idle : l .waiting ≡ Idle) where
+module _ (c : ℕ) (op : Op) (w : WordNo) (l : Lane) (z : LaneSized l) (b : c ≤ 8) (u : Unique c l) (free : Admitted c op w l) where
   -- a lane that waits with a command, seen by the operation's block and by another
   wait-here : (x : Command) (l′ : Lane) → seen c (blockOf w) (withWaiting (Unserved (asked x op w)) l′) ≡ waitSeen (Unserved (asked x op w)) (seen c (blockOf w) l′)
   wait-here x l′ =
@@ -278,18 +279,19 @@ module _ (c : ℕ) (op : Op) (w : WordNo) (l : Lane) (z : LaneSized l) (b : c �
           answer = ap (λ (x : Seen). Value (valueDone op w (x .words))) (sym hit-seen);
           copy = ap (λ (x : Seen). held (x .line)) hit-seen ∙ held-line (lineAt l i .private);
           able = ap (λ (x : Seen). isLoad op || dirty (x .line)) hit-seen ∙ ap (λ (p : Bool). isLoad op || p) (dirty-line (lineAt l i .private)) ∙ t;
-          here = complete-here (usedOf c i (l .order)) c l long u i (lineAt l i) op w hit-below (hit-valid .0) hit-alone (blockOf w) (hit-valid .1) ∙
-              ap (λ (x : Waiting). heldAs (blockOf w) (performOf (lineAt l i) op w .line) (withWaiting x l)) (sym idle) ∙ ap (hitSeen op w) (sym hit-seen);
+          here = complete-here (usedOf c i (l .order)) c l long u i (lineAt l i) op w hit-below (hit-valid .0) hit-alone (blockOf w) (hit-valid .1) ∙ ap (hitSeen op w) (sym hit-seen);
           others = λ a n. complete-others (usedOf c i (l .order)) c l long u i (lineAt l i) op w hit-below (hit-valid .0) hit-alone a (λ q. n (q ∙ hit-valid .1))
-              (other-holds (lineAt l i) a (λ q. n (sym q ∙ hit-valid .1))) (ap (waitingOn a) idle);
+              (other-holds (lineAt l i) a (λ q. n (sym q ∙ hit-valid .1)));
           waiting = refl;
           unique = complete-unique (usedOf c i (l .order)) c l long u i (lineAt l i) op w hit-below (hit-valid .0) hit-alone;
         }
 
     exclude-case : (isLoad op || lineAt l i .private) ≡ false → ExcludeCase c op w l (waits Exclude op w l)
     exclude-case f =
+        let idle = free .write (or-left (isLoad op) (lineAt l i .private) f) in
         record {
           wait = record {
+            idle = idle;
             answer = refl;
             line = ap (λ (x : Seen). x .line) hit-seen ∙ ap (λ (p : Bool). cond p Modified Shared) (or-right (isLoad op) (lineAt l i .private) f);
             here = wait-here Exclude l;
@@ -306,13 +308,16 @@ module _ (c : ℕ) (op : Op) (w : WordNo) (l : Lane) (z : LaneSized l) (b : c �
 
   -- Search finds nothing
   module _ (e : searchOf l c (blockOf w) ≡ Nothing) where
+    idle : l .waiting ≡ Idle
+    idle = free .miss e
+
     miss-line : seen c (blockOf w) l .line ≡ Invalid
     miss-line = ap (λ (x : Seen). x .line) (seen-none c (blockOf w) l e)
 
     read-case : ReadCase c op w l (waits (readOf op) op w l)
     read-case =
         record {
-          wait = record { answer = refl; line = miss-line; here = wait-here (readOf op) l; waiting = refl; unique = u };
+          wait = record { idle = idle; answer = refl; line = miss-line; here = wait-here (readOf op) l; waiting = refl; unique = u };
           others = wait-other (readOf op) l idle;
         }
 
@@ -320,6 +325,7 @@ module _ (c : ℕ) (op : Op) (w : WordNo) (l : Lane) (z : LaneSized l) (b : c �
     evict-case i h v room =
         record {
           wait = record {
+            idle = idle;
             answer = refl;
             line = miss-line;
             here = wait-here (readOf op) (evicted i l) ∙ ap (waitSeen (Unserved (asked (readOf op) op w))) (evict-others c l z b u i h v room (blockOf w) (λ q. apart (sym q)));
@@ -329,7 +335,6 @@ module _ (c : ℕ) (op : Op) (w : WordNo) (l : Lane) (z : LaneSized l) (b : c �
           victim = lineAt l i .block;
           apart = apart;
           copy = evict-copy c l z b u i h v room;
-          idle = seen-idle c (lineAt l i .block) l idle;
           there = wait-other (readOf op) (evicted i l) idle (lineAt l i .block) apart ∙ evict-here c l z b u i h v room;
           others = λ a n m. wait-other (readOf op) (evicted i l) idle a n ∙ evict-others c l z b u i h v room a m;
         }
@@ -349,10 +354,10 @@ module _ (c : ℕ) (op : Op) (w : WordNo) (l : Lane) (z : LaneSized l) (b : c �
     miss-case h Nothing q = oldest-case (placeAt (l .order) 0) h (all-valid l c q (placeAt (l .order) 0 .0) h)
 
 -- the lane's part of begin
-pub begin-case : (c : ℕ) (op : Op) (w : WordNo) (l : Lane) → LaneSized l → c ≤ 8 → Unique c l → placeAt (l .order) 0 .0 < c → l .waiting ≡ Idle → BeginCase c op w l (beginLane c op w l)
+pub begin-case : (c : ℕ) (op : Op) (w : WordNo) (l : Lane) → LaneSized l → c ≤ 8 → Unique c l → placeAt (l .order) 0 .0 < c → Admitted c op w l → BeginCase c op w l (beginLane c op w l)
 unfolding beginLane miss
-begin-case c op w l z b u h idle = go (searchOf l c (blockOf w)) refl
+begin-case c op w l z b u h free = go (searchOf l c (blockOf w)) refl
   where
     go : (f : Found) → searchOf l c (blockOf w) ≡ f → BeginCase c op w l (beginAt f c op w l)
-    go (At i) e = at-case c op w l z b u idle i e
-    go Nothing e = miss-case c op w l z b u idle e h (vacantOf l c) refl
+    go (At i) e = at-case c op w l z b u free i e
+    go Nothing e = miss-case c op w l z b u free e h (vacantOf l c) refl

@@ -40,7 +40,7 @@ use Rattle.machine.specs.declared.Ready.the-variants.{Go, No}
 use Rattle.machine.specs.declared.LaneAnswer.the-variants.{Value, Stepped}
 use Rattle.machine.specs.Change.{refuseLane}
 use Rattle.machine.specs.Begin.{completeWith}
-use Rattle.machine.specs.Deliver.{reply, shared, updateAt, purgedOf, purgeAt, claimed, fillAt, grantAt, bareAt, servedOn, grantTo, bareTo, deliverKind, orAsBefore, deliverLane}
+use Rattle.machine.specs.Deliver.{waitsNoMore, reply, shared, updateAt, purgedOf, purgeAt, claimed, fillAt, grantAt, bareAt, servedOn, grantTo, bareTo, deliverKind, orAsBefore, deliverLane}
 use Rattle.machine.specs.Sized.{LaneSized}
 use Rattle.machine.proofs.laws.Tests.{on}
 use Rattle.machine.proofs.bounds.KeepsLane.{clash}
@@ -278,11 +278,11 @@ module _ (ins : Insertion) (c : ℕ) (l : Lane) (z : LaneSized l) (b : c ≤ 8) 
       long : c ≤ length (l .lines)
       long = let m = z .lines in omega arith
 
-      grant-here : seen c (headBlock l) (completeWith order i (claimed (o .op) x) (o .op) (o .word) (withDowns (afterHead l) l) .lane) ≡
+      grant-here : seen c (headBlock l) (completeWith order i (claimed (o .op) x) (o .op) (o .word) (waitsNoMore (withDowns (afterHead l) l)) .lane) ≡
           grantSeen o (x .words) (left (headBlock l)) (seen c (headBlock l) l)
       unfolding seen left
       grant-here =
-          complete-here order c (withDowns (afterHead l) l) long u i (claimed (o .op) x) (o .op) (o .word) h v alone (headBlock l) e ∙
+          complete-here order c (waitsNoMore (withDowns (afterHead l) l)) long u i (claimed (o .op) x) (o .op) (o .word) h v alone (headBlock l) e ∙
           (λ j. record {
             line = claimed-line (isLoad (o .op)) j;
             words = wordsDone (o .op) (o .word) (x .words);
@@ -292,14 +292,14 @@ module _ (ins : Insertion) (c : ℕ) (l : Lane) (z : LaneSized l) (b : c ≤ 8) 
           })
 
       grant-others : ((a : BlockNo) → a .0 ≢ headBlock l .0 → holdsOf (lineAt l i) a ≡ false) → (a : BlockNo) → a .0 ≢ headBlock l .0 →
-          seen c a (completeWith order i (claimed (o .op) x) (o .op) (o .word) (withDowns (afterHead l) l) .lane) ≡ seen c a l
+          seen c a (completeWith order i (claimed (o .op) x) (o .op) (o .word) (waitsNoMore (withDowns (afterHead l) l)) .lane) ≡ seen c a l
       grant-others apart a m =
-          complete-others order c (withDowns (afterHead l) l) long u i (claimed (o .op) x) (o .op) (o .word) h v alone a (λ q. m (q ∙ e)) (apart a m)
-          (ap (waitingOn a) t ∙ waiting-other o a (λ q. m (q ∙ n)) .1) ∙
-          seen-same c a l (withDowns (afterHead l) l) (record { line = refl; words = refl }) refl (downs-other a m) refl
+          complete-others order c (waitsNoMore (withDowns (afterHead l) l)) long u i (claimed (o .op) x) (o .op) (o .word) h v alone a (λ q. m (q ∙ e)) (apart a m) ∙
+          seen-same c a l (waitsNoMore (withDowns (afterHead l) l)) (record { line = refl; words = refl }) refl (downs-other a m)
+          (sym (ap (waitingOn a) t ∙ waiting-other o a (λ q. m (q ∙ n)) .1))
 
       grant-case : (y : DownKind) (ws : List ℕ) → headDown (l .downs) .kind ≡ y → x .words ≡ ws → ((a : BlockNo) → a .0 ≢ headBlock l .0 → holdsOf (lineAt l i) a ≡ false) →
-          GrantCase c y ws l (orAsBefore l (completeWith order i (claimed (o .op) x) (o .op) (o .word) (withDowns (afterHead l) l)))
+          GrantCase c y ws l (orAsBefore l (completeWith order i (claimed (o .op) x) (o .op) (o .word) (waitsNoMore (withDowns (afterHead l) l))))
       unfolding completeWith
       grant-case y ws q r apart =
           record {
@@ -308,7 +308,7 @@ module _ (ins : Insertion) (c : ℕ) (l : Lane) (z : LaneSized l) (b : c ≤ 8) 
               rest = left (headBlock l);
               head = downs-head;
               others = grant-others apart;
-              unique = complete-unique order c (withDowns (afterHead l) l) long u i (claimed (o .op) x) (o .op) (o .word) h v alone;
+              unique = complete-unique order c (waitsNoMore (withDowns (afterHead l) l)) long u i (claimed (o .op) x) (o .op) (o .word) h v alone;
             };
             operation = o;
             served = t;

@@ -2,7 +2,7 @@
 -- Most proofs go by these and not by the calls' text. Assumes nothing.
 use Prim.Native.Nat.{ℕ, _<_, _*_}
 use mathlib.Core.Path.{_≡_, refl, _∙_}
-use mathlib.Core.Bool.{true, false, cond}
+use mathlib.Core.Bool.{Bool, true, false, cond, _||_, _&&_}
 use mathlib.Core.Logic.{_≢_}
 use lib.Dec.{leb, ltb}
 use lib.ListN.{set}
@@ -13,11 +13,16 @@ use Rattle.words.specs.declared.BlockNo.{BlockNo}
 use Rattle.words.specs.declared.WordNo.{WordNo}
 use Rattle.words.specs.declared.Op.{Op}
 use Rattle.words.specs.Units.{blockOf}
+use Rattle.words.specs.Operations.{isLoad}
 use Rattle.words.proofs.Folds.{pick}
 use Rattle.queues.specs.Queues.{emptyAt, headReturn}
+use Rattle.lanes.specs.declared.Lane.{Lane}
 use Rattle.lanes.specs.declared.Operation.{Operation}
 use Rattle.lanes.specs.declared.Waiting.{Waiting}
 use Rattle.lanes.specs.declared.Waiting.the-variants.{Idle, Unserved, Served}
+use Rattle.lanes.specs.declared.Found.{Found}
+use Rattle.lanes.specs.declared.Found.the-variants.{At, Nothing}
+use Rattle.lanes.specs.Search.{searchOf}
 use Rattle.lanes.specs.Waits.{idleOf}
 use Rattle.lanes.specs.UseOrder.{Insertion}
 use Rattle.answers.specs.declared.Answer.{Answer}
@@ -37,7 +42,7 @@ use Rattle.machine.specs.declared.Move.{Move}
 use Rattle.machine.specs.declared.Ready.{Ready}
 use Rattle.machine.specs.Corruption.{corruptOf}
 use Rattle.machine.specs.Change.{refuse, guarded, counted, answerTo, refusedIn, laneStore, commitLane, commitMove, someFull, movedStore}
-use Rattle.machine.specs.Begin.{beginLane, beginOf}
+use Rattle.machine.specs.Begin.{isHit, admitsOf, beginLane, beginOf}
 use Rattle.machine.specs.Serve.{readyWith, readyOf, serveReady, serveMove, serveOf}
 use Rattle.machine.specs.Return.{returnMove, returnOf}
 use Rattle.machine.specs.Deliver.{deliverLane, deliverOf}
@@ -56,32 +61,56 @@ guarded-is s k r e h = pick (λ (x : Outcome). x ≡ r) (corruptOf s) _ _ (λ q.
     above : leb (s .shape .n) (k .0) ≡ true → refuse NoSuchLane s ≡ r
     above q = let p = leb-true (s .shape .n) (k .0) q in absurd (omega arith)
 
--- nothing refuses a begin before the lane's part
-pub record BeginReady (s : Store) (k : LaneNo) (w : WordNo) : Type 0 where
-  pub sound : corruptOf s ≡ false
-  pub lane : k .0 < s .shape .n
-  pub inside : blockOf w .0 < s .shape .m
-  pub idle : laneAt s (k .0) .waiting ≡ Idle
-  pub left : begunIn s ≢ lastPlace
-
 pub idle-waiting : (x : Waiting) → idleOf x ≡ true → x ≡ Idle
 idle-waiting Idle e = refl
 idle-waiting (Unserved o) e = clash (cc)
 idle-waiting (Served o) e = clash (cc)
 
+-- 8 does not refuse the operation: what misses, and what is no load, begins on a lane that waits for nothing
+pub record Admitted (c : ℕ) (op : Op) (w : WordNo) (l : Lane) : Type 0 where
+  pub miss : searchOf l c (blockOf w) ≡ Nothing → l .waiting ≡ Idle
+  pub write : isLoad op ≡ false → l .waiting ≡ Idle
+
+pub admitted : (c : ℕ) (op : Op) (w : WordNo) (l : Lane) → admitsOf c op w l ≡ true → Admitted c op w l
+unfolding admitsOf
+admitted c op w l e = record {
+  miss = λ q. idle-waiting (l .waiting) (at-miss (idleOf (l .waiting)) (isLoad op) (searchOf l c (blockOf w)) e q);
+  write = λ q. idle-waiting (l .waiting) (at-write (idleOf (l .waiting)) (isLoad op) (isHit (searchOf l c (blockOf w))) e q);
+}
+  where
+    at-miss : (i p : Bool) (f : Found) → (i || (p && isHit f)) ≡ true → f ≡ Nothing → i ≡ true
+    at-miss true p f e q = refl
+    at-miss false true (At j) e q = clash (cc)
+    at-miss false false (At j) e q = clash (cc)
+    at-miss false true Nothing e q = clash (cc)
+    at-miss false false Nothing e q = clash (cc)
+
+    at-write : (i p h : Bool) → (i || (p && h)) ≡ true → p ≡ false → i ≡ true
+    at-write true p h e q = refl
+    at-write false true h e q = clash (cc)
+    at-write false false h e q = clash (cc)
+
+-- nothing refuses a begin before the lane's part
+pub record BeginReady (s : Store) (k : LaneNo) (op : Op) (w : WordNo) : Type 0 where
+  pub sound : corruptOf s ≡ false
+  pub lane : k .0 < s .shape .n
+  pub inside : blockOf w .0 < s .shape .m
+  pub free : Admitted (s .shape .c) op w (laneAt s (k .0))
+  pub left : begunIn s ≢ lastPlace
+
 pub begin-rule : (P : Outcome → Type 0) (s : Store) (k : LaneNo) (op : Op) (w : WordNo) → ((x : Refusal) → P (refuse x s)) →
-    (BeginReady s k w → P (commitLane s k (beginLane (s .shape .c) op w (laneAt s (k .0))))) → P (beginOf s k op w)
+    (BeginReady s k op w → P (commitLane s k (beginLane (s .shape .c) op w (laneAt s (k .0))))) → P (beginOf s k op w)
 unfolding beginOf
 begin-rule P s k op w stays next =
     guarded-rule P s k _ stays
     (λ c h. pick P (leb (4 * s .shape .m) (w .0)) _ _ (λ _. stays NoSuchWord)
-    (λ e. pick P (idleOf (laneAt s (k .0) .waiting)) _ _
+    (λ e. pick P (admitsOf (s .shape .c) op w (laneAt s (k .0))) _ _
     (λ q. pick P (exhaustedOf s) _ _ (λ _. stays PlacesExhausted)
     (λ d. next (record {
       sound = c;
       lane = h;
       inside = let v = leb-false (4 * s .shape .m) (w .0) e in omega arith;
-      idle = idle-waiting (laneAt s (k .0) .waiting) q;
+      free = admitted (s .shape .c) op w (laneAt s (k .0)) q;
       left = eqb-false _ _ d;
     })))
     (λ _. stays LaneBusy)))

@@ -40,7 +40,7 @@ use Rattle.machine.specs.declared.Ready.{Ready}
 use Rattle.machine.specs.declared.Ready.the-variants.{Go, No}
 use Rattle.machine.specs.Change.{refuseLane, posted, refusedIn}
 use Rattle.machine.specs.Begin.{completeWith}
-use Rattle.machine.specs.Deliver.{reply, shared, updateAt, purgeAt, fillAt, grantAt, bareAt, servedOn, grantTo, bareTo, deliverKind, deliverLane}
+use Rattle.machine.specs.Deliver.{waitsNoMore, reply, shared, updateAt, purgeAt, fillAt, grantAt, bareAt, servedOn, grantTo, bareTo, deliverKind, deliverLane}
 use Rattle.machine.specs.Settle.{isOrder, downsOf}
 use Rattle.machine.specs.Sized.{LaneSized}
 use Rattle.machine.proofs.laws.Tests.{on}
@@ -132,9 +132,9 @@ line-takes : (u : ℕ) (y : ReturnMessage) (i : LineNo) (x : Line) (l : Lane) �
 unfolding weight
 line-takes u y i x l e = reply-takes u y (withLine i x l) e
 
--- an operation completes
+-- the operation that the lane waits for completes
 complete-takes : (u : ℕ) (order : List LineNo) (i : LineNo) (x : Line) (op : Op) (w : WordNo) (l : Lane) (o : Operation) → l .waiting ≡ Served o →
-    Takes u 1 l (completeWith order i x op w l)
+    Takes u 1 l (completeWith order i x op w (waitsNoMore l))
 unfolding completeWith weight
 complete-takes u order i x op w l o e h =
     let a = ap (λ (y : Waiting). cond (unservedOf y) u 0) e in

@@ -16,8 +16,8 @@ use Rattle.words.specs.declared.Op.{Op}
 use Rattle.words.specs.Units.{blockOf}
 use Rattle.words.specs.Lines.{noLine, holdsOf, invalid}
 use Rattle.words.specs.Folds.{anyTo}
-use Rattle.words.specs.Operations.{isLoad}
-use Rattle.words.proofs.Folds.{by-cond, any-true, any-false, any-never, pick}
+use Rattle.words.specs.Operations.{isLoad, performOf}
+use Rattle.words.proofs.Folds.{by-cond, any-true, any-false, any-never, or-left, pick}
 use Rattle.queues.specs.declared.ReturnMessage.{ReturnMessage}
 use Rattle.queues.specs.declared.DownMessage.{DownMessage}
 use Rattle.queues.specs.declared.DownKind.{DownKind}
@@ -33,7 +33,7 @@ use Rattle.lanes.specs.declared.Waiting.the-variants.{Idle, Unserved, Served}
 use Rattle.lanes.specs.declared.Found.{Found}
 use Rattle.lanes.specs.declared.Found.the-variants.{At, Nothing}
 use Rattle.lanes.specs.Search.{lineAt, searchOf, vacantOf}
-use Rattle.lanes.specs.UseOrder.{Insertion, placeAt}
+use Rattle.lanes.specs.UseOrder.{Insertion, placeAt, usedOf}
 use Rattle.lanes.specs.Waits.{unservedOf}
 use Rattle.lanes.specs.Lanes.{withDowns, withLines}
 use Rattle.answers.specs.declared.Refusal.{Refusal}
@@ -43,7 +43,7 @@ use Rattle.machine.specs.declared.Ready.{Ready}
 use Rattle.machine.specs.declared.Ready.the-variants.{Go, No}
 use Rattle.machine.specs.Change.{refuseLane, posted}
 use Rattle.machine.specs.Begin.{completeWith, waits, hit, readOf, ejectOf, evict, missWith, miss, beginAt, beginLane}
-use Rattle.machine.specs.Deliver.{reply, shared, updateAt, purgedOf, purgeAt, fillAt, grantAt, bareAt, servedOn, grantTo, bareTo, deliverKind, orAsBefore, deliverLane}
+use Rattle.machine.specs.Deliver.{waitsNoMore, reply, shared, updateAt, purgedOf, purgeAt, fillAt, grantAt, bareAt, servedOn, grantTo, bareTo, deliverKind, orAsBefore, deliverLane}
 use Rattle.machine.specs.Return.{isAnswer}
 use Rattle.machine.specs.Sized.{LaneSized}
 use Rattle.machine.proofs.laws.Tests.{on}
@@ -52,6 +52,7 @@ use Rattle.machine.proofs.projection.Queued.{queuedReturns, push-return
 use Rattle.machine.proofs.laws.Lines.{holds-valid}
 use Rattle.machine.proofs.projection.Searches.{found-holds, vacant-invalid}
 use Rattle.machine.proofs.projection.SeenBegin.{evicted, push-room}
+use Rattle.machine.proofs.rules.Rules.{Admitted}
 use Rattle.machine.proofs.settle.Live.{ejectCount, hasRoom, LaneLive}
 
 -- a grant of block a may go to the line: it is not valid, or holds the block
@@ -118,51 +119,58 @@ posted-live c m l h = stays-live c l (posted m l) refl (omega arith) (λ a e. e)
 pub none-ejected : (c : ℕ) (l : Lane) → unservedOf (l .waiting) ≡ false → LaneLive c l → ejectCount (queuedReturns (l .returns)) ≤ 0
 none-ejected c l e h = rw e at (h .ejects)
 
-module _ (c : ℕ) (op : Op) (w : WordNo) (l : Lane) (z : LaneSized l) (b : c ≤ 8) (live : LaneLive c l) (idle : l .waiting ≡ Idle) where
-  -- nothing is ejected yet
-  none : ejectCount (queuedReturns (l .returns)) ≤ 0
-  none = none-ejected c l (ap unservedOf idle) live
+module _ (c : ℕ) (op : Op) (w : WordNo) (l : Lane) (z : LaneSized l) (b : c ≤ 8) (live : LaneLive c l) (free : Admitted c op w l) where
+  -- a lane that waits for nothing has ejected nothing yet
+  none : l .waiting ≡ Idle → ejectCount (queuedReturns (l .returns)) ≤ 0
+  none idle = none-ejected c l (ap unservedOf idle) live
 
   -- the lane waits, and has room
   waits-live : (x : Command) (l′ : Lane) → ejectCount (queuedReturns (l′ .returns)) ≤ 1 → roomIn c (l′ .lines) (blockOf w) ≡ true → LaneLive c (waits x op w l′ .lane)
   waits-live x l′ e r = record { ejects = e; room = r }
 
-  -- a hit completes, or waits for the line that it has
+  -- an operation that hits leaves its line as valid as it was, and the lane's room with it
+  complete-room : (o : List LineNo) (i : LineNo) (a : BlockNo) → roomIn c (l .lines) a ≡ true → roomIn c (completeWith o i (lineAt l i) op w l .lane .lines) a ≡ true
+  unfolding completeWith
+  complete-room o i a = room-set c (l .lines) (i .0) (performOf (lineAt l i) op w .line) a (λ e. e)
+
+  -- a hit completes, and what waits still has its room; or it waits for the line that it has
   hit-live : (i : LineNo) → searchOf l c (blockOf w) ≡ At i → LaneLive c (hit c i op w l .lane)
   unfolding hit completeWith
   hit-live i e =
       let f = found-holds c l (blockOf w) i e in
-      let n = none in
-      by-cond (λ (r : LaneStep). LaneLive c (r .lane)) (isLoad op || lineAt l i .private) _ (waits Exclude op w l) (record { ejects = n; room = refl })
-      (waits-live Exclude l (omega arith) (any-true _ c (i .0) (holds-takes (blockOf w) (lineAt l i) (f .1)) (f .0)))
+      pick (λ (r : LaneStep). LaneLive c (r .lane)) (isLoad op || lineAt l i .private) _ (waits Exclude op w l)
+      (λ _. stays-live c l _ refl (omega arith) (complete-room (usedOf c i (l .order)) i) live)
+      (λ t.
+      let n = none (free .write (or-left (isLoad op) (lineAt l i .private) t)) in
+      waits-live Exclude l (omega arith) (any-true _ c (i .0) (holds-takes (blockOf w) (lineAt l i) (f .1)) (f .0)))
 
   -- the line given up is free
-  evict-live : (i : LineNo) → i .0 < c → LaneLive c (evict i op w l .lane)
+  evict-live : l .waiting ≡ Idle → (i : LineNo) → i .0 < c → LaneLive c (evict i op w l .lane)
   unfolding evict
-  evict-live i h =
+  evict-live idle i h =
       let n = z .lines in
       pick (λ (r : LaneStep). LaneLive c (r .lane)) (pushReturn (l .returns) (ejectOf (lineAt l i)) .full) (refuseLane QueueFull l) (waits (readOf op) op w (evicted i l)) (λ _. live)
-      (λ t. waits-live (readOf op) (evicted i l) (push-most l (ejectOf (lineAt l i)) z (push-room (l .returns) (ejectOf (lineAt l i)) t) none)
+      (λ t. waits-live (readOf op) (evicted i l) (push-most l (ejectOf (lineAt l i)) z (push-room (l .returns) (ejectOf (lineAt l i)) t) (none idle))
       (any-true _ c (i .0) (rw (getD-set-same (l .lines) (i .0) (invalid (lineAt l i)) noLine (omega arith))) h))
 
   -- a miss with a line that is not valid, or with none
-  miss-live : placeAt (l .order) 0 .0 < c → (f : Found) → vacantOf l c ≡ f → LaneLive c (missWith f op w l .lane)
-  miss-live h (At i) e =
+  miss-live : l .waiting ≡ Idle → placeAt (l .order) 0 .0 < c → (f : Found) → vacantOf l c ≡ f → LaneLive c (missWith f op w l .lane)
+  miss-live idle h (At i) e =
       let f = vacant-invalid c l i e in
-      let n = none in
+      let n = none idle in
       waits-live (readOf op) l (omega arith) (any-true _ c (i .0) (invalid-takes (blockOf w) (lineAt l i) (f .1)) (f .0))
-  miss-live h Nothing e = evict-live (placeAt (l .order) 0) h
+  miss-live idle h Nothing e = evict-live idle (placeAt (l .order) 0) h
 
   -- by what Search finds
   at-live : placeAt (l .order) 0 .0 < c → (f : Found) → searchOf l c (blockOf w) ≡ f → LaneLive c (beginAt f c op w l .lane)
   unfolding miss
   at-live h (At i) e = hit-live i e
-  at-live h Nothing e = miss-live h (vacantOf l c) refl
+  at-live h Nothing e = miss-live (free .miss e) h (vacantOf l c) refl
 
 -- the lane's part of begin
-pub begin-lane-live : (c : ℕ) (op : Op) (w : WordNo) (l : Lane) → LaneSized l → c ≤ 8 → placeAt (l .order) 0 .0 < c → l .waiting ≡ Idle → LaneLive c l → LaneLive c (beginLane c op w l .lane)
+pub begin-lane-live : (c : ℕ) (op : Op) (w : WordNo) (l : Lane) → LaneSized l → c ≤ 8 → placeAt (l .order) 0 .0 < c → Admitted c op w l → LaneLive c l → LaneLive c (beginLane c op w l .lane)
 unfolding beginLane
-begin-lane-live c op w l z b h idle live = at-live c op w l z b live idle h (searchOf l c (blockOf w)) refl
+begin-lane-live c op w l z b h free live = at-live c op w l z b live free h (searchOf l c (blockOf w)) refl
 
 module _ (ins : Insertion) (c : ℕ) (l : Lane) (z : LaneSized l) (live : LaneLive c l) (q : DownQueue) where
   -- an answer is sent from a lane whose lines leave no less room
@@ -186,7 +194,7 @@ module _ (ins : Insertion) (c : ℕ) (l : Lane) (z : LaneSized l) (live : LaneLi
 
   -- an operation that completes waits no more
   module _ (none : ejectCount (queuedReturns (l .returns)) ≤ 0) where
-    complete-live : (o : List LineNo) (i : LineNo) (x : Line) (op : Op) (w : WordNo) → LaneLive c (orAsBefore l (completeWith o i x op w (withDowns q l)) .lane)
+    complete-live : (o : List LineNo) (i : LineNo) (x : Line) (op : Op) (w : WordNo) → LaneLive c (orAsBefore l (completeWith o i x op w (waitsNoMore (withDowns q l))) .lane)
     unfolding completeWith
     complete-live o i x op w = record { ejects = none; room = refl }
 

@@ -50,17 +50,16 @@ read-fits : (b : Bool) → CommandFits Invalid (cond b ReadShared ReadExclusive)
 read-fits true = (refl, refl)
 read-fits false = (refl, refl)
 
-module _ (s : Store) (f : List ℕ) (i : Consistent s f) (k : LaneNo) (h : k .0 < s .shape .n) (op : Op) (w : WordNo) (inside : blockOf w .0 < s .shape .m)
-    (idle : laneAt s (k .0) .waiting ≡ Idle) where
+module _ (s : Store) (f : List ℕ) (i : Consistent s f) (k : LaneNo) (h : k .0 < s .shape .n) (op : Op) (w : WordNo) (inside : blockOf w .0 < s .shape .m) where
   abbrev l : Lane
   l = laneAt s (k .0)
 
-  -- the lane's operation, as each block sees it: there is none
-  idle-at : (a : ℕ) → project s a .lane (k .0) .waiting ≡ Idle
-  idle-at a = seen-idle (s .shape .c) (blockNo a) l idle
+  -- where the lane waits for nothing: its operation as each block sees it
+  idle-at : l .waiting ≡ Idle → (a : ℕ) → project s a .lane (k .0) .waiting ≡ Idle
+  idle-at idle a = seen-idle (s .shape .c) (blockNo a) l idle
 
-  rests : pendingIn s (k .0) ≡ Rests
-  rests = pending-here s f i (k .0) h ∙ ap pendingOf idle
+  rests : l .waiting ≡ Idle → pendingIn s (k .0) ≡ Rests
+  rests idle = pending-here s f i (k .0) h ∙ ap pendingOf idle
 
   -- the invariant of the operation's block
   before : (v : (ℕ → Status)) × Inv v (project s (blockOf w .0)) (flatBlock f (blockOf w .0))
@@ -82,7 +81,7 @@ module _ (s : Store) (f : List ℕ) (i : Consistent s f) (k : LaneNo) (h : k .0 
         flat = flatAfter f (fed op w);
         unique = lane-unique s f i (k .0) h (r .lane) (c .unique);
         block = each-block (laneStore s k r) (flatAfter f (fed op w)) here there;
-        owes = rw (c .answer) (refl, ap (valueDone op w) (before .1 .bears (k .0) .line (c .copy)) ∙ flat-value f op w, lane-pending-same s f i (k .0) h (r .lane) _ (ap pendingOf (c .waiting ∙ sym idle)), refl);
+        owes = rw (c .answer) (refl, ap (valueDone op w) (before .1 .bears (k .0) .line (c .copy)) ∙ flat-value f op w, lane-pending-same s f i (k .0) h (r .lane) _ (ap pendingOf (c .waiting)), refl);
       }
     where
       here : (v : (ℕ → Status)) × Inv v (project (laneStore s k r) (blockOf w .0)) (flatBlock (flatAfter f (fed op w)) (blockOf w .0))
@@ -104,14 +103,14 @@ module _ (s : Store) (f : List ℕ) (i : Consistent s f) (k : LaneNo) (h : k .0 
         flat = f;
         unique = lane-unique s f i (k .0) h (r .lane) (c .unique);
         block = each-block (laneStore s k r) f here there;
-        owes = rw (c .answer) (rests, lane-pending s f i (k .0) h (r .lane) _ ∙ ap (λ (q : Pending). upd (pendingIn s) (k .0) q) (ap pendingOf (c .waiting)), refl);
+        owes = rw (c .answer) (rests (c .idle), lane-pending s f i (k .0) h (r .lane) _ ∙ ap (λ (q : Pending). upd (pendingIn s) (k .0) q) (ap pendingOf (c .waiting)), refl);
       }
     where
       here : (v : (ℕ → Status)) × Inv v (project (laneStore s k r) (blockOf w .0)) (flatBlock f (blockOf w .0))
       here = (
         before .0,
         rw (lane-project s f i (k .0) h (r .lane) (waitSeen (Unserved (asked x op w)) (seen (s .shape .c) (blockOf w) l)) (blockOf w .0) (c .here))
-            (wait-keeps (before .0) (project s (blockOf w .0)) (flatBlock f (blockOf w .0)) (k .0) (asked x op w) (before .1) (idle-at (blockOf w .0)) (rw (c .line) fits)),
+            (wait-keeps (before .0) (project s (blockOf w .0)) (flatBlock f (blockOf w .0)) (k .0) (asked x op w) (before .1) (idle-at (c .idle) (blockOf w .0)) (rw (c .line) fits)),
       )
 
   -- other blocks that see nothing
@@ -125,7 +124,7 @@ module _ (s : Store) (f : List ℕ) (i : Consistent s f) (k : LaneNo) (h : k .0 
       let p = i .block a b in (
         p .0,
         rw (lane-project s f i (k .0) h (r .lane) (evictSeen (blockNo a) (seen (s .shape .c) (blockNo a) l)) a (rw x (c .there)))
-            (evict-keeps (p .0) (project s a) (flatBlock f a) (k .0) (blockNo a) (p .1) (idle-at a) (rw x (c .copy))),
+            (evict-keeps (p .0) (project s a) (flatBlock f a) (k .0) (blockNo a) (p .1) (idle-at (c .wait .idle) a) (rw x (c .copy))),
       )
 
   evict-begins : (r : LaneStep) → EvictCase (s .shape .c) op w l r → Begins s f k op w (putBack s k r)
@@ -151,5 +150,5 @@ begin-consistent s f k op w i =
     begin-rule (Begins s f k op w) s k op w (λ x. refused-begins s f k op w x i)
     (λ r.
     let a = sound s (i .sound) in
-    case-begins s f i k (r .lane) op w (r .inside) (r .idle) _
-    (begin-case (s .shape .c) op w (laneAt s (k .0)) (lane-sized s f i (k .0) (r .lane)) (a .c-high) (i .unique (k .0)) (a .lane (k .0) (r .lane) .order .named 0 (a .c-low)) (r .idle)))
+    case-begins s f i k (r .lane) op w (r .inside) _
+    (begin-case (s .shape .c) op w (laneAt s (k .0)) (lane-sized s f i (k .0) (r .lane)) (a .c-high) (i .unique (k .0)) (a .lane (k .0) (r .lane) .order .named 0 (a .c-low)) (r .free)))
