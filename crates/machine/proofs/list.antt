@@ -4,3 +4,4 @@ pub mod Outer
 pub mod OuterTie
 pub mod OuterRun
 pub mod SameFlat
+pub mod Joined

@@ -13,3 +13,4 @@ pub mod ConsistentQuiet
 pub mod OrderOfMemory
 pub mod SameOperations
 pub mod ServeByte
+pub mod LoadBeside

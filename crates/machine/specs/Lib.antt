@@ -24,5 +24,6 @@ pub mod SameValues
 pub mod Completion
 pub mod Potential
 pub mod ServeByte
+pub mod LoadBeside
 pub mod PictureOrder
 pub mod Table

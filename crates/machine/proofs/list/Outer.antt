@@ -27,6 +27,9 @@ pub record Told (m : ℕ) (h : List Entry) (q : ℕ → Pending) (g : List ℕ) 
   pub values : map (λ (x : Attributed). x .completion .value) (completed h) ≡ flatValues (flatOf m) (operations h)
   pub end : g ≡ flatEnd (flatOf m) (operations h)
   pub all-completed : ((k : ℕ) → q k ≡ Rests) → (b : Begun) → List·Memᴰ b (begun h) → List·Memᴰ b (operations h)
+  -- what a lane waits for was begun there, and has not completed
+  pub not-yet : (k : LaneNo) (op : Op) (w : WordNo) → q (k .0) ≡ Pending.StillWaits op w →
+      (i : ℕ) × List·Memᴰ (begunAt i k op w) (begun h) × (List·Memᴰ (begunAt i k op w) (operations h) → ⊥)
 
 -- an operation is one of those begun
 abbrev In : List Entry → Begun → Type 0
@@ -59,17 +62,24 @@ module _ (h : List Entry) (q : ℕ → Pending) (g : List ℕ) where
     values : map (λ (x : Attributed). x .completion .value) xs ≡ flatValues f (operationsOf xs)
     end : g ≡ flatEnd f (operationsOf xs)
     all-completed : ((k : ℕ) → q k ≡ Rests) → (b : Begun) → Outstanding p last b ⊎ List·Memᴰ b bs → List·Memᴰ b (operationsOf xs)
+    -- what is yet to begin has a later index
+    later : (b : Begun) → List·Memᴰ b bs → i ≤ b .index
+    -- what a lane waits for in the end is outstanding, or is yet to begin, and does not complete
+    not-yet : (k : LaneNo) (op : Op) (w : WordNo) → q (k .0) ≡ Pending.StillWaits op w →
+        (j : ℕ) × (Outstanding p last (begunAt j k op w) ⊎ List·Memᴰ (begunAt j k op w) bs) × (List·Memᴰ (begunAt j k op w) (operationsOf xs) → ⊥)
 
   -- no call is left
-  tells-none : (last : LastWaits) (i : ℕ) (p : ℕ → Pending) (f : List ℕ) → q ≡ p → g ≡ f → Tells p last i f [] []
+  tells-none : (last : LastWaits) (i : ℕ) (p : ℕ → Pending) (f : List ℕ) → Tied (In h) p last i → q ≡ p → g ≡ f → Tells p last i f [] []
   unfolding operationsOf flatValues flatEnd
-  tells-none last i p f e e′ = record {
+  tells-none last i p f t e e′ = record {
     owned = λ x m. absurd (List·Memᴰ·not-nil m);
     from = λ b m. absurd (List·Memᴰ·not-nil m);
     once = tt;
     values = refl;
     end = e′;
     all-completed = all;
+    later = λ b m. absurd (List·Memᴰ·not-nil m);
+    not-yet = λ k op w d. let o = t .held k op w (rw e at d) in (o .0, inl (o .1), λ m. List·Memᴰ·not-nil m);
   }
     where
       all : ((k : ℕ) → q k ≡ Rests) → (b : Begun) → Outstanding p last b ⊎ List·Memᴰ b [] → List·Memᴰ b []
@@ -86,6 +96,8 @@ module _ (h : List Entry) (q : ℕ → Pending) (g : List ℕ) where
     values = r .values;
     end = r .end;
     all-completed = r .all-completed;
+    later = λ b m. let l = r .later b m in omega arith;
+    not-yet = r .not-yet;
   }
     where
       from : (b : Begun) → Outstanding p last b ⊎ (suc i ≤ b .index) → Outstanding p last b ⊎ (i ≤ b .index)
@@ -113,6 +125,8 @@ module _ (h : List Entry) (q : ℕ → Pending) (g : List ℕ) where
     values = rw (v, r .values);
     end = r .end;
     all-completed = λ quiet a s. all quiet a (same? (a .lane .0) (b .lane .0)) s;
+    later = r .later;
+    not-yet = λ k op w d. let n = r .not-yet k op w d in (n .0, earlier _ (n .1), λ m. left _ (n .1) (n .2) (List·Memᴰ·cases-cons m));
   }
     where
       before : (a : Begun) → Outstanding (upd p (b .lane .0) Rests) last a → (a .lane .0 ≢ b .lane .0) × Outstanding p last a
@@ -121,6 +135,15 @@ module _ (h : List Entry) (q : ℕ → Pending) (g : List ℕ) where
       from : (a : Begun) → (a ≡ b) ⊎ List·Memᴰ a (operationsOf xs) → Outstanding p last a ⊎ (i ≤ a .index)
       from a (inl e) = inl (rw e o)
       from a (inr m) = elim (r .from a m) [ inl y ↦ inl (before a y .1) | inr y ↦ inr y ]
+
+      earlier : (a : Begun) → Outstanding (upd p (b .lane .0) Rests) last a ⊎ List·Memᴰ a bs → Outstanding p last a ⊎ List·Memᴰ a bs
+      earlier a (inl y) = inl (before a y .1)
+      earlier a (inr m) = inr m
+
+      left : (a : Begun) → Outstanding (upd p (b .lane .0) Rests) last a ⊎ List·Memᴰ a bs → (List·Memᴰ a (operationsOf xs) → ⊥) → (a ≡ b) ⊎ List·Memᴰ a (operationsOf xs) → ⊥
+      left a (inl y) n (inl e) = before a y .0 (ap (λ (c : Begun). c .lane .0) e)
+      left a (inr m) n (inl e) = let z = t .before b o in let l = r .later a m in let d = ap (λ (c : Begun). c .index) e in omega arith
+      left a s n (inr m) = n m
 
       new : (a : Begun) → Outstanding (upd p (b .lane .0) Rests) last a ⊎ (i ≤ a .index) → a .index ≢ b .index
       new a (inl y) e = before a y .0 (ap (λ (c : Begun). c .lane .0) (t .apart a b (before a y .1) o e))
@@ -131,7 +154,8 @@ module _ (h : List Entry) (q : ℕ → Pending) (g : List ℕ) where
       all quiet a (inr n) (inl y) = List·Memᴰ·tail (r .all-completed quiet a (inl (still-waits p last (b .lane .0) a n y)))
       all quiet a c (inr m) = List·Memᴰ·tail (r .all-completed quiet a (inr m))
 
-  -- a begin call completes what it begins
+  -- a begin call completes what it begins. What its lane waits for (p) and the lane's last wait (last) stay: the operation that completes was never waited
+  -- for, so the two cannot be taken for each other (02, W5)
   tells-hit : (p : ℕ → Pending) (last : LastWaits) (i : ℕ) (f : List ℕ) (x : Completion) (b : Begun) (xs : List Attributed) (bs : List Begun) →
       Tied (In h) p last i → b .index ≡ i → In h b → b .lane ≡ x .lane → x .value ≡ flatValue f b →
       Tells p last (suc i) (flatAfter f b) xs bs → Tells p last i f (attributed x b ∷ xs) (b ∷ bs)
@@ -143,8 +167,23 @@ module _ (h : List Entry) (q : ℕ → Pending) (g : List ℕ) where
     values = rw (v, r .values);
     end = r .end;
     all-completed = all;
+    later = λ a n. after a (List·Memᴰ·cases-cons n);
+    not-yet = λ k op w d. let n = r .not-yet k op w d in (n .0, earlier _ (n .1), λ m. left _ (n .1) (n .2) (List·Memᴰ·cases-cons m));
   }
     where
+      after : (a : Begun) → (a ≡ b) ⊎ List·Memᴰ a bs → i ≤ a .index
+      after a (inl d) = let z : a .index ≡ b .index = ap (λ (c : Begun). c .index) d in omega arith
+      after a (inr n) = let z = r .later a n in omega arith
+
+      earlier : (a : Begun) → Outstanding p last a ⊎ List·Memᴰ a bs → Outstanding p last a ⊎ List·Memᴰ a (b ∷ bs)
+      earlier a (inl y) = inl y
+      earlier a (inr n) = inr (List·Memᴰ·tail n)
+
+      left : (a : Begun) → Outstanding p last a ⊎ List·Memᴰ a bs → (List·Memᴰ a (operationsOf xs) → ⊥) → (a ≡ b) ⊎ List·Memᴰ a (operationsOf xs) → ⊥
+      left a (inl y) n (inl d) = let z = t .before a y in let u : a .index ≡ b .index = ap (λ (c : Begun). c .index) d in omega arith
+      left a (inr m) n (inl d) = let z = r .later a m in let u : a .index ≡ b .index = ap (λ (c : Begun). c .index) d in omega arith
+      left a s n (inr m) = n m
+
       from : (a : Begun) → (a ≡ b) ⊎ List·Memᴰ a (operationsOf xs) → Outstanding p last a ⊎ (i ≤ a .index)
       from a (inl d) = inr (let z : a .index ≡ b .index = ap (λ (c : Begun). c .index) d in omega arith)
       from a (inr n) = elim (r .from a n) [ inl y ↦ inl y | inr y ↦ inr (omega arith) ]
@@ -167,8 +206,18 @@ module _ (h : List Entry) (q : ℕ → Pending) (g : List ℕ) where
     values = r .values;
     end = r .end;
     all-completed = all;
+    later = λ a n. after a (List·Memᴰ·cases-cons n);
+    not-yet = λ k′ op′ w′ d. let n = r .not-yet k′ op′ w′ d in (n .0, earlier _ (n .1), n .2);
   }
     where
+      after : (a : Begun) → (a ≡ begunAt i k op w) ⊎ List·Memᴰ a bs → i ≤ a .index
+      after a (inl d) = let z : a .index ≡ i = ap (λ (c : Begun). c .index) d in omega arith
+      after a (inr n) = let z = r .later a n in omega arith
+
+      earlier : (a : Begun) → Outstanding (waiting p k op w) (lastIs last i k op w) a ⊎ List·Memᴰ a bs → Outstanding p last a ⊎ List·Memᴰ a (begunAt i k op w ∷ bs)
+      earlier a (inl y) = elim (new-or-old p last i k op w a y) [ inl d ↦ inr (List·Memᴰ·head d) | inr o ↦ inl o ]
+      earlier a (inr n) = inr (List·Memᴰ·tail n)
+
       from : (a : Begun) → Outstanding (waiting p k op w) (lastIs last i k op w) a ⊎ (suc i ≤ a .index) → Outstanding p last a ⊎ (i ≤ a .index)
       from a (inl y) = elim (new-or-old p last i k op w a y) [ inl d ↦ inr (let z : a .index ≡ i = ap (λ (c : Begun). c .index) d in omega arith) | inr o ↦ inl o ]
       from a (inr y) = inr (omega arith)
@@ -247,7 +296,7 @@ module _ (h : List Entry) (q : ℕ → Pending) (g : List ℕ) where
   tells : (es : List Entry) (p : ℕ → Pending) (last : LastWaits) (i : ℕ) (f : List ℕ) → Tied (In h) p last i → ((b : Begun) → List·Memᴰ b (begunFrom i es) → In h b) →
       Paid p f es q g → Tells p last i f (attribute i last es) (begunFrom i es)
   unfolding attribute begunFrom
-  tells [] p last i f t new s = tells-none last i p f (s .0) (s .1)
+  tells [] p last i f t new s = tells-none last i p f t (s .0) (s .1)
   tells (e ∷ es) p last i f t new s =
       let last₁ = waitsAfter i last (e .call) (isWait (e .reply)) in
       let one = follows p last i f t (s .0) (s .1) (attribute (suc i) last₁ es) (begunFrom (suc i) es) (e .call) (e .reply) (λ b m. new b (Memᴰ·append-left (begunFrom (suc i) es) m)) (s .2) in
@@ -257,4 +306,16 @@ module _ (h : List Entry) (q : ℕ → Pending) (g : List ℕ) where
 pub outer : (m : ℕ) (h : List Entry) (q : ℕ → Pending) (g : List ℕ) → Paid nonePending (flatOf m) h q g → Told m h q g
 outer m h q g s =
     let r = tells h q g h nonePending noWaits 0 (flatOf m) (tied-none (In h)) (λ b n. n) s in
-    record { owned = r .owned; once = r .once; values = r .values; end = r .end; all-completed = λ quiet b n. r .all-completed quiet b (inr n) }
+    record {
+      owned = r .owned;
+      once = r .once;
+      values = r .values;
+      end = r .end;
+      all-completed = λ quiet b n. r .all-completed quiet b (inr n);
+      not-yet = λ k op w e. let n = r .not-yet k op w e in (n .0, begun-one _ (n .1), n .2);
+    }
+  where
+    -- nothing is outstanding before the first call
+    begun-one : (b : Begun) → Outstanding nonePending noWaits b ⊎ List·Memᴰ b (begun h) → List·Memᴰ b (begun h)
+    begun-one b (inl o) = let e : Rests ≡ Pending.StillWaits (b .op) (b .word) = o .waits in clash (cc)
+    begun-one b (inr m) = m

@@ -6,7 +6,7 @@ use mathlib.Core.Bool.{Bool, true, false, cond, _||_, _&&_}
 use mathlib.Core.Logic.{_≢_}
 use lib.Dec.{leb, ltb}
 use lib.ListN.{set}
-use borrow.Author.Tests.{leb-true, leb-false, ltb-false, eqb-false, ne-eqb}
+use borrow.Author.Tests.{lt-leb, leb-true, leb-false, ltb-false, eqb-false, ne-eqb}
 use native.Mathlib.Omega.{arith}
 use Rattle.words.specs.declared.LaneNo.{LaneNo}
 use Rattle.words.specs.declared.BlockNo.{BlockNo}
@@ -42,7 +42,7 @@ use Rattle.machine.specs.declared.Move.{Move}
 use Rattle.machine.specs.declared.Ready.{Ready}
 use Rattle.machine.specs.Corruption.{corruptOf}
 use Rattle.machine.specs.Change.{refuse, guarded, counted, answerTo, refusedIn, laneStore, commitLane, commitMove, someFull, movedStore}
-use Rattle.machine.specs.Begin.{isHit, admitsOf, beginLane, beginOf}
+use Rattle.machine.specs.Begin.{isHit, admitsOf, beginLane, beginAdmitted, beginOf}
 use Rattle.machine.specs.Serve.{readyWith, readyOf, serveReady, serveMove, serveOf}
 use Rattle.machine.specs.Return.{returnMove, returnOf}
 use Rattle.machine.specs.Deliver.{deliverLane, deliverOf}
@@ -114,6 +114,12 @@ begin-rule P s k op w stays next =
       left = eqb-false _ _ d;
     })))
     (λ _. stays LaneBusy)))
+
+-- begin where 14, 6 and 7 do not refuse it
+pub begin-is : (s : Store) (k : LaneNo) (op : Op) (w : WordNo) → corruptOf s ≡ false → k .0 < s .shape .n → w .0 < 4 * s .shape .m →
+    beginOf s k op w ≡ cond (admitsOf (s .shape .c) op w (laneAt s (k .0))) (beginAdmitted s k op w) (refuse LaneBusy s)
+unfolding beginOf
+begin-is s k op w c h i = guarded-is s k _ c h ∙ rw (lt-leb (4 * s .shape .m) (w .0) i) refl
 
 -- nothing refuses a serve before memory's part: operation o waits, unserved; the control is free; no return is queued
 pub record ServeReady (s : Store) (k : LaneNo) (o : Operation) : Type 0 where

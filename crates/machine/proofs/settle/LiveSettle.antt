@@ -30,6 +30,7 @@ use Rattle.machine.proofs.settle.LiveSpare.{Spare, open-spare, step-spa
 use Rattle.machine.proofs.settle.LiveKeeps.{settle-step-live, run-live}
 use Rattle.machine.proofs.settle.LiveStep.{step-goes}
 use Rattle.machine.proofs.rules.RulesSettle.{repeat-rule}
+use Rattle.machine.proofs.list.Joined.{run-more}
 
 -- what a store has on which settle is never refused
 pub record Lively (s : Store) : Type 0 where
@@ -87,12 +88,6 @@ run-lively ins shape calls e =
 -- settle is never refused, and leaves a quiet store
 pub always-settles : AlwaysSettles
 always-settles ins shape calls e = settle-goes ins (run ins (openOf shape .store) calls .store) (run-lively ins shape calls e)
-
--- a list of calls and then another
-run-more : (ins : Insertion) (s : Store) (xs ys : List Call) → run ins s (xs ++ ys) .store ≡ run ins (run ins s xs .store) ys .store
-unfolding run
-run-more ins s [] ys = refl
-run-more ins s (x ∷ xs) ys = run-more ins (callOf ins s x .store) xs ys
 
 settled-quiet : (ins : Insertion) (shape : Shape) (calls : List Call) → openOf shape .answer ≡ Opened → quietOf (run ins (openOf shape .store) (calls ++ (Settle ∷ [])) .store) ≡ true
 unfolding run callOf

@@ -55,12 +55,17 @@ pub reaches : (ins : Insertion) (shape : Shape) (calls : List Call) → openOf s
     Paid (pendingIn (openOf shape .store)) (flatOf (shape .m)) (run ins (openOf shape .store) calls .history) (pendingIn (run ins (openOf shape .store) calls .store)) g
 reaches ins shape calls e = run-pays ins (Reached shape) pendingIn (reached-keeps ins shape) (openOf shape .store) (flatOf (shape .m)) calls (reached-open shape e)
 
+-- .. so the outer induction tells of it
+pub told : (ins : Insertion) (shape : Shape) (calls : List Call) (e : openOf shape .answer ≡ Opened) →
+    Told (shape .m) (run ins (openOf shape .store) calls .history) (pendingIn (run ins (openOf shape .store) calls .store)) (reaches ins shape calls e .0)
+told ins shape calls e = let r = reaches ins shape calls e in outer (shape .m) _ (pendingIn (run ins (openOf shape .store) calls .store)) (r .0) (rw (open-rests shape e) at (r .2))
+
 -- the order of completion is the order of memory
 pub order-of-memory : Demand3
 order-of-memory ins shape calls e =
     let r = reaches ins shape calls e in
     let s = run ins (openOf shape .store) calls .store in
-    let t : Told (shape .m) (run ins (openOf shape .store) calls .history) (pendingIn s) (r .0) = outer (shape .m) _ (pendingIn s) (r .0) (rw (open-rests shape e) at (r .2)) in
+    let t = told ins shape calls e in
     let i = r .1 .consistent in
     record {
       same = r .1 .same;
