@@ -169,14 +169,11 @@ pub fn admits(l: Lane, c: u8, op: Op, w: WordNo) -> bool
     if waiting.idle() {
         return true;
     }
-    if op.is_load() {
-        let a = w.block();
-        let Found::At(_) = l.search(c, a) else {
-            return false;
-        };
-        return true;
-    }
-    false
+    let a = w.block();
+    let Found::At(_) = l.search(c, a) else {
+        return false;
+    };
+    op.is_load()
 }
 
 // The lane's part of begin.

@@ -92,7 +92,7 @@ isHit Nothing = false
 
 -- 02, W5: a lane that waits begins nothing but a load that hits; one that waits for nothing begins any operation
 unfoldable pub admitsOf : ℕ → Op → WordNo → Lane → Bool
-admitsOf c op w l = idleOf (l .waiting) || (isLoad op && isHit (searchOf l c (blockOf w)))
+admitsOf c op w l = idleOf (l .waiting) || (isHit (searchOf l c (blockOf w)) && isLoad op)
 
 -- begin on a lane that takes the operation: 17, then the lane's part, put back
 abbrev pub beginAdmitted : Store → LaneNo → Op → WordNo → Outcome

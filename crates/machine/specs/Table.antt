@@ -44,6 +44,9 @@ use Rattle.machine.specs.LaneBytes.{bitsIn, ordersByte, lanesOf}
 use Rattle.machine.specs.Settle.{lane, downsOf, boundOf}
 use Rattle.machine.specs.Flags.{lineIn}
 use Rattle.machine.specs.Calls.{Call, Begin, Serve, Return, Deliver, Settle, Reply, Entry, run}
+use Rattle.machine.specs.Attribution.{Begun}
+use Rattle.machine.specs.Flat.{flatOf, flatValues}
+use Rattle.machine.specs.Demand3.{operations, valuesIn}
 use Rattle.machine.specs.Fill.{Filling}
 use Rattle.machine.specs.Picture.{pictureOf}
 use Rattle.machine.specs.Tape.{replayOf}
@@ -59,13 +62,14 @@ pub data Said : Type 0 where
   refused : ℕ → Said
   settled : ℕ → List Completion → Said
 
--- what a row shows: the answer of an opening with n, c and m of its store, the answers of a list of calls or of a tape, bytes, a word, a number, a flag, flags, a use order, or what a lent buffer is filled with
+-- what a row shows: the answer of an opening with n, c and m of its store, the answers of a list of calls or of a tape, bytes, a word, a number, numbers, a flag, flags, a use order, or what a lent buffer is filled with
 pub data Shown : Type 0 where
   Opening : Said → ℕ → ℕ → ℕ → Shown
   Says : List Said → Shown
   Bytes : List ℕ → Shown
   Word : ℕ → Shown
   Number : ℕ → Shown
+  Numbers : List ℕ → Shown
   Flag : Bool → Shown
   Flags : List Bool → Shown
   Order : List ℕ → Shown
@@ -879,6 +883,91 @@ serveBytes =
     on (fullDowns 1) (load 0 0 says wait ∷ serve 0 says step ∷ []) ∷
     []))
 
+-- lane 1 has stored 7 in word 0 and lane 0 has loaded it: both have a copy of block 0
+abbrev pub bothCopies : Store
+bothCopies = after (opened 2 2 2) (store 1 0 7 ∷ Settle ∷ load 0 0 ∷ Settle ∷ [])
+
+-- lane 0 has stored 7 in word 0: its copy is PRIVATE
+abbrev pub privateCopy : Store
+privateCopy = after (opened 2 2 2) (store 0 0 7 ∷ Settle ∷ [])
+
+-- the operations of a list's completions in their order, each by the index of its begin call; the values that flat memory gives, fed these, and those of the completions
+abbrev pub completes : Store → List Call → List ℕ → List ℕ → List Row
+completes s cs indices values =
+    let h = run LoadsOldest s cs .history in
+    record { given = Numbers (map (λ (b : Begun). b .index) (operations h)); wanted = Numbers indices } ∷
+    record { given = Numbers (flatValues (flatOf (s .shape .m)) (operations h)); wanted = Numbers values } ∷
+    record { given = Numbers (valuesIn h); wanted = Numbers values } ∷
+    []
+
+-- 02, W5: loads beside a waiting operation
+abbrev pub loadsBeside : List Row
+loadsBeside =
+    -- a load of a word whose own add waits shows the word before the add: before the serve, between serve and grant, and with the grant queued
+    on bothCopies
+    (add 0 0 5 says wait ∷
+    load 0 0 says done 0 7 3 ∷
+    serve 0 says step ∷
+    load 0 0 says done 0 7 4 ∷
+    deliver 1 says step ∷
+    return 1 says step ∷
+    load 0 0 says done 0 7 5 ∷
+    deliver 0 says done 0 7 6 ∷
+    load 0 0 says done 0 12 7 ∷
+    []) ∷
+    -- .. and so of a store and of an exchange
+    on bothCopies (store 0 0 9 says wait ∷ load 0 0 says done 0 7 3 ∷ Settle says settled 4 (of 0 9 4 ∷ []) ∷ load 0 0 says done 0 9 5 ∷ []) ∷
+    on bothCopies (exchange 0 0 9 says wait ∷ load 0 0 says done 0 7 3 ∷ Settle says settled 4 (of 0 7 4 ∷ []) ∷ load 0 0 says done 0 9 5 ∷ []) ∷
+    -- of another block, beside an unserved and a served operation; a miss is 8, the waiting operation's own block too
+    on privateCopy
+    (load 0 4 says wait ∷
+    load 0 0 says done 0 7 2 ∷
+    load 0 4 says refused 8 ∷
+    serve 0 says step ∷
+    load 0 1 says done 0 0 3 ∷
+    load 0 5 says refused 8 ∷
+    deliver 0 says done 0 0 4 ∷
+    load 0 0 says done 0 7 5 ∷
+    []) ∷
+    -- no other operation is begun beside it, though the line is PRIVATE
+    on privateCopy
+    (load 0 4 says wait ∷
+    store 0 0 9 says refused 8 ∷
+    exchange 0 0 9 says refused 8 ∷
+    add 0 0 9 says refused 8 ∷
+    serve 0 says step ∷
+    store 0 0 9 says refused 8 ∷
+    load 0 0 says done 0 7 2 ∷
+    []) ∷
+    -- EXCLUDE waits on a copy: no second operation waits beside it; once a PURGE has taken the copy, the load is 8
+    on bothCopies
+    (add 0 0 5 says wait ∷
+    store 0 0 9 says refused 8 ∷
+    store 1 0 9 says wait ∷
+    serve 1 says step ∷
+    load 0 0 says done 0 7 3 ∷
+    deliver 0 says step ∷
+    load 0 0 says refused 8 ∷
+    Settle says settled 6 (of 1 9 4 ∷ of 0 9 5 ∷ []) ∷
+    load 0 0 says done 0 14 6 ∷
+    []) ∷
+    -- 6 and 7 before 8; 8 before 17 for a load that misses, 17 for one that hits
+    on (unserved 0 (filled 0 0 (opened 2 1 2))) (load 2 0 says refused 6 ∷ load 0 8 says refused 7 ∷ store 0 8 9 says refused 7 ∷ load 0 4 says refused 8 ∷ []) ∷
+    on (counting 4294967293 (unserved 0 (filled 0 0 (opened 2 1 2))))
+    (load 0 0 says done 0 0 4294967294 ∷ load 0 0 says refused 17 ∷ load 0 4 says refused 8 ∷ store 0 0 9 says refused 8 ∷ load 1 0 says refused 17 ∷ []) ∷
+    -- a full return queue is not looked at
+    on (gone 0 0 (gone 0 0 (unserved 0 (filled 0 0 (opened 2 1 2))))) (load 0 0 says done 0 0 1 ∷ load 0 4 says refused 8 ∷ []) ∷
+    -- it is a use of its line; a refused one is none
+    inOrder LoadsOldest (unserved 0 (filled 0 0 mixed)) (load 0 0 ∷ []) (2 ∷ 1 ∷ 0 ∷ []) ∷
+    inOrder LoadsOldest (waits 0 (Served (operation 0)) (filled 0 0 mixed)) (load 0 0 ∷ []) (2 ∷ 1 ∷ 0 ∷ []) ∷
+    inOrder LoadsOldest (unserved 0 (filled 0 0 mixed)) (store 0 0 7 ∷ []) (2 ∷ 0 ∷ 1 ∷ []) ∷
+    -- on a tape
+    reads
+    (0 ∷ 2 ∷ 2 ∷ 2 ∷ 2 ∷ 0 ∷ 0 ∷ 7 ∷ 0 ∷ 0 ∷ 0 ∷ 5 ∷ 0 ∷ 7 ∷ 0 ∷ 1 ∷ 0 ∷ 4 ∷ 1 ∷ 0 ∷ 0 ∷ 5 ∷ 0 ∷ 1 ∷ 0 ∷ 1 ∷ 1 ∷ 0 ∷ 4 ∷ 7 ∷ 0 ∷ [])
+    (opens ∷ wait ∷ step ∷ done 0 7 1 ∷ wait ∷ done 0 7 2 ∷ step ∷ done 0 0 3 ∷ refused 8 ∷ done 0 0 4 ∷ []) ∷
+    -- the load (index 3) is of its own call and stands ahead of the add (index 2), as flat memory is fed
+    completes (opened 2 1 1) (load 0 0 ∷ Settle ∷ add 0 0 5 ∷ load 0 0 ∷ Settle ∷ load 0 0 ∷ []) (0 ∷ 3 ∷ 2 ∷ 5 ∷ []) (0 ∷ 0 ∷ 0 ∷ 5 ∷ [])
+
 -- the table
 unfoldable pub rows : List Row
-rows = casesOf01 ++ races ++ shutOut ++ bounds ++ sentences ++ pictures ++ corruptStores ++ heldStores ++ places ++ insertions ++ serveBytes
+rows = casesOf01 ++ races ++ shutOut ++ bounds ++ sentences ++ pictures ++ corruptStores ++ heldStores ++ places ++ insertions ++ serveBytes ++ loadsBeside

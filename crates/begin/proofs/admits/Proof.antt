@@ -1,4 +1,4 @@
--- `begin::admits` meets its contract: a lane that waits for nothing; else a load, by what Search finds; else no. Assumes nothing.
+-- `begin::admits` meets its contract: a lane that waits for nothing; else what Search finds, and whether it is a load. Assumes nothing.
 use Rattle.machine.specs.Begin.{admitsOf}
 use borrow.Author.Needs.{needs}
 use Rattle.begin.proofs.admits.Statement.{statement}
@@ -10,9 +10,6 @@ idle-requires c κs = search needs
 returns : tie.Need-returns
 unfolding admitsOf
 returns c = rw (admitsOf, ← c .before .idle .ensures, c .if1 .taken)
-
-is-load-requires : tie.Need-is-load-requires
-is-load-requires c κs = search needs
 
 block-requires : tie.Need-block-requires
 block-requires c κs = search needs
@@ -30,39 +27,20 @@ returns-2 : tie.Need-returns-2
 unfolding admitsOf
 returns-2 c =
     let at-search = c .before .before in
-    let at-load = at-search .before .before .before in
+    let at-if1 = at-search .before .before in
     let found = rw (at-search .before .block .ensures) at (at-search .search .ensures) in
-    rw (
-      admitsOf,
-      ← at-load .before .before .idle .ensures,
-      at-load .before .if1 .left,
-      ← at-load .is-load .ensures,
-      at-search .before .before .if2 .taken,
-      ← found,
-      c .enum-told2 .given .1,
-    )
+    rw (admitsOf, ← at-if1 .before .idle .ensures, at-if1 .if1 .left, ← found, c .enum-told2 .given .1)
+
+is-load-requires : tie.Need-is-load-requires
+is-load-requires c κs = search needs
 
 returns-3 : tie.Need-returns-3
 unfolding admitsOf
 returns-3 c =
-    let at-search = c .before .before in
-    let at-load = at-search .before .before .before in
+    let at-search = c .before .before .before in
+    let at-if1 = at-search .before .before in
     let found = rw (at-search .before .block .ensures) at (at-search .search .ensures) in
-    rw (
-      admitsOf,
-      ← at-load .before .before .idle .ensures,
-      at-load .before .if1 .left,
-      ← at-load .is-load .ensures,
-      at-search .before .before .if2 .taken,
-      ← found,
-      c .enum-told .given .1,
-    )
-
-returns-4 : tie.Need-returns-4
-unfolding admitsOf
-returns-4 c =
-    let at-idle = c .before .before .before in
-    rw (admitsOf, ← at-idle .idle .ensures, c .before .before .if1 .left, ← c .before .is-load .ensures, c .if2 .left)
+    rw (admitsOf, ← at-if1 .before .idle .ensures, at-if1 .if1 .left, ← found, c .before .enum-told .given .1, c .is-load .ensures)
 
 pub admits-spec : {M : Type 1} → statement M
 admits-spec =
@@ -70,11 +48,10 @@ admits-spec =
     (tie.spec
     idle-requires
     returns
-    is-load-requires
     block-requires
     search-requires
     enum-told
     enum-told-2
     returns-2
-    returns-3
-    returns-4)
+    is-load-requires
+    returns-3)

@@ -1,7 +1,7 @@
 -- A rule for each call, by which the proofs go: what holds of every refusal, and of the step where nothing refuses it, holds of the call.
 -- Most proofs go by these and not by the calls' text. Assumes nothing.
 use Prim.Native.Nat.{ℕ, _<_, _*_}
-use mathlib.Core.Path.{_≡_, refl, _∙_}
+use mathlib.Core.Path.{_≡_, refl, ap, _∙_}
 use mathlib.Core.Bool.{Bool, true, false, cond, _||_, _&&_}
 use mathlib.Core.Logic.{_≢_}
 use lib.Dec.{leb, ltb}
@@ -20,8 +20,7 @@ use Rattle.lanes.specs.declared.Lane.{Lane}
 use Rattle.lanes.specs.declared.Operation.{Operation}
 use Rattle.lanes.specs.declared.Waiting.{Waiting}
 use Rattle.lanes.specs.declared.Waiting.the-variants.{Idle, Unserved, Served}
-use Rattle.lanes.specs.declared.Found.{Found}
-use Rattle.lanes.specs.declared.Found.the-variants.{At, Nothing}
+use Rattle.lanes.specs.declared.Found.the-variants.{Nothing}
 use Rattle.lanes.specs.Search.{searchOf}
 use Rattle.lanes.specs.Waits.{idleOf}
 use Rattle.lanes.specs.UseOrder.{Insertion}
@@ -74,21 +73,19 @@ pub record Admitted (c : ℕ) (op : Op) (w : WordNo) (l : Lane) : Type 0 where
 pub admitted : (c : ℕ) (op : Op) (w : WordNo) (l : Lane) → admitsOf c op w l ≡ true → Admitted c op w l
 unfolding admitsOf
 admitted c op w l e = record {
-  miss = λ q. idle-waiting (l .waiting) (at-miss (idleOf (l .waiting)) (isLoad op) (searchOf l c (blockOf w)) e q);
-  write = λ q. idle-waiting (l .waiting) (at-write (idleOf (l .waiting)) (isLoad op) (isHit (searchOf l c (blockOf w))) e q);
+  miss = λ q. idle-waiting (l .waiting) (first (idleOf (l .waiting)) (isHit (searchOf l c (blockOf w))) (isLoad op) e (ap isHit q));
+  write = λ q. idle-waiting (l .waiting) (second (idleOf (l .waiting)) (isHit (searchOf l c (blockOf w))) (isLoad op) e q);
 }
   where
-    at-miss : (i p : Bool) (f : Found) → (i || (p && isHit f)) ≡ true → f ≡ Nothing → i ≡ true
-    at-miss true p f e q = refl
-    at-miss false true (At j) e q = clash (cc)
-    at-miss false false (At j) e q = clash (cc)
-    at-miss false true Nothing e q = clash (cc)
-    at-miss false false Nothing e q = clash (cc)
+    first : (i p q : Bool) → (i || (p && q)) ≡ true → p ≡ false → i ≡ true
+    first true p q e f = refl
+    first false true q e f = clash (cc)
+    first false false q e f = clash (cc)
 
-    at-write : (i p h : Bool) → (i || (p && h)) ≡ true → p ≡ false → i ≡ true
-    at-write true p h e q = refl
-    at-write false true h e q = clash (cc)
-    at-write false false h e q = clash (cc)
+    second : (i p q : Bool) → (i || (p && q)) ≡ true → q ≡ false → i ≡ true
+    second true p q e f = refl
+    second false true q e f = clash (cc)
+    second false false q e f = clash (cc)
 
 -- nothing refuses a begin before the lane's part
 pub record BeginReady (s : Store) (k : LaneNo) (op : Op) (w : WordNo) : Type 0 where

@@ -2,7 +2,7 @@
 use Prim.Native.Nat.{ℕ, suc, _*_, _<_}
 use mathlib.Core.Logic.{_⊎_, inl, inr}
 use mathlib.Core.Path.{_≡_, refl, ap, _∙_}
-use mathlib.Core.Bool.{true, false}
+use mathlib.Core.Bool.{true, false, and-false}
 use mathlib.Core.List.{List, _∷_, _++_, List·Memᴰ, List·Memᴰ·cases-cons, List·Memᴰ·append-cases, Memᴰ·append-left}
 use lib.ListN.{length, getD, set}
 use lib.Seq.{set-getD}
@@ -35,7 +35,7 @@ use Rattle.store.specs.Stores.{laneAt}
 use Rattle.machine.specs.declared.LaneAnswer.the-variants.{Value}
 use Rattle.machine.specs.Corruption.{corruptOf}
 use Rattle.machine.specs.Change.{refuse, commitLane}
-use Rattle.machine.specs.Begin.{completeWith, hit, admitsOf, beginLane, beginAdmitted, beginOf}
+use Rattle.machine.specs.Begin.{completeWith, hit, isHit, admitsOf, beginLane, beginAdmitted, beginOf}
 use Rattle.machine.specs.Calls.{Call, Begin, Entry, Reply, Answers, callOf, run}
 use Rattle.machine.specs.Attribution.{Begun, begunAt, LastWaits, noWaits, waitsAfter, originOf, attribute, operationsOf}
 use Rattle.machine.specs.Demand3.{begun, operations}
@@ -71,7 +71,7 @@ module _ (s : Store) (k : LaneNo) (w : WordNo) (sound : corruptOf s ≡ false) (
 
   admits-no-other : (op : Op) → isLoad op ≡ false → admitsOf (s .shape .c) op w l ≡ false
   unfolding admitsOf
-  admits-no-other op e = rw (admitsOf, busy, e)
+  admits-no-other op e = rw (admitsOf, busy, e) (and-false (isHit (searchOf l (s .shape .c) (blockOf w))))
 
   -- begin of an operation that the lane takes, and of one that it doesn't
   taken : (op : Op) → admitsOf (s .shape .c) op w l ≡ true → beginOf s k op w ≡ beginAdmitted s k op w
