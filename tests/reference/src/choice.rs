@@ -1,25 +1,67 @@
 //! Chooses few held cases that meet much: each case chosen meets something
-//! that none before it has met. Cases for W3's rule come last.
+//! that none before it has met. A case for W3's rule comes last; cases for W5 stand
+//! in the places of such as the others make needless.
 
+use crate::beside::{self, Beside};
 use crate::conditions;
 use crate::held::{self, HeldAnswer, HeldCall};
-use crate::machine;
+use crate::machine::{self, LANE_BUSY};
 use crate::orders;
 use crate::parts::*;
 use crate::pictures;
 use crate::places;
 use crate::settle;
 use crate::situations;
-use crate::stores::{self, Case, FOR_THE_ORDER};
+use crate::stores::{self, Case, BESIDE_A_WAIT, FOR_THE_ORDER};
 use crate::summary::kind_name;
-use std::collections::BTreeSet;
+use std::collections::{BTreeMap, BTreeSet};
 
 /// The answers to the cases chosen have at most so many bytes.
 pub const MOST_BYTES: usize = 1 << 20;
 
-/// The cases chosen, of the first so many of a seed. The last of them are for the
-/// names of `orders` that no case before tells, so far as there is room.
+/// The cases chosen, of the first so many of a seed.
 pub fn choose(seed: u64, from: usize) -> Vec<Case> {
+    let mut chosen = choose_before_w5(seed, from);
+    let mut texts: Vec<BTreeSet<String>> = chosen.iter().map(all_texts).collect();
+    let mut counts = BTreeMap::new();
+    texts.iter().for_each(|texts| count(&mut counts, texts));
+    for case in (0..from).map(|index| stores::make(seed, index)) {
+        let new = all_texts(&case);
+        if new.iter().all(|text| counts.contains_key(text)) {
+            continue;
+        }
+        let fits = |old: &Case| held::given_length(case.call) <= held::given_length(old.call);
+        let needless = |i: &usize| texts[*i].iter().all(|text| counts[text] > 1);
+        let at = (0..chosen.len()).rev().filter(needless).find(|&i| fits(&chosen[i]));
+        if let Some(at) = at {
+            texts[at].iter().for_each(|text| *counts.entry(text.clone()).or_default() -= 1);
+            count(&mut counts, &new);
+            (chosen[at], texts[at]) = (case, new);
+        }
+    }
+    chosen
+}
+
+fn count(counts: &mut BTreeMap<String, usize>, texts: &BTreeSet<String>) {
+    texts.iter().for_each(|text| *counts.entry(text.clone()).or_default() += 1);
+}
+
+/// All that a case meets or tells.
+fn all_texts(case: &Case) -> BTreeSet<String> {
+    let (s, call) = (&case.store, case.call);
+    let answer = held::run(s, call).answer;
+    let mut names = orders::told(s, call, &answer);
+    names.extend(pictures::met(s, &answer));
+    names.extend(beside::met(s, call, &answer));
+    names.extend(beside::told(s, call));
+    let names = names.into_iter().map(str::to_string);
+    let texts = names.chain(meets(case, &answer, &conditions::all(s, call)));
+    texts.chain(finds(case)).collect()
+}
+
+/// The same before W5. The last of them are for the names of `orders` that no case
+/// before tells, so far as there is room.
+fn choose_before_w5(seed: u64, from: usize) -> Vec<Case> {
     let mut chosen = choose_any(seed, from);
     for name in orders::NAMES {
         if chosen.iter().any(|case| of_case(orders::told, case).contains(&name)) {
@@ -45,18 +87,36 @@ fn of_case(names: Names, case: &Case) -> Vec<&'static str> {
     names(&case.store, case.call, &held::run(&case.store, case.call).answer)
 }
 
-/// By what each case meets, and settles by what they find too; all but those made
-/// for the use order.
+/// By what each case meets before W5, and settles by what they find too; all but
+/// those made for the use order and for W5.
 fn choose_any(seed: u64, from: usize) -> Vec<Case> {
     let mut seen = BTreeSet::new();
     let mut is_new = |case: &Case| {
+        let (answer, holds) = before_w5(case);
         let before = seen.len();
-        seen.extend(meets(case));
+        seen.extend(meets(case, &answer, &holds));
         seen.extend(finds(case));
         seen.len() > before
     };
     let cases = (0..from).map(|index| stores::make(seed, index));
-    cases.filter(|case| case.source != FOR_THE_ORDER && is_new(case)).collect()
+    let made = [FOR_THE_ORDER, BESIDE_A_WAIT];
+    cases.filter(|case| !made.contains(&case.source) && is_new(case)).collect()
+}
+
+/// The answer before W5, and the conditions that held: 8 for every begin on a lane
+/// that waits.
+fn before_w5(case: &Case) -> (HeldAnswer, Vec<u8>) {
+    let (s, call) = (&case.store, case.call);
+    let mut holds = conditions::all(s, call);
+    if let HeldCall::Machine(Call::Begin { lane, .. }) = call {
+        let lane = s.lanes.get(usize::from(lane));
+        holds.extend(lane.and_then(|lane| lane.waiting).map(|_| LANE_BUSY));
+    }
+    let answer = match Beside::of(s, call) {
+        Some(it) if it.load_hits() => HeldAnswer::Refused(LANE_BUSY),
+        _ => held::run(s, call).answer,
+    };
+    (answer, holds)
 }
 
 /// Which parts keep the store from being quiet, for a settle not refused.
@@ -72,16 +132,15 @@ fn finds(case: &Case) -> Vec<String> {
     vec![format!("{:?}", [s.service.is_some(), waits, returns, downs])]
 }
 
-/// What a case meets, each thing a text.
-fn meets(case: &Case) -> Vec<String> {
+/// What a case meets with an answer and the conditions that hold, each thing a text.
+fn meets(case: &Case, answer: &HeldAnswer, holds: &[u8]) -> Vec<String> {
     let (s, call) = (&case.store, case.call);
-    let answer = held::run(s, call).answer;
     let kind = kind_name(call.kind());
-    let named = situations::met(s, call, &answer).into_iter().chain(places::met(s, call, &answer));
+    let named = situations::met(s, call, answer).into_iter().chain(places::met(s, call, answer));
     let mut met: Vec<String> = named.map(str::to_string).collect();
-    met.extend(few_left(s, call, &answer));
-    met.extend(pictures::tells_all(s, &answer).then(|| "picture that tells all".to_string()));
-    met.push(match &answer {
+    met.extend(few_left(s, call, answer));
+    met.extend(pictures::tells_all(s, answer).then(|| "picture that tells all".to_string()));
+    met.push(match answer {
         HeldAnswer::Machine(Answer::Done { .. }) => format!("{kind} done {}", taken(s, call)),
         HeldAnswer::Machine(answer) => format!("{kind} {answer:?} {}", taken(s, call)),
         HeldAnswer::Picture(length) => format!("picture of {} records", (length / 19).min(6)),
@@ -89,8 +148,8 @@ fn meets(case: &Case) -> Vec<String> {
         HeldAnswer::Refused(14) => why(s, call, 14),
         HeldAnswer::Refused(number) => format!("{kind} refused {number} {}", why(s, call, *number)),
     });
-    if let HeldAnswer::Refused(number) = answer {
-        let also = conditions::all(s, call).into_iter().filter(|_| number != 14);
+    if let &HeldAnswer::Refused(number) = answer {
+        let also = holds.iter().filter(|_| number != 14);
         met.extend(also.map(|also| format!("{kind} refused {number} before {also}")));
         met.push(format!("{kind} refused {number}"));
         let undone = call == HeldCall::Settle && number != 14 && settle::before_refusal(s).1 > 0;

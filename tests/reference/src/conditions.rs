@@ -1,6 +1,7 @@
 //! Every refusal condition that holds for a store and a call, each taken on
 //! its own. Written apart from the steps: the first in document 01's order,
-//! with W1's 17 after 8, must be the number that the call gives.
+//! with W1's 17 after 8 and W5's loads past 8, must be the number that the call
+//! gives.
 
 use crate::held::{HeldCall, SETTLE_KIND};
 use crate::machine;
@@ -116,6 +117,7 @@ fn all_lines_valid(s: &Store, lane: &Lane) -> bool {
 fn call_condition(s: &Store, lane: &Lane, call: Call, number: u8) -> bool {
     match (call, number) {
         (Call::Begin { .. }, 7) => word_out_of_range(s, call),
+        (Call::Begin { op: Op::Load, word, .. }, 8) if holds_block(s, lane, word / 4) => false,
         (Call::Begin { .. }, 8) => lane.waiting.is_some(),
         (Call::Begin { word, .. }, 12) => {
             let miss = !holds_block(s, lane, word / 4);

@@ -1,8 +1,10 @@
 //! Counts of what lists of calls met, and what they never met.
 
+use crate::beside;
 use crate::events::{Events, EVENTS};
 use crate::fills::{Fills, FILLS};
 use crate::held::{self, HeldAnswer, HeldCall, SETTLE_KIND};
+use crate::list_loads::{Loads, LOADS};
 use crate::lists::{self, Given, Record, OPEN_KIND};
 use crate::parts::*;
 use crate::settle::{self, Settled};
@@ -64,20 +66,27 @@ pub struct Cover {
     /// answer to a call; and whether it does to the list so far.
     pub other_bytes: [usize; 2],
     other_so_far: [bool; 2],
+    pub loads: Loads,
+    /// The same for the machine before W5, at all.
+    pub other_before_w5: usize,
+    other_before_w5_so_far: bool,
     shapes: BTreeSet<(u8, u8, u8)>,
 }
 
 /// The counts over the records of whole lists.
 pub fn cover(records: &[Record]) -> Cover {
-    let (mut cover, mut store, mut former) = (Cover::default(), lists::blank(), lists::blank());
+    let mut cover = Cover::default();
+    let [mut store, mut former, mut before_w5] = [(); 3].map(|_| lists::blank());
     for &record in records {
         let before = store.clone();
-        let bounds = [&store, &former].map(held::bound_bytes);
+        let bounds = [&store, &former, &before_w5].map(held::bound_bytes);
         let given = lists::run(&mut store, record);
         let formerly = lists::run_under(&mut former, record, Rule::FillsNewest);
+        let without_w5 = beside::wrong_run(&mut before_w5, record, beside::BEFORE_W5);
         cover.see(record, &given, &before, &store);
         let bytes = lists::answer_bytes(record, &given, bounds[0]);
         cover.compare(record, bytes == lists::answer_bytes(record, &formerly, bounds[1]));
+        cover.compare_w5(bytes == lists::answer_bytes(record, &without_w5, bounds[2]));
     }
     cover
 }
@@ -89,7 +98,8 @@ impl Cover {
             Record::Open { n, c, m } => {
                 self.this_list = 0;
                 self.fills.open();
-                self.other_so_far = [false; 2];
+                self.loads.clear();
+                (self.other_so_far, self.other_before_w5_so_far) = ([false; 2], false);
                 self.answer(OPEN_KIND, given);
                 if *given == Given::Opened {
                     self.lists += 1;
@@ -117,6 +127,14 @@ impl Cover {
         }
     }
 
+    /// Whether the machine before W5 does.
+    fn compare_w5(&mut self, same: bool) {
+        if !same && !self.other_before_w5_so_far {
+            self.other_before_w5_so_far = true;
+            self.other_before_w5 += 1;
+        }
+    }
+
     fn answer(&mut self, kind: u8, given: &Given) {
         let name = match given {
             Given::Opened => "opened".to_string(),
@@ -131,6 +149,9 @@ impl Cover {
     }
 
     fn see_call(&mut self, call: HeldCall, given: &Given, before: &Store, after: &Store) {
+        if let (HeldCall::Machine(call), Given::Answer(answer)) = (call, given) {
+            self.loads.see(call, answer, before);
+        }
         match (call, given) {
             (HeldCall::Machine(call), Given::Answer(HeldAnswer::Machine(_))) => {
                 self.events.see(call, before, after);
@@ -138,6 +159,7 @@ impl Cover {
             }
             (HeldCall::Settle, Given::Answer(HeldAnswer::Settled(settled))) => {
                 self.see_settle(before, settled);
+                self.loads.clear();
             }
             _ => {}
         }
@@ -190,6 +212,11 @@ impl Cover {
         never.extend(fills.map(|name| name.to_string()));
         if self.other_bytes.contains(&0) {
             never.push("the rule before W3 gives other bytes".to_string());
+        }
+        let loads = LOADS.iter().filter(|name| !self.loads.counts.contains_key(*name));
+        never.extend(loads.map(|name| name.to_string()));
+        if self.other_before_w5 == 0 {
+            never.push("the machine before W5 gives other bytes".to_string());
         }
         if self.highest_place <= u32::from(u8::MAX) {
             never.push(format!("places: only up to {}", self.highest_place));
@@ -271,7 +298,12 @@ impl Display for Cover {
         fmt_counts(f, &FILLS, &self.fills.counts)?;
         let [lists, in_answers] = self.other_bytes;
         writeln!(f, "lists to which the rule before W3 gives other bytes: {lists}")?;
-        writeln!(f, "of these in the answer to a call: {in_answers}")
+        writeln!(f, "of these in the answer to a call: {in_answers}")?;
+        for name in LOADS {
+            writeln!(f, "{name}: {}", self.loads.counts.get(name).unwrap_or(&0))?;
+        }
+        let lists = self.other_before_w5;
+        writeln!(f, "lists to which the machine before W5 gives other bytes: {lists}")
     }
 }
 

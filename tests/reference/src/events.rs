@@ -3,7 +3,7 @@
 use crate::parts::*;
 use std::collections::BTreeMap;
 
-pub const EVENTS: [&str; 21] = [
+pub const EVENTS: [&str; 22] = [
     "evictions, clean",
     "evictions, dirty",
     "EXCLUDE overtaken by PURGE",
@@ -19,6 +19,7 @@ pub const EVENTS: [&str; 21] = [
     "services closed by a return",
     "quiet stores come to",
     "begins that hit",
+    BESIDE,
     "begins that wait with EXCLUDE",
     "begins that wait with READ shared",
     "begins that wait with READ exclusive",
@@ -26,6 +27,9 @@ pub const EVENTS: [&str; 21] = [
     "serves of a READ exclusive",
     "serves of an EXCLUDE",
 ];
+
+/// W5's.
+pub const BESIDE: &str = "loads beside a wait that hit";
 
 /// Counts over calls that were not refused.
 #[derive(Default)]
@@ -59,7 +63,11 @@ impl Events {
         self.count("return queues grown to two messages", grown);
         self.count("quiet stores come to", after.quiet() && !before.quiet());
         match call {
-            Call::Begin { .. } => self.see_begin(was, is),
+            Call::Begin { .. } if after.completed > before.completed => {
+                self.count("begins that hit", true);
+                self.count(BESIDE, was.waiting.is_some());
+            }
+            Call::Begin { .. } => self.see_wait(was, is),
             Call::Serve(_) => self.see_serve(was, before, after),
             Call::Return(_) => {
                 let closed = before.service.is_some() && after.service.is_none();
@@ -69,13 +77,12 @@ impl Events {
         }
     }
 
-    fn see_begin(&mut self, was: &Lane, is: &Lane) {
+    fn see_wait(&mut self, was: &Lane, is: &Lane) {
         let evicted = is.returns.length > was.returns.length;
         let last = is.returns.places[usize::from(is.returns.length).saturating_sub(1)].kind;
         self.count("evictions, clean", evicted && last == ReturnKind::Eject);
         self.count("evictions, dirty", evicted && last == ReturnKind::WriteEject);
         let command = is.waiting.map(|w| w.command);
-        self.count("begins that hit", command.is_none());
         self.count("begins that wait with EXCLUDE", command == Some(Command::Exclude));
         self.count("begins that wait with READ shared", command == Some(Command::ReadShared));
         let exclusive = command == Some(Command::ReadExclusive);

@@ -1,8 +1,9 @@
-//! A reference of the lane store of document 01 with W1, W2 and W3 of document
+//! A reference of the lane store of document 01 with W1, W2, W3 and W5 of document
 //! 02, written from the documents and their readings only, with generators of
 //! tapes, of lists of calls and of held stores. W4 changes no answer; answers are
 //! held to it.
 
+pub mod beside;
 pub mod bounds;
 pub mod choice;
 pub mod conditions;
@@ -13,8 +14,11 @@ pub mod fills;
 pub mod flat;
 pub mod held;
 pub mod judge;
+pub mod list_loads;
 pub mod list_maker;
 pub mod lists;
+pub mod load_maker;
+pub mod loads;
 pub mod machine;
 pub mod order_maker;
 pub mod orders;

@@ -35,7 +35,10 @@ pub fn drawn_index(seed: u64, place: usize) -> usize {
 pub fn make(seed: u64, index: usize) -> Vec<Record> {
     let mut rng = Rng::stream(seed ^ 0x6c69_7374, index as u64);
     let (n, c, m) = shape(index);
-    let mut maker = Maker { store: lists::blank(), records: Vec::new(), rng: rng.clone() };
+    let mut beside = Rng::stream(seed ^ 0x6265_7369, index as u64);
+    let share = beside.pick(&[0, 10, 25, 50]);
+    let (store, records) = (lists::blank(), Vec::new());
+    let mut maker = Maker { store, records, rng: rng.clone(), beside, share };
     if rng.chance(2) {
         maker.refused_opening();
     }
@@ -60,6 +63,10 @@ struct Maker {
     store: Store,
     records: Vec<Record>,
     rng: Rng,
+    /// Draws the loads on lanes that wait, which follow so many calls in a
+    /// hundred.
+    beside: Rng,
+    share: usize,
 }
 
 impl Maker {
@@ -68,8 +75,19 @@ impl Maker {
         lists::run(&mut self.store, record)
     }
 
+    /// The call; at times a load on a lane that waits then, or another operation
+    /// in its stead, which is refused.
     fn call(&mut self, call: HeldCall) {
         self.push(Record::Call(call));
+        if !self.beside.chance(self.share) {
+            return;
+        }
+        let load = walk::load_beside(&self.store, &mut self.beside);
+        if let Some(Call::Begin { lane, word, .. }) = load {
+            let other = walk::write_op(&mut self.beside);
+            let op = if self.beside.chance(90) { Op::Load } else { other };
+            self.push(Record::Call(HeldCall::Machine(Call::Begin { lane, op, word })));
+        }
     }
 
     /// Settle; at times the store is shown then.

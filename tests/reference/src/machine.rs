@@ -147,14 +147,13 @@ fn make_oldest(lane: &mut Lane, c: u8, i: usize) {
     lane.order[..=at].rotate_right(1);
 }
 
-/// Does the operation on line i of lane k, which waits no more, and gives it
-/// the next place. The use order is the caller's.
+/// Does the operation on line i of lane k and gives it the next place. The use
+/// order is the caller's, and so is what waits.
 fn complete(s: &mut Store, k: u8, i: usize, op: Op, word: u8) -> Answer {
     let lane = &mut s.lanes[usize::from(k)];
     let cell = &mut lane.lines[i].words[usize::from(word % 4)];
     let (value, left) = op.on(*cell);
     *cell = left;
-    lane.waiting = None;
     s.completed += 1;
     Answer::Done(Completion { lane: k, value, place: s.completed })
 }
@@ -163,14 +162,17 @@ fn begin(s: &mut Store, k: u8, op: Op, word: u8) -> Result<Answer, u8> {
     if u16::from(word) >= 4 * u16::from(s.m) {
         return Err(NO_SUCH_WORD);
     }
-    if s.lanes[usize::from(k)].waiting.is_some() {
+    let lane = &s.lanes[usize::from(k)];
+    let found = search(lane, s.c, word / 4);
+    // Beside an operation that waits only a load that hits goes on.
+    if lane.waiting.is_some() && !(op.is_load() && found.is_some()) {
         return Err(LANE_BUSY);
     }
     if s.begun() == u64::from(LAST_PLACE) {
         return Err(NO_PLACE_LEFT);
     }
     let lane = &mut s.lanes[usize::from(k)];
-    let command = match search(lane, s.c, word / 4) {
+    let command = match found {
         Some(i) if op.is_load() || lane.lines[i].private => {
             use_line(lane, s.c, i);
             return Ok(complete(s, k, i, op, word));
@@ -312,6 +314,7 @@ fn deliver(s: &mut Store, k: u8, rule: Rule) -> Result<Answer, u8> {
             true => make_oldest(lane, c, i),
             false => use_line(lane, c, i),
         }
+        lane.waiting = None;
         Ok(complete(s, k, i, waiting.op, waiting.word))
     }
 }

@@ -1,11 +1,13 @@
 //! The command line. See README.md.
 
 use reference::cover::{self, Cover};
+use reference::held::HeldCall;
+use reference::loads::Loads;
 use reference::parts::Rule;
 use reference::serves::Serves;
 use reference::summary::{Cases, Tapes};
 use reference::{bounds, choice, held, judge, list_maker, lists, stores, tape, tapes};
-use reference::{serve_byte, serve_maker};
+use reference::{load_maker, serve_byte, serve_maker};
 use std::fs;
 use std::io::{self, BufWriter, Read, Write};
 use std::path::{Path, PathBuf};
@@ -21,6 +23,7 @@ const USAGE: &str = "usage:
   reference make-held SEED COUNT FILE
   reference choose-held SEED COUNT FILE
   reference make-serves SEED COUNT FILE
+  reference make-loads SEED COUNT FILE
   reference differ-held CASES ANSWERS
   reference bound-held CASES ANSWERS
   reference byte-held CASES ANSWERS
@@ -67,6 +70,7 @@ fn run(args: &[&str]) -> Outcome {
         ["make-held", seed, count, file] => make_held(seed, count, Path::new(file)),
         ["choose-held", seed, count, file] => choose_held(seed, count, Path::new(file)),
         ["make-serves", seed, count, file] => make_serves(seed, count, Path::new(file)),
+        ["make-loads", seed, count, file] => make_loads(seed, count, Path::new(file)),
         ["differ-held", cases, answers] => differ_held(cases, answers),
         ["bound-held", cases, answers] => bound_held(cases, answers),
         ["lists"] => run_lists(),
@@ -182,6 +186,28 @@ fn make_serves(seed: &str, count: &str, file: &Path) -> Outcome {
     out.flush().map_err(text)?;
     print!("{summary}");
     Ok(())
+}
+
+/// So many begins must meet all that there is to meet.
+const ALL_MET_FROM: usize = 400;
+
+fn make_loads(seed: &str, count: &str, file: &Path) -> Outcome {
+    let (seed, count) = (number(seed)?, number(count)?);
+    let mut out = BufWriter::new(fs::File::create(file).map_err(text)?);
+    let mut summary = Loads::default();
+    for index in 0..count {
+        let (store, call) = load_maker::make(seed, index);
+        summary.add(&store, call).map_err(|e| format!("case {index}: {e}"))?;
+        out.write_all(&held::encode_case(&store, HeldCall::Machine(call))).map_err(text)?;
+    }
+    out.flush().map_err(text)?;
+    print!("{summary}");
+    match summary.never_met() {
+        never if count >= ALL_MET_FROM && !never.is_empty() => {
+            Err(format!("never met: {}", never.join("; ")))
+        }
+        _ => Ok(()),
+    }
 }
 
 fn differ_held(cases: &str, answers: &str) -> Outcome {

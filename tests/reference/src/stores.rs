@@ -4,6 +4,7 @@
 use crate::conditions;
 use crate::damage::{Damage, CORRUPTING, FAIR};
 use crate::held::{HeldCall, BUFFER_BYTES};
+use crate::load_maker;
 use crate::machine;
 use crate::order_maker;
 use crate::parts::*;
@@ -20,26 +21,40 @@ pub struct Case {
     pub damages: Vec<&'static str>,
 }
 
-pub const SOURCES: [&str; 5] =
-    ["reached", "reached, damaged", "random", "random, damaged", FOR_THE_ORDER];
+pub const SOURCES: [&str; 6] =
+    ["reached", "reached, damaged", "random", "random, damaged", FOR_THE_ORDER, BESIDE_A_WAIT];
 
 /// The source of cases whose completions move lines in the use order.
 pub const FOR_THE_ORDER: &str = "for the use order";
 
+/// The source of begins on lanes that wait.
+pub const BESIDE_A_WAIT: &str = "beside a wait";
+
+/// A step that finds nothing gives way: a serve or deliver to a case of the use
+/// order, a return to a begin on a lane that waits.
 pub fn make(seed: u64, index: usize) -> Case {
     let case = of_any_call(seed, index);
-    match finds_nothing(&case) {
-        true => for_the_order(seed, index),
-        false => case,
+    match case.call {
+        HeldCall::Machine(Call::Serve(_) | Call::Deliver(_)) if finds_nothing(&case, 2) => {
+            for_the_order(seed, index)
+        }
+        HeldCall::Machine(Call::Return(_)) if finds_nothing(&case, 3) => beside_a_wait(seed, index),
+        _ => case,
     }
 }
 
-/// A serve or deliver that 9 alone refuses, in a store of several lines. All such
-/// are refused alike, so a case of the use order takes its place.
-fn finds_nothing(case: &Case) -> bool {
+/// 9 alone refuses it, in a store of so many lines or more. All such are refused
+/// alike.
+fn finds_nothing(case: &Case, lines: u8) -> bool {
     let (s, call) = (&case.store, case.call);
-    let steps = matches!(call, HeldCall::Machine(Call::Serve(_) | Call::Deliver(_)));
-    steps && s.c > 1 && conditions::all(s, call) == [machine::NOTHING_PENDING]
+    s.c >= lines && conditions::all(s, call) == [machine::NOTHING_PENDING]
+}
+
+fn beside_a_wait(seed: u64, index: usize) -> Case {
+    let mut rng = Rng::stream(seed ^ 0x6265_7369, index as u64);
+    let (store, call) = load_maker::make_any(&mut rng);
+    let call = HeldCall::Machine(call);
+    Case { store, call, source: BESIDE_A_WAIT, damages: Vec::new() }
 }
 
 fn for_the_order(seed: u64, index: usize) -> Case {
@@ -72,7 +87,8 @@ fn of_any_call(seed: u64, index: usize) -> Case {
 }
 
 /// A store that random calls reach from an opening, and a call. They run under
-/// 01's rule: W3's reaches the same stores, and cases stay as they were.
+/// 01's rule, and begins on lanes that wait are left out, since all were refused
+/// before W5: W3's rule and W5 reach the same stores, and cases stay as they were.
 pub fn reached(rng: &mut Rng) -> (Store, HeldCall) {
     let (any_c, any_m) = (rng.between(1, 8), rng.between(1, 64));
     let c = rng.pick(&[1, 2, any_c]) as u8;
@@ -85,6 +101,9 @@ pub fn reached(rng: &mut Rng) -> (Store, HeldCall) {
     let any = rng.below(200);
     for _ in 0..rng.pick(&[0, 5, 20, any, any]) {
         let call = walk::next_call(&s, &style, rng);
+        if waits(&s, call) {
+            continue;
+        }
         if let Ok((after, _)) = machine::call_under(&s, call, Rule::FillsNewest) {
             s = after;
         }
@@ -96,6 +115,12 @@ pub fn reached(rng: &mut Rng) -> (Store, HeldCall) {
         _ => any_call(&s, rng),
     };
     (s, call)
+}
+
+/// Whether the call is a begin on a lane that waits.
+fn waits(s: &Store, call: Call) -> bool {
+    let begins = matches!(call, Call::Begin { .. }) && call.lane() < s.n;
+    begins && s.lanes[usize::from(call.lane())].waiting.is_some()
 }
 
 /// A random store and a call that is turned toward it.

@@ -1,7 +1,8 @@
 //! Counts of what tapes and cases met, for print.
 
+use crate::beside;
 use crate::conditions::{self, REASONS, UNEXPECTED_REASONS};
-use crate::events::{Events, EVENTS};
+use crate::events::{Events, BESIDE, EVENTS};
 use crate::held::{HeldAnswer, HeldCall, PICTURE_KIND, SETTLE_KIND};
 use crate::orders;
 use crate::parts::*;
@@ -29,6 +30,8 @@ pub struct Tapes {
     pub events: Events,
     pub shapes: BTreeSet<(u8, u8, u8)>,
     pub highest_place: u32,
+    /// Those with a load done beside a wait.
+    pub beside: usize,
     bytes: usize,
     empty: usize,
     kinds: BTreeMap<&'static str, usize>,
@@ -40,10 +43,12 @@ impl Tapes {
         self.tapes += 1;
         self.bytes += bytes.len();
         self.empty += usize::from(bytes.is_empty());
+        let before = self.events.of(BESIDE);
         if let Err(number) = tape::replay(bytes, &mut |event| self.see(event)) {
             self.too_long += 1;
             *self.refused.entry(number).or_default() += 1;
         }
+        self.beside += usize::from(self.events.of(BESIDE) > before);
     }
 
     fn see(&mut self, event: &Event) {
@@ -92,6 +97,7 @@ impl Display for Tapes {
         writeln!(f, "kinds: {}", pairs(&self.kinds))?;
         writeln!(f, "answers: {}", pairs(&self.answers))?;
         writeln!(f, "highest place {}", self.highest_place)?;
+        writeln!(f, "tapes with a load done beside a wait {}", self.beside)?;
         writeln!(f, "refusals: {}", pairs(&self.refused))?;
         let never = TAPE_NUMBERS.iter().filter(|number| !self.refused.contains_key(number));
         let never: Vec<String> = never.map(u8::to_string).collect();
@@ -127,6 +133,8 @@ pub struct Cases {
     pub places: BTreeMap<&'static str, usize>,
     pub pictures: BTreeMap<&'static str, usize>,
     pub orders: BTreeMap<&'static str, usize>,
+    /// Begins on lanes that wait.
+    pub beside: BTreeMap<&'static str, usize>,
     /// Settles that were not refused, by the count of completions.
     pub settled: BTreeMap<usize, usize>,
     /// Refused settles, by the reason of 14 and of 16.
@@ -153,6 +161,9 @@ impl Cases {
         }
         for name in orders::met(&case.store, case.call, answer) {
             *self.orders.entry(name).or_default() += 1;
+        }
+        for name in beside::met(&case.store, case.call, answer) {
+            *self.beside.entry(name).or_default() += 1;
         }
         let reasons = conditions::corrupt_reasons(&case.store);
         add_reasons(&mut self.reasons, &reasons);
@@ -254,6 +265,8 @@ impl Display for Cases {
         fmt_counts(f, &pictures::NAMES, &self.pictures)?;
         writeln!(f, "use orders, of completions and settles:")?;
         fmt_counts(f, &orders::NAMES, &self.orders)?;
+        writeln!(f, "begins on lanes that wait:")?;
+        fmt_counts(f, &beside::NAMES, &self.beside)?;
         for kind in HELD_KINDS {
             writeln!(f, "{}:{}", kind_name(kind), self.answers_of(kind))?;
         }

@@ -38,13 +38,18 @@ pub enum Role {
     RandomBytes,
     /// Eight lanes share a few blocks.
     Sharing,
+    /// Lanes that wait load often.
+    Beside,
     General,
 }
 
 /// Roles repeat after so many tapes.
 pub const CYCLE: usize = 300;
 
-/// The roles of one cycle that are not General; the rest are.
+/// So many tapes at the end of a cycle are Beside.
+const BESIDE: usize = 8;
+
+/// The roles at the beginning of a cycle; those up to the last are General.
 fn special_roles() -> Vec<Role> {
     let mut roles = vec![Role::Empty, Role::Sample];
     roles.extend([LONGEST - 1, LONGEST, LONGEST + 1].into_iter().flat_map(sized_roles));
@@ -84,8 +89,10 @@ pub fn drawn_index(seed: u64, place: usize) -> usize {
 pub fn role(index: usize) -> (Role, usize) {
     let specials = special_roles();
     let (round, at) = (index / CYCLE, index % CYCLE);
-    let rank = round * (CYCLE - specials.len()) + at.saturating_sub(specials.len());
-    (specials.get(at).copied().unwrap_or(Role::General), rank)
+    let general = CYCLE - specials.len() - BESIDE;
+    let rank = round * general + at.saturating_sub(specials.len());
+    let last = if at < CYCLE - BESIDE { Role::General } else { Role::Beside };
+    (specials.get(at).copied().unwrap_or(last), rank)
 }
 
 pub fn make(seed: u64, index: usize) -> Vec<u8> {
@@ -101,6 +108,7 @@ pub fn make(seed: u64, index: usize) -> Vec<u8> {
         Role::NotOpen => not_open(rng),
         Role::RandomBytes => random_bytes(rng),
         Role::Sharing => sharing(rng),
+        Role::Beside => beside(rng),
         Role::General => general(rng, rank),
     }
 }
@@ -152,11 +160,13 @@ struct Builder {
     bytes: Vec<u8>,
     store: Option<Store>,
     rng: Rng,
+    /// So many records in a hundred are loads on lanes that wait.
+    beside: usize,
 }
 
 impl Builder {
     fn new(rng: Rng) -> Builder {
-        Builder { bytes: Vec::new(), store: None, rng }
+        Builder { bytes: Vec::new(), store: None, rng, beside: 0 }
     }
 
     /// Adds a record and runs it.
@@ -201,7 +211,11 @@ impl Builder {
             return Record::Open { n, c, m };
         }
         let store = self.store.as_ref().expect("open store");
-        Record::Call(walk::next_call(store, style, rng))
+        let load = match self.beside > 0 && rng.chance(self.beside) {
+            true => walk::load_beside(store, rng),
+            false => None,
+        };
+        Record::Call(load.unwrap_or_else(|| walk::next_call(store, style, rng)))
     }
 
     fn new_style(&mut self, sharing: bool) -> Style {
@@ -300,6 +314,16 @@ fn sharing(mut rng: Rng) -> Vec<u8> {
     let mut tape = Builder::new(rng);
     tape.start(shape);
     tape.run(4_000, true);
+    tape.bytes
+}
+
+fn beside(mut rng: Rng) -> Vec<u8> {
+    let shape = (rng.between(2, 8) as u8, rng.pick(&[2, 3, 4]), rng.pick(&[3, 6, 12, 24]));
+    let records = rng.pick(&[1_000, 2_000, 3_000]);
+    let mut tape = Builder::new(rng);
+    tape.beside = tape.rng.pick(&[10, 25, 40]);
+    tape.start(shape);
+    tape.run(records, false);
     tape.bytes
 }
 

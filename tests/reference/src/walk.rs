@@ -86,6 +86,37 @@ fn begin_call(s: &Store, style: &Style, lane: u8, rng: &mut Rng) -> Call {
     Call::Begin { lane, op, word }
 }
 
+/// A load on a lane that waits: mostly of a block that it has, above all the one
+/// that it waits for; at times of one that it has lost, or any.
+pub fn load_beside(s: &Store, rng: &mut Rng) -> Option<Call> {
+    let has = |l: &Lane, block: u8| crate::machine::search(l, s.c, block).is_some();
+    let waits = |l: &Lane, test: &dyn Fn(Waiting) -> bool| l.waiting.map_or(false, test);
+    let excludes = |w: Waiting| w.command == Command::Exclude;
+    let has_it = lanes_with(s, |l| waits(l, &|w| has(l, w.block())));
+    let lost_it = lanes_with(s, |l| waits(l, &|w| excludes(w) && !has(l, w.block())));
+    let has_any = lanes_with(s, |l| l.waiting.is_some() && l.lines.iter().any(|line| line.valid));
+    let any = lanes_with(s, |l| l.waiting.is_some());
+    let candidates = [has_it, lost_it, has_any, any];
+    let weight = |i: usize| if candidates[i].is_empty() { 0 } else { [50, 10, 35, 5][i] };
+    let weights: [usize; 4] = std::array::from_fn(weight);
+    if weights == [0; 4] {
+        return None;
+    }
+    let choice = rng.weighted(&weights);
+    let (k, at) = (rng.pick(&candidates[choice]), rng.byte_below(4));
+    let lane = &s.lanes[usize::from(k)];
+    let waiting = lane.waiting?;
+    let word = match choice {
+        0 | 1 => rng.pick(&[waiting.word, 4 * waiting.block() + at]),
+        2 => {
+            let held: Vec<u8> = lane.lines.iter().filter(|l| l.valid).map(|l| l.block).collect();
+            4 * rng.pick(&held) + at
+        }
+        _ => 4 * rng.byte_below(s.m) + at,
+    };
+    Some(Call::Begin { lane: k, op: Op::Load, word })
+}
+
 pub fn write_op(rng: &mut Rng) -> Op {
     let v = rng.value();
     rng.pick(&[Op::Store(v), Op::Exchange(v), Op::Add(v)])

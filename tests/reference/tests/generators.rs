@@ -1,5 +1,6 @@
 //! What the generators promise.
 
+use reference::beside;
 use reference::bounds;
 use reference::choice;
 use reference::conditions::{self, REASONS, UNEXPECTED_REASONS};
@@ -38,6 +39,7 @@ fn tapes_cover_what_they_must() {
         assert!(!summary.refused.contains_key(&number), "refusal {number}");
     }
     assert!(summary.highest_place > 5_000, "{}", summary.highest_place);
+    assert!(summary.beside >= 100, "{}", summary.beside);
     let events = &summary.events;
     assert!(events.orders.iter().all(|&count| count > 0), "{:?}", events.orders);
     assert_eq!(events.never_met(), [""; 0]);
@@ -56,7 +58,7 @@ fn tapes_cover_what_they_must() {
 #[test]
 fn drawn_tapes_reach_every_role_and_shape() {
     let (mut places, mut ranks) = (BTreeSet::new(), BTreeSet::new());
-    for index in (0..100_000).map(|place| tapes::drawn_index(1, place)) {
+    for index in (0..150_000).map(|place| tapes::drawn_index(1, place)) {
         let (role, rank) = tapes::role(index);
         places.insert(index % tapes::CYCLE);
         if role == tapes::Role::General {
@@ -183,6 +185,7 @@ fn cases_cover_what_they_must() {
         check_places(&summary);
         check_pictures(&summary);
         check_orders(&summary);
+        check_beside(&summary);
         check_settles(&summary);
         check_pairs(&summary);
     }
@@ -209,6 +212,7 @@ fn chosen_cases_are_few_and_meet_much() {
     assert!(situations::NAMES.iter().all(|name| summary.situations.contains_key(name)));
     assert!(places::NAMES.iter().all(|name| summary.places.contains_key(name)));
     assert!(pictures::NAMES.iter().all(|name| summary.pictures.contains_key(name)));
+    assert!(beside::NAMES.iter().all(|name| summary.beside.contains_key(name)));
     assert!(summary.undone.1 > 0, "no settle was refused after a completion");
     assert!((0..=8).all(|count| summary.settled.contains_key(&count)), "{:?}", summary.settled);
 }
@@ -246,16 +250,45 @@ fn check_orders(summary: &Cases) {
     }
 }
 
-/// Cases are cited by their numbers: 0 to 285 have the bytes that they had before
-/// W3, by a hash of these (FNV-1a).
+/// W5: loads are done beside what waits, and begins refused there.
+fn check_beside(summary: &Cases) {
+    for name in beside::NAMES {
+        let count = summary.beside.get(name).copied().unwrap_or(0);
+        assert!(count >= 100, "{name}: {count}");
+    }
+}
+
+/// The numbers of chosen cases that W5's stand in the places of.
+const FOR_W5: [usize; 3] = [212, 227, 248];
+
+/// Cases are cited by their numbers: 0 to 285 but those have the bytes that they had
+/// before W3, by a hash of these (FNV-1a).
 #[test]
 fn chosen_cases_keep_their_numbers() {
     let chosen = choice::choose(1, 20_000);
-    let bytes = chosen[..286].iter().flat_map(|case| held::encode_case(&case.store, case.call));
+    let kept = (0..286).filter(|number| !FOR_W5.contains(number)).map(|number| &chosen[number]);
+    let bytes = kept.flat_map(|case| held::encode_case(&case.store, case.call));
     let hash = bytes.fold(0xcbf2_9ce4_8422_2325_u64, |hash, byte| {
         (hash ^ u64::from(byte)).wrapping_mul(0x0100_0000_01b3)
     });
-    assert_eq!(hash, 0xdad6_9b7e_f8d0_5b01);
+    assert_eq!(hash, 0x60f5_7955_9b0c_50e8);
+}
+
+/// W5: the chosen cases tell every wrong machine, and would not without those three.
+#[test]
+fn chosen_cases_tell_w5() {
+    let chosen = choice::choose(1, 20_000);
+    let told = |numbers: &[usize]| {
+        let told = numbers.iter().flat_map(|&i| beside::told(&chosen[i].store, chosen[i].call));
+        told.collect::<BTreeSet<_>>()
+    };
+    let all: Vec<usize> = (0..chosen.len()).collect();
+    let others: Vec<usize> = all.iter().copied().filter(|i| !FOR_W5.contains(i)).collect();
+    assert_eq!(told(&all), beside::WRONG.iter().map(|(name, _)| *name).collect());
+    assert!(told(&others).len() < beside::WRONG.len());
+    for number in FOR_W5 {
+        assert!(beside::Beside::of(&chosen[number].store, chosen[number].call).is_some());
+    }
 }
 
 /// One more than before W3 has room: with it all names are met but one, whose

@@ -277,6 +277,11 @@ fn made_lists_cover_what_they_must() {
     assert!(cover.calls >= 100_000 && cover.lists == SHAPES, "{} calls", cover.calls);
     let [other, in_answers] = cover.other_bytes;
     assert!(other >= 2_500 && in_answers >= 500, "{other} {in_answers}");
+    assert!(cover.other_before_w5 >= 2_000, "{}", cover.other_before_w5);
+    for name in reference::list_loads::LOADS {
+        let count = cover.loads.counts.get(name).copied().unwrap_or(0);
+        assert!(count >= 300, "{name}: {count}");
+    }
     let judged = judge(&answered(&all)).expect("demand 3");
     assert!(judged.completions >= 100_000, "{} completions", judged.completions);
     assert!(judged.in_settles >= 50_000 && judged.quiet_stores >= SHAPES / 2);

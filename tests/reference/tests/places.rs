@@ -174,6 +174,13 @@ fn checked_after_6_7_8_and_before_12() {
             refused(&s, begin(0, 7), 8);
             refused(&s, begin(0, 8), 7);
             refused(&s, begin(1, 7), 17);
+            // A load that hits is past 8.
+            for private in [false, true] {
+                s.lanes[0].lines[0] = line(private, 1);
+                refused(&s, begin(0, 7), if op.is_load() { 17 } else { 8 });
+                refused(&s, begin(0, 3), 8);
+                refused(&s, begin(0, 8), 7);
+            }
         }
         s.lanes[0].lines[0] = line(false, 0);
         s.lanes[0].returns = queue(2, ReturnKind::Eject);

@@ -69,6 +69,16 @@ fn begin_6_7_8_12() {
         begins_refused(&s, 1, 0, 8);
         // 7 before 8.
         begins_refused(&s, 1, 8, 7);
+        // Of a block that is held only a load goes on.
+        for private in [false, true] {
+            let mut s = s.clone();
+            s.lanes[1].lines[0] = Line { private, ..valid(0) };
+            let [load, others @ ..] = begins(1, 0);
+            accepted(&s, load);
+            others.into_iter().for_each(|call| refused(&s, call, 8));
+            begins_refused(&s, 1, 4, 8);
+            begins_refused(&s, 1, 8, 7);
+        }
     }
     // 8 before 12, then 12 alone.
     s.lanes[1].lines[0] = valid(1);

@@ -1,6 +1,7 @@
 //! W3's sentence, row 14 of the readings: two lists from openings, one under each
 //! rule, that complete the same operations in the same order get the same values
-//! and the same places. Lanes, shapes, steps and refused calls may differ.
+//! and the same places. Lanes, shapes, steps and refused calls may differ, and
+//! whether a load is done beside an operation that waits (W5).
 
 use reference::flat::Flat;
 use reference::held::{HeldAnswer, HeldCall};
@@ -26,6 +27,8 @@ struct History {
     values: Vec<u32>,
     places: Vec<u32>,
     lanes: Vec<u8>,
+    /// Loads done on lanes that wait.
+    beside: usize,
 }
 
 impl History {
@@ -47,7 +50,7 @@ fn run(records: &[Record], rule: Rule) -> Vec<(Record, Given)> {
 /// The history of a list, each completion with its operation as document 01 finds
 /// it: of that begin call, or of the lane's last begin call that waited.
 fn history(all: &[(Record, Given)]) -> History {
-    let (mut found, mut waited) = (History::default(), [None; 256]);
+    let (mut found, mut waited, mut waits) = (History::default(), [None; 256], [false; 256]);
     let last = |waited: &[Option<Operation>; 256], lane: u8| {
         waited[usize::from(lane)].expect("a begin call that waited")
     };
@@ -57,15 +60,21 @@ fn history(all: &[(Record, Given)]) -> History {
                 match (*call, *answer) {
                     (Call::Begin { lane, op, word }, Answer::Wait) => {
                         waited[usize::from(lane)] = Some((op, word));
+                        waits[usize::from(lane)] = true;
                     }
                     (Call::Begin { op, word, .. }, Answer::Done(done)) => {
+                        found.beside += usize::from(waits[usize::from(done.lane)]);
                         found.add((op, word), done);
                     }
-                    (_, Answer::Done(done)) => found.add(last(&waited, done.lane), done),
+                    (_, Answer::Done(done)) => {
+                        waits[usize::from(done.lane)] = false;
+                        found.add(last(&waited, done.lane), done);
+                    }
                     _ => {}
                 }
             }
             (_, Given::Answer(HeldAnswer::Settled(settled))) => {
+                waits = [false; 256];
                 for &done in &settled.completions {
                     found.add(last(&waited, done.lane), done);
                 }
@@ -116,7 +125,7 @@ impl Maker {
     }
 
     /// Each operation in its turn; now and then some of the next begin before it,
-    /// if they have to wait.
+    /// if they have to wait, and a load is done beside the next.
     fn complete_all(&mut self, operations: &[Operation]) {
         let eager = self.rng.pick(&[0, 20, 60]);
         let mut next = 0;
@@ -124,6 +133,11 @@ impl Maker {
             self.disturb();
             if self.begun.is_empty() {
                 let (op, word) = operations[turn];
+                let later = operations.get(turn + 1).filter(|_| op.is_load());
+                if self.rng.chance(50) && later.map_or(false, |&o| self.load_beside(word, o)) {
+                    next = turn + 2;
+                    continue;
+                }
                 let lane = self.idle_lane().expect("nobody waits");
                 next = turn + 1;
                 if self.call(Call::Begin { lane, op, word }) != Answer::Wait {
@@ -139,6 +153,30 @@ impl Maker {
             }
             self.finish();
         }
+    }
+
+    /// The operation of the turn after waits, and the load is done in its lane; if
+    /// there is a lane for both.
+    fn load_beside(&mut self, word: u8, (op, later): Operation) -> bool {
+        let both = |&lane: &u8| {
+            let begin = Call::Begin { lane, op, word: later };
+            let idle = self.store.lanes[usize::from(lane)].waiting.is_none();
+            let waits = machine::call_under(&self.store, begin, self.rule);
+            idle && waits.map_or(false, |(after, answer)| {
+                let held = machine::search(&after.lanes[usize::from(lane)], after.c, word / 4);
+                answer == Answer::Wait && held.is_some()
+            })
+        };
+        let lanes: Vec<u8> = (0..self.store.n).filter(both).collect();
+        if lanes.is_empty() {
+            return false;
+        }
+        let lane = self.rng.pick(&lanes);
+        self.call(Call::Begin { lane, op, word: later });
+        self.begun.push_back(lane);
+        let load = self.call(Call::Begin { lane, op: Op::Load, word });
+        assert!(matches!(load, Answer::Done(done) if done.lane == lane));
+        true
     }
 
     fn begin_early(&mut self, (op, word): Operation) -> bool {
@@ -258,6 +296,8 @@ struct Pairs {
     /// Records, and refused ones, of the first lists and of the second.
     records: [usize; 2],
     refused: [usize; 2],
+    /// Loads done beside a wait.
+    beside: [usize; 2],
     /// Second lists to which the first's rule gives other bytes, or another store.
     other_bytes: usize,
     /// Pairs with two operations swapped that gave other values.
@@ -304,6 +344,7 @@ impl Pairs {
         self.completions += one.values.len();
         let lanes = one.lanes.iter().zip(&two.lanes);
         self.in_another_lane += lanes.filter(|(one, two)| one != two).count();
+        self.beside = [self.beside[0] + one.beside, self.beside[1] + two.beside];
         for (i, list) in lists.into_iter().enumerate() {
             self.records[i] += list.len();
             self.refused[i] += refused(list);
@@ -342,6 +383,7 @@ fn lists_of_the_same_completions_get_the_same_values() {
     assert_eq!(pairs.pairs, 2_000);
     assert!(pairs.completions > 80_000 && pairs.in_another_lane > 50_000, "{pairs:?}");
     assert!(pairs.all_of_the_shape > 1_500 && pairs.other_bytes > 1_000, "{pairs:?}");
+    assert!(pairs.beside[0] > 5_000 && pairs.beside[1] > 2_000, "{pairs:?}");
     assert!(pairs.swapped > 1_500 && pairs.refused.iter().all(|&count| count > 5_000));
 }
 
