@@ -1,4 +1,4 @@
-/* The lane store of document 01, with document 02's W1 and W3, in plain C, changed in place, and the replay of a tape (program `ctape`).
+/* The lane store of document 01, with document 02's W1, W3, W4 and W5, in plain C, changed in place, and the replay of a tape (program `ctape`).
  * The yardstick of bench/run: not proved, and without settle and picture.
  * A store opened here is never corrupt (refusal 14), so no step looks for that. */
 
@@ -184,12 +184,12 @@ static Answer begin(Store *s, unsigned k, unsigned op, unsigned word, uint32_t v
     if (word >= WORDS * s->m)
         return refused(NO_SUCH_WORD);
     Lane *lane = &s->lanes[k];
-    if (lane->waiting.state != IDLE)
+    Line *line = search(lane, s->c, word / WORDS);
+    if (lane->waiting.state != IDLE && !(op == LOAD && line))
         return refused(LANE_BUSY);
     if (s->begun == UINT32_MAX)
         return refused(PLACES_EXHAUSTED);
     unsigned command = EXCLUDE;
-    Line *line = search(lane, s->c, word / WORDS);
     if (line) {
         if (op == LOAD || line->private) {
             s->begun++;

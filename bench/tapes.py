@@ -13,11 +13,12 @@ OPEN, LOAD, STORE, EXCHANGE, ADD, SERVE, RETURN, DELIVER = range(8)
 BODY = (3, 2, 6, 6, 6, 1, 1, 1)
 
 # lanes, lines, blocks; seed; percent of begins on a block that the lane holds; percent of loads;
-# percent of records chosen blindly (often refused); percent of odd records (always refused)
+# percent of records chosen blindly (often refused); percent of odd records (always refused); percent of loads beside a waiting operation,
+# where there is a lane that can make one
 TAPES = {
-    "small": ((2, 1, 2), 1, 25, 50, 5, 0),
-    "large": ((8, 8, 64), 2, 40, 50, 20, 0),
-    "random": ((5, 3, 11), 3, 31, 50, 8, 15),
+    "small": ((2, 1, 2), 1, 25, 50, 5, 0, 5),
+    "large": ((8, 8, 64), 2, 40, 50, 20, 0, 5),
+    "random": ((5, 3, 11), 3, 31, 50, 8, 15, 5),
 }
 
 
@@ -59,7 +60,7 @@ class Model:
         self.modified = [False] * m
         self.service = None  # [lane, block, is shared, awaited]
 
-    def allowed(self, kind, k):
+    def allowed(self, kind, k, block=None):
         lane = self.lanes[k]
         if kind == SERVE:
             unserved = lane.waiting and not lane.waiting[3]
@@ -68,7 +69,11 @@ class Model:
             return bool(lane.returns)
         if kind == DELIVER:
             return bool(lane.downs)
-        return lane.waiting is None
+        return lane.waiting is None or (kind == LOAD and block in lane.lines)
+
+    def beside(self):
+        """The lanes that wait and hold a block, so that they can load."""
+        return [k for k, lane in enumerate(self.lanes) if lane.waiting and lane.lines]
 
     def run(self, kind, k, block=0):
         if kind == SERVE:
@@ -164,7 +169,7 @@ def odd_record(chance, model):
     return record(chance, kind, model.n + chance.below(256 - model.n), chance.below(256))
 
 
-def make(shape, seed, near, loads, blind, odd):
+def make(shape, seed, near, loads, blind, odd, beside):
     chance = Chance(seed)
     model = Model(*shape)
     tape = bytearray()
@@ -174,6 +179,11 @@ def make(shape, seed, near, loads, blind, odd):
     while True:
         if chance.percent(odd):
             new = odd_record(chance, model)
+        elif model.beside() and chance.percent(beside):
+            k = chance.of(model.beside())
+            block = chance.of(sorted(model.lanes[k].lines))
+            new = record(chance, LOAD, k, 4 * block + chance.below(4))
+            model.run(LOAD, k, block)
         else:
             calls = [(kind, k) for kind in (LOAD, SERVE, RETURN, DELIVER) for k in range(model.n)]
             if not chance.percent(blind):
@@ -187,7 +197,7 @@ def make(shape, seed, near, loads, blind, odd):
                 if not chance.percent(loads):
                     kind = chance.of((STORE, EXCHANGE, ADD))
             new = record(chance, kind, k, 4 * block + chance.below(4))
-            if model.allowed(kind, k):
+            if model.allowed(kind, k, block):
                 model.run(kind, k, block)
         if len(tape) + len(new) > MAX_TAPE:
             return bytes(tape)
