@@ -135,15 +135,14 @@ class Bench:
         lane = self.lanes[k]
         words = lane.lines[i].words
         words[word % 4], value = apply(op, words[word % 4], v)
-        lane.waiting = None
         self.completions += 1
         return f'done {k} {value} {self.completions}'
 
     def begin(self, k, op, word, v=0):
         lane, block = self.lanes[k], word // 4
-        if lane.waiting:
-            raise Refused(8)
         i = lane.search(block)
+        if lane.waiting and (op != 'load' or i is None):
+            raise Refused(8)
         if i is not None and (op == 'load' or lane.lines[i].private):
             lane.use(i)
             return self.complete(k, i, op, word, v), f'hit on block {block}'
@@ -213,6 +212,7 @@ class Bench:
         if message.name in ('UPDATE', 'PURGE'):
             return 'step', self.obey(k, message)
         op, word, v = (lane.waiting[name] for name in ('op', 'word', 'v'))
+        lane.waiting = None
         i = lane.search(message.block)
         if message.words is not None:
             i = min(set(range(self.lines)) - set(lane.lines))
