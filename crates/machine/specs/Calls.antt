@@ -1,6 +1,7 @@
 -- The calls of demand 3 and what a list of them gives, under an insertion policy (02, W3). Assumes nothing.
 use mathlib.Core.Bool.{Bool, true, false}
 use mathlib.Core.List.{List, [], _∷_}
+use Rattle.words.specs.declared.Shape.{Shape}
 use Rattle.words.specs.declared.LaneNo.{LaneNo}
 use Rattle.words.specs.declared.WordNo.{WordNo}
 use Rattle.words.specs.declared.Op.{Op}
@@ -12,6 +13,7 @@ use Rattle.answers.specs.Refusals.{refusedOf}
 use Rattle.answers.specs.Completions.{doneIn}
 use Rattle.store.specs.declared.Store.{Store}
 use Rattle.store.specs.declared.Outcome.{Outcome}
+use Rattle.store.specs.Opening.{openOf}
 use Rattle.machine.specs.declared.Settled.{Settled}
 use Rattle.machine.specs.declared.Settled.the-variants.{Steps}
 use Rattle.machine.specs.Begin.{beginOf}
@@ -70,6 +72,10 @@ run ins s (c ∷ cs) =
     let r = callOf ins s c in
     let rest = run ins (r .store) cs in
     record { history = record { call = c; reply = r .reply } ∷ rest .history; store = rest .store }
+
+-- what a list of calls from an opening is answered
+abbrev pub historyOf : Insertion → Shape → List Call → List Entry
+historyOf ins shape calls = run ins (openOf shape .store) calls .history
 
 -- a call gives the completions in its answer, settle in the order it lists them; a refused call gives none
 abbrev pub completionsOf : Reply → List Completion

@@ -33,7 +33,7 @@ use Rattle.machine.specs.Begun.{exhaustedOf}
 use Rattle.machine.specs.Corruption.{corruptOf}
 use Rattle.machine.specs.Change.{refuse}
 use Rattle.machine.specs.Begin.{beginOf}
-use Rattle.machine.specs.Calls.{Call, Begin, Entry, run}
+use Rattle.machine.specs.Calls.{Call, Begin, run, historyOf}
 use Rattle.machine.specs.Attribution.{Begun, begunAt}
 use Rattle.machine.specs.Demand3.{begun, operations}
 
@@ -60,10 +60,6 @@ pub record BesideWait (s : Store) (k : LaneNo) (w : WordNo) : Type 0 where
 abbrev pub BesideWaits : Type 0
 BesideWaits =
     (s : Store) (k : LaneNo) (w : WordNo) → corruptOf s ≡ false → k .0 < s .shape .n → w .0 < 4 * s .shape .m → idleOf (laneAt s (k .0) .waiting) ≡ false → BesideWait s k w
-
--- the answers of a list of calls from an opening
-abbrev pub historyOf : Insertion → Shape → List Call → List Entry
-historyOf ins shape calls = run ins (openOf shape .store) calls .history
 
 -- operation b is the one that a lane waits for
 abbrev pub WaitsFor : Waiting → Begun → Type 0
