@@ -13,7 +13,7 @@ pub enum Refusal {
     InvalidShape, // 5, no such bench: n, c or m out of range
     NoSuchLane, // 6
     NoSuchWord, // 7
-    LaneBusy, // 8, occupied: the lane's operation waits
+    LaneBusy, // 8, occupied: the lane's operation waits, and this is no load that hits
     NothingPending, // 9, nothing there: no operation to serve, or an empty queue
     ControlBusy, // 10, engaged: a service is under way
     ReturnsPending, // 11, returns first: the lane's return queue has a message

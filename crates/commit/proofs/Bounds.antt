@@ -35,9 +35,9 @@ module _ (s : Store) (k : LaneNo) (e : corruptOf s ≡ false) (h : k .0 < s .sha
   -- a completion's place is no more than the last one
   pub begin-counted : (op : Op) (w : WordNo) → admitsOf (s .shape .c) op w (laneAt s (k .0)) ≡ true → exhaustedOf s ≡ false →
       counted (beginLane (s .shape .c) op w (laneAt s (k .0)) .answer) (s .completions) ≤ lastPlace
-  begin-counted op w free left =
+  begin-counted op w admits left =
       let g = sound s e .begun in
-      let p = lane-counted 1 s k (beginLane (s .shape .c) op w (laneAt s (k .0))) h (begin-lane-begins (s .shape .c) op w (laneAt s (k .0)) (admitted (s .shape .c) op w (laneAt s (k .0)) free)) in
+      let p = lane-counted 1 s k (beginLane (s .shape .c) op w (laneAt s (k .0))) h (begin-lane-begins (s .shape .c) op w (laneAt s (k .0)) (admitted (s .shape .c) op w (laneAt s (k .0)) admits)) in
       omega (arith, eqb-false (begunIn s) lastPlace left)
 
   pub deliver-counted : counted (deliverLane LoadsOldest (s .shape .c) (laneAt s (k .0)) .answer) (s .completions) ≤ lastPlace

@@ -21,7 +21,7 @@ use Rattle.machine.specs.Places.{PlacesKept}
 use Rattle.machine.specs.UseOrders.{UseOrders}
 use Rattle.machine.specs.SameValues.{SameValues}
 use Rattle.machine.specs.ServeByte.{ServeByByte}
-use Rattle.machine.specs.LoadBeside.{BesideWaits, StandAhead}
+use Rattle.machine.specs.LoadBeside.{LoadBesideWait, LoadStandsAhead}
 use Rattle.machine.specs.Completion.{AlwaysSettles, SettleBound}
 use Rattle.machine.specs.Sized.{Sized}
 use Rattle.machine.specs.PictureOrder.{PictureInOrder, OneOrder, SamePictures}
@@ -97,14 +97,14 @@ same-values = same-operations
 pub serve-goes-by-byte : ServeByByte
 serve-goes-by-byte = serve-by-byte
 
--- 02, W5: begin on a lane that waits, on every store that 14 passes, be it one that no opening gives (`BesideWait`, specs/LoadBeside.antt). A load that hits gives the word as it stands
--- in the line, and of the whole store the lane's use order and the count of completions change alone: what waits still waits. One that misses, and every other operation, is refused by 8.
-pub load-beside-wait : BesideWaits
+-- 02, W5: begin on a lane that waits, on every store that 14 passes, be it one that no opening gives (`BesideWait`, specs/LoadBeside.antt). A load of a word of the store that hits gives the word as it stands
+-- in the line, and of the whole store the lane's use order and the count of completions change alone: what waits still waits; 17 where no place is left. One that misses, and every other operation, is refused by 8.
+pub load-beside-wait : LoadBesideWait
 load-beside-wait = beside-wait
 
 -- .. and such loads in the order of completion, in every list of calls from an opening (`StandsAhead`, specs/LoadBeside.antt): each stands where it was answered, behind all that had completed
 -- and ahead of the operation that its lane waited for, which was begun, had not completed, and completes behind it. That flat memory gives their values is demand 3, which has them in it.
-pub load-stands-ahead : StandAhead
+pub load-stands-ahead : LoadStandsAhead
 load-stands-ahead = stand-ahead
 
 -- Beside demand 3: settle never fails. After any list of calls from any opening, settle is answered with its count (no 12, no 16), and

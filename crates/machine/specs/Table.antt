@@ -43,7 +43,7 @@ use Rattle.machine.specs.Change.{posted}
 use Rattle.machine.specs.LaneBytes.{bitsIn, ordersByte, lanesOf}
 use Rattle.machine.specs.Settle.{lane, downsOf, boundOf}
 use Rattle.machine.specs.Flags.{lineIn}
-use Rattle.machine.specs.Calls.{Call, Begin, Serve, Return, Deliver, Settle, Reply, Entry, run}
+use Rattle.machine.specs.Calls.{Call, Begin, Serve, Return, Deliver, Settle, Reply, Entry, run, historyOf}
 use Rattle.machine.specs.Attribution.{Begun}
 use Rattle.machine.specs.Flat.{flatOf, flatValues}
 use Rattle.machine.specs.Demand3.{operations, valuesIn}
@@ -891,12 +891,12 @@ bothCopies = after (opened 2 2 2) (store 1 0 7 ∷ Settle ∷ load 0 0 ∷ Settl
 abbrev pub privateCopy : Store
 privateCopy = after (opened 2 2 2) (store 0 0 7 ∷ Settle ∷ [])
 
--- the operations of a list's completions in their order, each by the index of its begin call; the values that flat memory gives, fed these, and those of the completions
-abbrev pub completes : Store → List Call → List ℕ → List ℕ → List Row
-completes s cs indices values =
-    let h = run LoadsOldest s cs .history in
+-- the operations of the completions of a list from an opening, in their order, each by the index of its begin call; the values that flat memory gives, fed these, and those of the completions
+abbrev pub completes : ℕ → ℕ → ℕ → List Call → List ℕ → List ℕ → List Row
+completes n c m cs indices values =
+    let h = historyOf LoadsOldest (shaped n c m) cs in
     record { given = Numbers (map (λ (b : Begun). b .index) (operations h)); wanted = Numbers indices } ∷
-    record { given = Numbers (flatValues (flatOf (s .shape .m)) (operations h)); wanted = Numbers values } ∷
+    record { given = Numbers (flatValues (flatOf m) (operations h)); wanted = Numbers values } ∷
     record { given = Numbers (valuesIn h); wanted = Numbers values } ∷
     []
 
@@ -966,7 +966,7 @@ loadsBeside =
     (0 ∷ 2 ∷ 2 ∷ 2 ∷ 2 ∷ 0 ∷ 0 ∷ 7 ∷ 0 ∷ 0 ∷ 0 ∷ 5 ∷ 0 ∷ 7 ∷ 0 ∷ 1 ∷ 0 ∷ 4 ∷ 1 ∷ 0 ∷ 0 ∷ 5 ∷ 0 ∷ 1 ∷ 0 ∷ 1 ∷ 1 ∷ 0 ∷ 4 ∷ 7 ∷ 0 ∷ [])
     (opens ∷ wait ∷ step ∷ done 0 7 1 ∷ wait ∷ done 0 7 2 ∷ step ∷ done 0 0 3 ∷ refused 8 ∷ done 0 0 4 ∷ []) ∷
     -- the load (index 3) is of its own call and stands ahead of the add (index 2), as flat memory is fed
-    completes (opened 2 1 1) (load 0 0 ∷ Settle ∷ add 0 0 5 ∷ load 0 0 ∷ Settle ∷ load 0 0 ∷ []) (0 ∷ 3 ∷ 2 ∷ 5 ∷ []) (0 ∷ 0 ∷ 0 ∷ 5 ∷ [])
+    completes 2 1 1 (load 0 0 ∷ Settle ∷ add 0 0 5 ∷ load 0 0 ∷ Settle ∷ load 0 0 ∷ []) (0 ∷ 3 ∷ 2 ∷ 5 ∷ []) (0 ∷ 0 ∷ 0 ∷ 5 ∷ [])
 
 -- the table
 unfoldable pub rows : List Row

@@ -120,7 +120,7 @@ lane-begins b s k r g c h t = lane-rule (BegunMore b s) s k r (λ x _. refused-b
 pub begin-begun : (s : Store) (k : LaneNo) (op : Op) (w : WordNo) → Sized s → BegunMore 1 s (beginOf s k op w)
 begin-begun s k op w g =
     begin-rule (BegunMore 1 s) s k op w (refused-begun 1 s)
-    (λ r. lane-begins 1 s k _ g (r .sound) (r .lane) (begin-lane-begins (s .shape .c) op w (laneAt s (k .0)) (r .free)))
+    (λ r. lane-begins 1 s k _ g (r .sound) (r .lane) (begin-lane-begins (s .shape .c) op w (laneAt s (k .0)) (r .admits)))
 
 -- no other call changes them
 abbrev Same : Store → Outcome → Type 0

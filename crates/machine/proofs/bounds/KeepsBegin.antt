@@ -102,4 +102,4 @@ begin-fit h s k op w b g =
     let z = g .sound .begun in
     commit-lane-keeps h 1 s k _ (omega arith) (r .lane) g
     (begin-lane-keeps h (s .shape .c) (s .shape .m) (g .sound .c-low) b (g .sound .m-low) op w (r .inside) (laneAt s (k .0)) (lane-fit h s g (k .0) (r .lane)))
-    (begin-lane-begins (s .shape .c) op w (laneAt s (k .0)) (r .free)) (omega (arith, r .left)))
+    (begin-lane-begins (s .shape .c) op w (laneAt s (k .0)) (r .admits)) (omega (arith, r .left)))

@@ -92,7 +92,7 @@ complete-begins : (b : ℕ) (o : List LineNo) (i : LineNo) (x : Line) (op : Op) 
 unfolding completeWith
 complete-begins b o i x op w l t h e = sym h
 
-module _ (c : ℕ) (op : Op) (w : WordNo) (l : Lane) (free : Admitted c op w l) where
+module _ (c : ℕ) (op : Op) (w : WordNo) (l : Lane) (admits : Admitted c op w l) where
   -- the lane waits for nothing, and now for one operation
   begins-one : l .waiting ≡ Idle → waits l + 1 ≡ 1
   begins-one idle = rw (waiting-waits l Idle idle) refl
@@ -103,7 +103,7 @@ module _ (c : ℕ) (op : Op) (w : WordNo) (l : Lane) (free : Admitted c op w l) 
   hit-begins i =
       pick (LaneBegins 1 l) (isLoad op || lineAt l i .private) (complete c i (lineAt l i) op w l) (begin.waits Exclude op w l)
       (λ _. complete-begins 1 _ i (lineAt l i) op w l l (omega arith))
-      (λ t _. sym (begins-one (free .write (or-left (isLoad op) (lineAt l i .private) t))))
+      (λ t _. sym (begins-one (admits .write (or-left (isLoad op) (lineAt l i .private) t))))
 
   evict-begins : l .waiting ≡ Idle → (i : LineNo) → LaneBegins 1 l (evict i op w l)
   unfolding evict
@@ -117,7 +117,7 @@ module _ (c : ℕ) (op : Op) (w : WordNo) (l : Lane) (free : Admitted c op w l) 
   at-begins : (f : Found) → searchOf l c (blockOf w) ≡ f → LaneBegins 1 l (beginAt f c op w l)
   unfolding miss
   at-begins (At i) e = hit-begins i
-  at-begins Nothing e = miss-begins (free .miss e) (vacantOf l c)
+  at-begins Nothing e = miss-begins (admits .miss e) (vacantOf l c)
 
   -- the lane's part of begin
   pub begin-lane-begins : LaneBegins 1 l (beginLane c op w l)

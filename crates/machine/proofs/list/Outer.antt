@@ -51,6 +51,14 @@ attributed x b = record { completion = x; origin = Of b }
 abbrev byLane : LastWaits → Completion → Attributed
 byLane last x = record { completion = x; origin = last (x .lane .0) }
 
+-- an operation of index i, then those of later ones
+from-index : (i : ℕ) (b : Begun) (bs : List Begun) → b .index ≡ i → ((a : Begun) → List·Memᴰ a bs → suc i ≤ a .index) → (a : Begun) → List·Memᴰ a (b ∷ bs) → i ≤ a .index
+from-index i b bs e later a m = go (List·Memᴰ·cases-cons m)
+  where
+    go : (a ≡ b) ⊎ List·Memᴰ a bs → i ≤ a .index
+    go (inl d) = let z : a .index ≡ b .index = ap (λ (c : Begun). c .index) d in omega arith
+    go (inr n) = let z = later a n in omega arith
+
 -- h is the whole history; q is what waits after it, and g flat memory
 module _ (h : List Entry) (q : ℕ → Pending) (g : List ℕ) where
   -- from the call of index i on, where xs are the completions to come and bs the operations to be begun
@@ -167,14 +175,10 @@ module _ (h : List Entry) (q : ℕ → Pending) (g : List ℕ) where
     values = rw (v, r .values);
     end = r .end;
     all-completed = all;
-    later = λ a n. after a (List·Memᴰ·cases-cons n);
+    later = from-index i b bs e (r .later);
     not-yet = λ k op w d. let n = r .not-yet k op w d in (n .0, earlier _ (n .1), λ m. left _ (n .1) (n .2) (List·Memᴰ·cases-cons m));
   }
     where
-      after : (a : Begun) → (a ≡ b) ⊎ List·Memᴰ a bs → i ≤ a .index
-      after a (inl d) = let z : a .index ≡ b .index = ap (λ (c : Begun). c .index) d in omega arith
-      after a (inr n) = let z = r .later a n in omega arith
-
       earlier : (a : Begun) → Outstanding p last a ⊎ List·Memᴰ a bs → Outstanding p last a ⊎ List·Memᴰ a (b ∷ bs)
       earlier a (inl y) = inl y
       earlier a (inr n) = inr (List·Memᴰ·tail n)
@@ -206,14 +210,10 @@ module _ (h : List Entry) (q : ℕ → Pending) (g : List ℕ) where
     values = r .values;
     end = r .end;
     all-completed = all;
-    later = λ a n. after a (List·Memᴰ·cases-cons n);
+    later = from-index i (begunAt i k op w) bs refl (r .later);
     not-yet = λ k′ op′ w′ d. let n = r .not-yet k′ op′ w′ d in (n .0, earlier _ (n .1), n .2);
   }
     where
-      after : (a : Begun) → (a ≡ begunAt i k op w) ⊎ List·Memᴰ a bs → i ≤ a .index
-      after a (inl d) = let z : a .index ≡ i = ap (λ (c : Begun). c .index) d in omega arith
-      after a (inr n) = let z = r .later a n in omega arith
-
       earlier : (a : Begun) → Outstanding (waiting p k op w) (lastIs last i k op w) a ⊎ List·Memᴰ a bs → Outstanding p last a ⊎ List·Memᴰ a (begunAt i k op w ∷ bs)
       earlier a (inl y) = elim (new-or-old p last i k op w a y) [ inl d ↦ inr (List·Memᴰ·head d) | inr o ↦ inl o ]
       earlier a (inr n) = inr (List·Memᴰ·tail n)

@@ -245,7 +245,7 @@ pub data BeginCase (c : ℕ) (op : Op) (w : WordNo) (l : Lane) (r : LaneStep) : 
   Evicts : EvictCase c op w l r → BeginCase c op w l r
   Refuses : RefusedCase l r → BeginCase c op w l r
 
-module _ (c : ℕ) (op : Op) (w : WordNo) (l : Lane) (z : LaneSized l) (b : c ≤ 8) (u : Unique c l) (free : Admitted c op w l) where
+module _ (c : ℕ) (op : Op) (w : WordNo) (l : Lane) (z : LaneSized l) (b : c ≤ 8) (u : Unique c l) (admits : Admitted c op w l) where
   -- a lane that waits with a command, seen by the operation's block and by another
   wait-here : (x : Command) (l′ : Lane) → seen c (blockOf w) (withWaiting (Unserved (asked x op w)) l′) ≡ waitSeen (Unserved (asked x op w)) (seen c (blockOf w) l′)
   wait-here x l′ =
@@ -288,7 +288,7 @@ module _ (c : ℕ) (op : Op) (w : WordNo) (l : Lane) (z : LaneSized l) (b : c �
 
     exclude-case : (isLoad op || lineAt l i .private) ≡ false → ExcludeCase c op w l (waits Exclude op w l)
     exclude-case f =
-        let idle = free .write (or-left (isLoad op) (lineAt l i .private) f) in
+        let idle = admits .write (or-left (isLoad op) (lineAt l i .private) f) in
         record {
           wait = record {
             idle = idle;
@@ -309,7 +309,7 @@ module _ (c : ℕ) (op : Op) (w : WordNo) (l : Lane) (z : LaneSized l) (b : c �
   -- Search finds nothing
   module _ (e : searchOf l c (blockOf w) ≡ Nothing) where
     idle : l .waiting ≡ Idle
-    idle = free .miss e
+    idle = admits .miss e
 
     miss-line : seen c (blockOf w) l .line ≡ Invalid
     miss-line = ap (λ (x : Seen). x .line) (seen-none c (blockOf w) l e)
@@ -356,8 +356,8 @@ module _ (c : ℕ) (op : Op) (w : WordNo) (l : Lane) (z : LaneSized l) (b : c �
 -- the lane's part of begin
 pub begin-case : (c : ℕ) (op : Op) (w : WordNo) (l : Lane) → LaneSized l → c ≤ 8 → Unique c l → placeAt (l .order) 0 .0 < c → Admitted c op w l → BeginCase c op w l (beginLane c op w l)
 unfolding beginLane miss
-begin-case c op w l z b u h free = go (searchOf l c (blockOf w)) refl
+begin-case c op w l z b u h admits = go (searchOf l c (blockOf w)) refl
   where
     go : (f : Found) → searchOf l c (blockOf w) ≡ f → BeginCase c op w l (beginAt f c op w l)
-    go (At i) e = at-case c op w l z b u free i e
-    go Nothing e = miss-case c op w l z b u free e h (vacantOf l c) refl
+    go (At i) e = at-case c op w l z b u admits i e
+    go Nothing e = miss-case c op w l z b u admits e h (vacantOf l c) refl

@@ -92,7 +92,7 @@ pub record BeginReady (s : Store) (k : LaneNo) (op : Op) (w : WordNo) : Type 0 w
   pub sound : corruptOf s ≡ false
   pub lane : k .0 < s .shape .n
   pub inside : blockOf w .0 < s .shape .m
-  pub free : Admitted (s .shape .c) op w (laneAt s (k .0))
+  pub admits : Admitted (s .shape .c) op w (laneAt s (k .0))
   pub left : begunIn s ≢ lastPlace
 
 pub begin-rule : (P : Outcome → Type 0) (s : Store) (k : LaneNo) (op : Op) (w : WordNo) → ((x : Refusal) → P (refuse x s)) →
@@ -107,7 +107,7 @@ begin-rule P s k op w stays next =
       sound = c;
       lane = h;
       inside = let v = leb-false (4 * s .shape .m) (w .0) e in omega arith;
-      free = admitted (s .shape .c) op w (laneAt s (k .0)) q;
+      admits = admitted (s .shape .c) op w (laneAt s (k .0)) q;
       left = eqb-false _ _ d;
     })))
     (λ _. stays LaneBusy)))

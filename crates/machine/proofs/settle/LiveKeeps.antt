@@ -93,8 +93,8 @@ begin-live s f k op w i live =
     let z = lane-sized s f i (k .0) h in
     let c = sound s (i .sound) .c-high in
     let o = oldest-below s f i k h in
-    lane-commits s k _ live (begin-lane-live (s .shape .c) op w (laneAt s (k .0)) z c o (r .free) (live .lane (k .0)))
-    (begin-owed (s .shape .c) op w (laneAt s (k .0)) _ (begin-case (s .shape .c) op w (laneAt s (k .0)) z c (i .unique (k .0)) o (r .free))))
+    lane-commits s k _ live (begin-lane-live (s .shape .c) op w (laneAt s (k .0)) z c o (r .admits) (live .lane (k .0)))
+    (begin-owed (s .shape .c) op w (laneAt s (k .0)) _ (begin-case (s .shape .c) op w (laneAt s (k .0)) z c (i .unique (k .0)) o (r .admits))))
 
 pub deliver-live : (ins : Insertion) (s : Store) (f : List ℕ) (k : LaneNo) → Consistent s f → Live s → Live (deliverOf ins s k .store)
 deliver-live ins s f k i live =

@@ -119,7 +119,7 @@ posted-live c m l h = stays-live c l (posted m l) refl (omega arith) (λ a e. e)
 pub none-ejected : (c : ℕ) (l : Lane) → unservedOf (l .waiting) ≡ false → LaneLive c l → ejectCount (queuedReturns (l .returns)) ≤ 0
 none-ejected c l e h = rw e at (h .ejects)
 
-module _ (c : ℕ) (op : Op) (w : WordNo) (l : Lane) (z : LaneSized l) (b : c ≤ 8) (live : LaneLive c l) (free : Admitted c op w l) where
+module _ (c : ℕ) (op : Op) (w : WordNo) (l : Lane) (z : LaneSized l) (b : c ≤ 8) (live : LaneLive c l) (admits : Admitted c op w l) where
   -- a lane that waits for nothing has ejected nothing yet
   none : l .waiting ≡ Idle → ejectCount (queuedReturns (l .returns)) ≤ 0
   none idle = none-ejected c l (ap unservedOf idle) live
@@ -141,7 +141,7 @@ module _ (c : ℕ) (op : Op) (w : WordNo) (l : Lane) (z : LaneSized l) (b : c �
       pick (λ (r : LaneStep). LaneLive c (r .lane)) (isLoad op || lineAt l i .private) _ (waits Exclude op w l)
       (λ _. stays-live c l _ refl (omega arith) (complete-room (usedOf c i (l .order)) i) live)
       (λ t.
-      let n = none (free .write (or-left (isLoad op) (lineAt l i .private) t)) in
+      let n = none (admits .write (or-left (isLoad op) (lineAt l i .private) t)) in
       waits-live Exclude l (omega arith) (any-true _ c (i .0) (holds-takes (blockOf w) (lineAt l i) (f .1)) (f .0)))
 
   -- the line given up is free
@@ -165,12 +165,12 @@ module _ (c : ℕ) (op : Op) (w : WordNo) (l : Lane) (z : LaneSized l) (b : c �
   at-live : placeAt (l .order) 0 .0 < c → (f : Found) → searchOf l c (blockOf w) ≡ f → LaneLive c (beginAt f c op w l .lane)
   unfolding miss
   at-live h (At i) e = hit-live i e
-  at-live h Nothing e = miss-live (free .miss e) h (vacantOf l c) refl
+  at-live h Nothing e = miss-live (admits .miss e) h (vacantOf l c) refl
 
 -- the lane's part of begin
 pub begin-lane-live : (c : ℕ) (op : Op) (w : WordNo) (l : Lane) → LaneSized l → c ≤ 8 → placeAt (l .order) 0 .0 < c → Admitted c op w l → LaneLive c l → LaneLive c (beginLane c op w l .lane)
 unfolding beginLane
-begin-lane-live c op w l z b h free live = at-live c op w l z b live free h (searchOf l c (blockOf w)) refl
+begin-lane-live c op w l z b h admits live = at-live c op w l z b live admits h (searchOf l c (blockOf w)) refl
 
 module _ (ins : Insertion) (c : ℕ) (l : Lane) (z : LaneSized l) (live : LaneLive c l) (q : DownQueue) where
   -- an answer is sent from a lane whose lines leave no less room

@@ -151,4 +151,4 @@ begin-consistent s f k op w i =
     (λ r.
     let a = sound s (i .sound) in
     case-begins s f i k (r .lane) op w (r .inside) _
-    (begin-case (s .shape .c) op w (laneAt s (k .0)) (lane-sized s f i (k .0) (r .lane)) (a .c-high) (i .unique (k .0)) (a .lane (k .0) (r .lane) .order .named 0 (a .c-low)) (r .free)))
+    (begin-case (s .shape .c) op w (laneAt s (k .0)) (lane-sized s f i (k .0) (r .lane)) (a .c-high) (i .unique (k .0)) (a .lane (k .0) (r .lane) .order .named 0 (a .c-low)) (r .admits)))

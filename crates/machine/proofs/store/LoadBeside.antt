@@ -18,6 +18,7 @@ use Rattle.words.specs.Units.{blockOf, placeOf}
 use Rattle.words.specs.Lines.{noLine, withWords}
 use Rattle.words.specs.Operations.{isLoad, performOf}
 use Rattle.lanes.specs.declared.Lane.{Lane}
+use Rattle.lanes.specs.declared.Operation.{Operation}
 use Rattle.lanes.specs.declared.Waiting.{Waiting}
 use Rattle.lanes.specs.declared.Waiting.the-variants.{Idle, Unserved, Served}
 use Rattle.lanes.specs.declared.Found.the-variants.{At, Nothing}
@@ -39,12 +40,12 @@ use Rattle.machine.specs.Begin.{completeWith, hit, isHit, admitsOf, begi
 use Rattle.machine.specs.Calls.{Call, Begin, Entry, Reply, Answers, callOf, run, historyOf}
 use Rattle.machine.specs.Attribution.{Begun, begunAt, LastWaits, noWaits, waitsAfter, originOf, attribute, operationsOf}
 use Rattle.machine.specs.Demand3.{begun, operations}
-use Rattle.machine.specs.LoadBeside.{BesideWait, BesideWaits, WaitsFor, StandsAhead, StandAhead}
+use Rattle.machine.specs.LoadBeside.{BesideWait, LoadBesideWait, WaitsFor, StandsAhead, LoadStandsAhead}
 use Rattle.machine.proofs.rules.Rules.{begin-is, begin-rule}
 use Rattle.machine.proofs.bounds.KeepsLane.{clash}
 use Rattle.machine.proofs.list.Owes.{Pending}
 use Rattle.machine.proofs.list.Joined.{history-more, history-length, indexBy, waitsBy, index-length, attribute-more, operations-more, begun-more, begun-below}
-use Rattle.machine.proofs.store.Consistent.{pendingOf, pendingIn}
+use Rattle.machine.proofs.store.Consistent.{pendingOf}
 use Rattle.machine.proofs.store.ConsistentLane.{pending-here}
 use Rattle.machine.proofs.store.OrderOfMemory.{reaches, told, order-of-memory}
 
@@ -95,8 +96,14 @@ module _ (s : Store) (k : LaneNo) (w : WordNo) (sound : corruptOf s ≡ false) (
     others = λ op e. not-taken op (admits-no-other op e);
   }
 
-pub beside-wait : BesideWaits
+pub beside-wait : LoadBesideWait
 beside-wait = beside
+
+-- what a lane waits for that waits for something
+waits-for : (k : LaneNo) (y : Waiting) → idleOf y ≡ false → (o : Operation) × (pendingOf y ≡ Pending.StillWaits (o .op) (o .word)) × ((i : ℕ) → WaitsFor y (begunAt i k (o .op) (o .word)))
+waits-for k Idle e = clash (cc)
+waits-for k (Unserved o) e = (o, refl, λ i. (refl, refl))
+waits-for k (Served o) e = (o, refl, λ i. (refl, refl))
 
 -- a begin that is answered with a completion, and what comes behind it
 first-done : (i : ℕ) (last : LastWaits) (k : LaneNo) (op : Op) (w : WordNo) (x : Completion) (r : Reply) (es : List Entry) → r ≡ Answers (Done x) →
@@ -111,7 +118,7 @@ module _ (ins : Insertion) (shape : Shape) (calls : List Call) (k : LaneNo) (w :
   abbrev before : List Entry
   before = historyOf ins shape calls
 
-  -- the load's index, and the lanes' last waits before it
+  -- the load's index
   abbrev index : ℕ
   index = indexBy 0 before
 
@@ -121,13 +128,6 @@ module _ (ins : Insertion) (shape : Shape) (calls : List Call) (k : LaneNo) (w :
   module _ (busy : idleOf (laneAt now (k .0) .waiting) ≡ false) (x : Completion) (done : beginOf now k Load w .answer ≡ Done x) where
     lane-there : k .0 < now .shape .n
     lane-there = begin-rule (λ (r : Outcome). r .answer ≡ Done x → k .0 < now .shape .n) now k Load w (λ y e. clash (cc)) (λ r _. r .lane) done
-
-    -- what the lane waits for
-    waits-for : (y : Waiting) → laneAt now (k .0) .waiting ≡ y →
-        (op : Op) × (v : WordNo) × (pendingIn now (k .0) ≡ Pending.StillWaits op v) × ((i : ℕ) → WaitsFor (laneAt now (k .0) .waiting) (begunAt i k op v))
-    waits-for Idle e = let q = ap idleOf e in clash (cc)
-    waits-for (Unserved o) e = let r = reaches ins shape calls opened in (o .op, o .word, pending-here now (r .0) (r .1 .consistent) (k .0) lane-there ∙ ap pendingOf e, λ i. rw e (refl, refl))
-    waits-for (Served o) e = let r = reaches ins shape calls opened in (o .op, o .word, pending-here now (r .0) (r .1 .consistent) (k .0) lane-there ∙ ap pendingOf e, λ i. rw e (refl, refl))
 
     abbrev after : List Begun
     after = operationsOf (attribute (suc index) (waitsAfter index (waitsBy 0 noWaits before) (Begin k Load w) false) (run ins (callOf ins now (Begin k Load w) .store) more .history))
@@ -157,19 +157,20 @@ module _ (ins : Insertion) (shape : Shape) (calls : List Call) (k : LaneNo) (w :
 
     pub ahead : StandsAhead ins shape calls k w more
     ahead =
-        let y = waits-for (laneAt now (k .0) .waiting) refl in
-        let n = told ins shape calls opened .not-yet k (y .0) (y .1) (y .2) in
+        let r = reaches ins shape calls opened in
+        let y = waits-for k (laneAt now (k .0) .waiting) busy in
+        let n = told ins shape calls opened .not-yet k (y .0 .op) (y .0 .word) (pending-here now (r .0) (r .1 .consistent) (k .0) lane-there ∙ y .1) in
         record {
-          waiting = begunAt (n .0) k (y .0) (y .1);
+          waiting = begunAt (n .0) k (y .0 .op) (y .0 .word);
           lane = refl;
-          what = y .3 (n .0);
+          what = y .2 (n .0);
           was-begun = n .1;
           not-yet = n .2;
           rest = after;
           stands = stands-there;
-          behind = λ q. comes-later (begunAt (n .0) k (y .0) (y .1)) (n .1) (n .2)
-              (rw stands-there at (order-of-memory ins shape (calls ++ (Begin k Load w ∷ more)) opened .when-quiet q .all-completed (begunAt (n .0) k (y .0) (y .1)) (begun-still _ (n .1))));
+          behind = λ q. comes-later _ (n .1) (n .2)
+              (rw stands-there at (order-of-memory ins shape (calls ++ (Begin k Load w ∷ more)) opened .when-quiet q .all-completed _ (begun-still _ (n .1))));
         }
 
-pub stand-ahead : StandAhead
-stand-ahead ins shape calls k w more opened busy x done = ahead ins shape calls k w more opened busy x done
+pub stand-ahead : LoadStandsAhead
+stand-ahead = ahead
