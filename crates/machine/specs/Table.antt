@@ -883,13 +883,12 @@ serveBytes =
     on (fullDowns 1) (load 0 0 says wait ∷ serve 0 says step ∷ []) ∷
     []))
 
--- lane 1 has stored 7 in word 0 and lane 0 has loaded it: both have a copy of block 0
-abbrev pub bothCopies : Store
-bothCopies = after (opened 2 2 2) (store 1 0 7 ∷ Settle ∷ load 0 0 ∷ Settle ∷ [])
+-- lane 0 has a copy of block 0; lane 1 has one too
+abbrev pub loneCopy : Store
+loneCopy = filled 0 0 (flagged 0 (opened 2 1 1))
 
--- lane 0 has stored 7 in word 0: its copy is PRIVATE
-abbrev pub privateCopy : Store
-privateCopy = after (opened 2 2 2) (store 0 0 7 ∷ Settle ∷ [])
+abbrev pub bothCopies : Store
+bothCopies = filled 1 0 (flagged 1 loneCopy)
 
 -- the operations of the completions of a list from an opening, in their order, each by the index of its begin call; the values that flat memory gives, fed these, and those of the completions
 abbrev pub completes : ℕ → ℕ → ℕ → List Call → List ℕ → List ℕ → List Row
@@ -906,38 +905,35 @@ loadsBeside =
     -- a load of a word whose own add waits shows the word before the add: before the serve, between serve and grant, and with the grant queued
     on bothCopies
     (add 0 0 5 says wait ∷
-    load 0 0 says done 0 7 3 ∷
+    load 0 0 says done 0 0 1 ∷
     serve 0 says step ∷
-    load 0 0 says done 0 7 4 ∷
+    load 0 0 says done 0 0 2 ∷
     deliver 1 says step ∷
     return 1 says step ∷
-    load 0 0 says done 0 7 5 ∷
-    deliver 0 says done 0 7 6 ∷
-    load 0 0 says done 0 12 7 ∷
+    load 0 0 says done 0 0 3 ∷
+    deliver 0 says done 0 0 4 ∷
+    load 0 0 says done 0 5 5 ∷
     []) ∷
     -- .. and so of a store and of an exchange
-    on bothCopies (store 0 0 9 says wait ∷ load 0 0 says done 0 7 3 ∷ Settle says settled 4 (of 0 9 4 ∷ []) ∷ load 0 0 says done 0 9 5 ∷ []) ∷
-    on bothCopies (exchange 0 0 9 says wait ∷ load 0 0 says done 0 7 3 ∷ Settle says settled 4 (of 0 7 4 ∷ []) ∷ load 0 0 says done 0 9 5 ∷ []) ∷
-    -- of another block, beside an unserved and a served operation; a miss is 8, the waiting operation's own block too
-    on privateCopy
-    (load 0 4 says wait ∷
+    on loneCopy (store 0 0 9 says wait ∷ load 0 0 says done 0 0 1 ∷ serve 0 says step ∷ deliver 0 says done 0 9 2 ∷ []) ∷
+    on loneCopy (exchange 0 0 9 says wait ∷ load 0 0 says done 0 0 1 ∷ serve 0 says step ∷ deliver 0 says done 0 0 2 ∷ []) ∷
+    -- of another block, beside an unserved and a served operation; a miss is 8, the waiting operation's own block too; and so is every other operation, though the line is PRIVATE
+    on (opened 2 2 2)
+    (store 0 0 7 says wait ∷
+    serve 0 says step ∷
+    deliver 0 says done 0 7 1 ∷
+    load 0 4 says wait ∷
     load 0 0 says done 0 7 2 ∷
     load 0 4 says refused 8 ∷
-    serve 0 says step ∷
-    load 0 1 says done 0 0 3 ∷
-    load 0 5 says refused 8 ∷
-    deliver 0 says done 0 0 4 ∷
-    load 0 0 says done 0 7 5 ∷
-    []) ∷
-    -- no other operation is begun beside it, though the line is PRIVATE
-    on privateCopy
-    (load 0 4 says wait ∷
     store 0 0 9 says refused 8 ∷
     exchange 0 0 9 says refused 8 ∷
     add 0 0 9 says refused 8 ∷
     serve 0 says step ∷
+    load 0 1 says done 0 0 3 ∷
+    load 0 5 says refused 8 ∷
     store 0 0 9 says refused 8 ∷
-    load 0 0 says done 0 7 2 ∷
+    deliver 0 says done 0 0 4 ∷
+    load 0 0 says done 0 7 5 ∷
     []) ∷
     -- EXCLUDE waits on a copy: no second operation waits beside it; once a PURGE has taken the copy, the load is 8
     on bothCopies
@@ -945,11 +941,9 @@ loadsBeside =
     store 0 0 9 says refused 8 ∷
     store 1 0 9 says wait ∷
     serve 1 says step ∷
-    load 0 0 says done 0 7 3 ∷
+    load 0 0 says done 0 0 1 ∷
     deliver 0 says step ∷
     load 0 0 says refused 8 ∷
-    Settle says settled 6 (of 1 9 4 ∷ of 0 9 5 ∷ []) ∷
-    load 0 0 says done 0 14 6 ∷
     []) ∷
     -- 6 and 7 before 8; 8 before 17 for a load that misses, 17 for one that hits
     on (unserved 0 (filled 0 0 (opened 2 1 2))) (load 2 0 says refused 6 ∷ load 0 8 says refused 7 ∷ store 0 8 9 says refused 7 ∷ load 0 4 says refused 8 ∷ []) ∷
@@ -965,8 +959,8 @@ loadsBeside =
     reads
     (0 ∷ 2 ∷ 2 ∷ 2 ∷ 2 ∷ 0 ∷ 0 ∷ 7 ∷ 0 ∷ 0 ∷ 0 ∷ 5 ∷ 0 ∷ 7 ∷ 0 ∷ 1 ∷ 0 ∷ 4 ∷ 1 ∷ 0 ∷ 0 ∷ 5 ∷ 0 ∷ 1 ∷ 0 ∷ 1 ∷ 1 ∷ 0 ∷ 4 ∷ 7 ∷ 0 ∷ [])
     (opens ∷ wait ∷ step ∷ done 0 7 1 ∷ wait ∷ done 0 7 2 ∷ step ∷ done 0 0 3 ∷ refused 8 ∷ done 0 0 4 ∷ []) ∷
-    -- the load (index 3) is of its own call and stands ahead of the add (index 2), as flat memory is fed
-    completes 2 1 1 (load 0 0 ∷ Settle ∷ add 0 0 5 ∷ load 0 0 ∷ Settle ∷ load 0 0 ∷ []) (0 ∷ 3 ∷ 2 ∷ 5 ∷ []) (0 ∷ 0 ∷ 0 ∷ 5 ∷ [])
+    -- the load (index 4) is of its own call and stands ahead of the add (index 3), as flat memory is fed
+    completes 2 1 1 (load 0 0 ∷ serve 0 ∷ deliver 0 ∷ add 0 0 5 ∷ load 0 0 ∷ serve 0 ∷ deliver 0 ∷ load 0 0 ∷ []) (0 ∷ 4 ∷ 3 ∷ 7 ∷ []) (0 ∷ 0 ∷ 0 ∷ 5 ∷ [])
 
 -- the table
 unfoldable pub rows : List Row
