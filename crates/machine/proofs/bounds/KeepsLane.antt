@@ -23,6 +23,7 @@ use Rattle.queues.specs.declared.DownQueue.{DownQueue}
 use Rattle.queues.specs.Queues.{noReturn, noDown, takeReturn, takeDown}
 use Rattle.lanes.specs.declared.Lane.{Lane}
 use Rattle.lanes.specs.declared.Operation.{Operation}
+use Rattle.lanes.specs.declared.Waiting.{Waiting}
 use Rattle.lanes.specs.declared.Waiting.the-variants.{Idle, Unserved, Served}
 use Rattle.lanes.specs.Lanes.{withWaiting, withReturns, withDowns, withLine}
 use Rattle.machine.specs.Change.{posted}
@@ -77,33 +78,22 @@ module _ (h c m : ℕ) (l : Lane) (g : LaneFit h c m l) where
         long = g .long;
       }
 
-  pub with-unserved : (o : Operation) → blockOf (o .word) .0 < m → LaneFit h c m (withWaiting (Unserved o) l)
-  with-unserved o b =
+  -- the lane waits for something else, or for nothing; an operation that waits is of a block of the store
+  with-waiting : (x : Waiting) → ((o : Operation) → x ≡ Unserved o → blockOf (o .word) .0 < m) → ((o : Operation) → x ≡ Served o → blockOf (o .word) .0 < m) → LaneFit h c m (withWaiting x l)
+  with-waiting x u s =
       record {
-        sound = record {
-          lines = g .sound .lines;
-          order = g .sound .order;
-          returns = g .sound .returns;
-          downs = g .sound .downs;
-          unserved = λ p e. let q : _≡_ {A = Operation} o p = cc in rw q at b;
-          served = λ p e. clash (cc);
-        };
+        sound = record { lines = g .sound .lines; order = g .sound .order; returns = g .sound .returns; downs = g .sound .downs; unserved = u; served = s };
         long = g .long;
       }
 
+  pub with-unserved : (o : Operation) → blockOf (o .word) .0 < m → LaneFit h c m (withWaiting (Unserved o) l)
+  with-unserved o b = with-waiting (Unserved o) (λ p e. let q : _≡_ {A = Operation} o p = cc in rw q at b) (λ p e. clash (cc))
+
   pub with-served : (o : Operation) → blockOf (o .word) .0 < m → LaneFit h c m (withWaiting (Served o) l)
-  with-served o b =
-      record {
-        sound = record {
-          lines = g .sound .lines;
-          order = g .sound .order;
-          returns = g .sound .returns;
-          downs = g .sound .downs;
-          unserved = λ p e. clash (cc);
-          served = λ p e. let q : _≡_ {A = Operation} o p = cc in rw q at b;
-        };
-        long = g .long;
-      }
+  with-served o b = with-waiting (Served o) (λ p e. clash (cc)) (λ p e. let q : _≡_ {A = Operation} o p = cc in rw q at b)
+
+  pub with-idle : LaneFit h c m (withWaiting Idle l)
+  with-idle = with-waiting Idle (λ p e. clash (cc)) (λ p e. clash (cc))
 
   -- a line is replaced by one that, if valid, has a block of the store
   pub with-line : (i : LineNo) (x : Line) → (x .valid ≡ true → x .block .0 < m) → LaneFit h c m (withLine i x l)
@@ -116,20 +106,6 @@ module _ (h c m : ℕ) (l : Lane) (g : LaneFit h c m l) where
           downs = g .sound .downs;
           unserved = g .sound .unserved;
           served = g .sound .served;
-        };
-        long = g .long;
-      }
-
-  pub with-idle : LaneFit h c m (withWaiting Idle l)
-  with-idle =
-      record {
-        sound = record {
-          lines = g .sound .lines;
-          order = g .sound .order;
-          returns = g .sound .returns;
-          downs = g .sound .downs;
-          unserved = λ p e. clash (cc);
-          served = λ p e. clash (cc);
         };
         long = g .long;
       }
