@@ -4,7 +4,7 @@ use mathlib.Core.Bool.{Bool, true, false}
 use Rattle.answers.specs.declared.Answer.{Answer}
 use Rattle.answers.specs.declared.Answer.the-variants.{Opened, Done, Wait, Step, Refused}
 use Rattle.answers.specs.declared.Refusal.{Refusal}
-use Rattle.answers.specs.declared.Refusal.the-variants.{Truncated, UnknownKind, NotOpen, AlreadyOpen, InvalidShape, NoSuchLane, NoSuchWord, LaneBusy, NothingPending, ControlBusy, ReturnsPending, QueueFull, TapeTooLong, Corrupt, BufferTooShort, Unexpected, PlacesExhausted}
+use Rattle.answers.specs.declared.Refusal.the-variants.{Truncated, UnknownKind, NotOpen, AlreadyOpen, InvalidShape, NoSuchLane, NoSuchWord, LaneBusy, NothingPending, ControlBusy, ReturnsPending, QueueFull, TapeTooLong, Corrupt, BufferTooShort, Unexpected, PlacesExhausted, InvalidLimit}
 
 -- the number that 01 or 02 gives a refusal
 abbrev pub numberOf : Refusal → ℕ
@@ -25,6 +25,7 @@ numberOf Corrupt = 14
 numberOf BufferTooShort = 15
 numberOf Unexpected = 16
 numberOf PlacesExhausted = 17
+numberOf InvalidLimit = 18
 
 -- whether an answer is a refusal
 abbrev pub refusedOf : Answer → Bool

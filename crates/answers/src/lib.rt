@@ -15,7 +15,7 @@ pub enum Refusal {
     NoSuchWord, // 7
     LaneBusy, // 8, occupied: the lane's operation waits, and this is no load that hits
     NothingPending, // 9, nothing there: no operation to serve, or an empty queue
-    ControlBusy, // 10, engaged: a service is under way
+    ControlBusy, // 10, engaged: the operation's block is in service, or L services are under way
     ReturnsPending, // 11, returns first: the lane's return queue has a message
     QueueFull, // 12, jam
     TapeTooLong, // 13, too long
@@ -23,6 +23,7 @@ pub enum Refusal {
     BufferTooShort, // 15, sheet short: the picture, or a tape's text, may not fit
     Unexpected, // 16, stray: a message that nobody waits for, or a settle that is stuck
     PlacesExhausted, // 17 (document 02, W1): no place is left for one completion more
+    InvalidLimit, // 18 (document 02, W6): L is outside 1 to 8
 }
 
 impl Refusal {
@@ -48,6 +49,7 @@ impl Refusal {
             Refusal::BufferTooShort => 15,
             Refusal::Unexpected => 16,
             Refusal::PlacesExhausted => 17,
+            Refusal::InvalidLimit => 18,
         }
     }
 }

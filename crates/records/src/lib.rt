@@ -3,7 +3,7 @@
 ghost use mathlib.Core.Path.{_≡_};
 ghost use Prim.Native.Nat.{_≤_};
 ghost use lib.ListN.{length};
-ghost use Rattle.records.specs.Records.{knownOf, bodyLength, formWith, formOf, valueOf, operandOf, beginFields, fieldsOf, shapeOf, lastOf, parseOf};
+ghost use Rattle.records.specs.Records.{knownOf, bodyLength, formWith, formOf, valueOf, operandOf, beginFields, fieldsOf, shapeOf, limitedShapeOf, lastOf, parseOf};
 use words::LaneNo;
 use words::Op;
 use words::Shape;
@@ -26,8 +26,10 @@ const RETURN: u8 = 6;
 
 const DELIVER: u8 = 7;
 
-// The first that no record has.
-const NO_KIND: u8 = 8;
+const OPEN_LIMITED: u8 = 8;
+
+// The first above the highest kind (records/specs/Records.antt, highestKind): no record has it.
+const NO_KIND: u8 = 9;
 
 // The step that a kind byte picks.
 pub enum Kind {
@@ -39,6 +41,7 @@ pub enum Kind {
     Serve,
     Return,
     Deliver,
+    OpenLimited,
     Unknown,
 }
 
@@ -56,6 +59,7 @@ impl Kind {
             Kind::Serve => true,
             Kind::Return => true,
             Kind::Deliver => true,
+            Kind::OpenLimited => true,
             Kind::Unknown => false,
         }
     }
@@ -106,6 +110,7 @@ fn form_of(byte: u8) -> Form
         SERVE => picks(1, Kind::Serve),
         RETURN => picks(1, Kind::Return),
         DELIVER => picks(1, Kind::Deliver),
+        OPEN_LIMITED => picks(4, Kind::OpenLimited),
         NO_KIND..=255 => picks(0, Kind::Unknown),
     }
 }
@@ -140,7 +145,7 @@ fn begin_fields(body: &[u8], op: Op) -> Record
     Record::Begin(LaneNo(body[0]), op, WordNo(body[1]))
 }
 
-// The shape in the body of an open record.
+// The shape in the body of an open record of kind 00, which means L = 1.
 fn shape(body: &[u8]) -> Shape
     requires { ⌜ 3 ≤ length (now body) ⌝ }
     ensures { λ r. ⌜ r ≡ shapeOf (now (body .entry)) ⌝ }
@@ -149,6 +154,20 @@ fn shape(body: &[u8]) -> Shape
         n: body[0],
         c: body[1],
         m: body[2],
+        limit: 1,
+    }
+}
+
+// .. of kind 08, which has L behind the blocks.
+fn limited_shape(body: &[u8]) -> Shape
+    requires { ⌜ 4 ≤ length (now body) ⌝ }
+    ensures { λ r. ⌜ r ≡ limitedShapeOf (now (body .entry)) ⌝ }
+{
+    Shape {
+        n: body[0],
+        c: body[1],
+        m: body[2],
+        limit: body[3],
     }
 }
 
@@ -166,6 +185,7 @@ fn fields(kind: Kind, body: &[u8]) -> Record
         Kind::Serve => Record::Serve(LaneNo(body[0])),
         Kind::Return => Record::Return(LaneNo(body[0])),
         Kind::Deliver => Record::Deliver(LaneNo(body[0])),
+        Kind::OpenLimited => Record::Open(limited_shape(body)),
         Kind::Unknown => Record::Unknown,
     }
 }

@@ -6,9 +6,13 @@ use Rattle.words.specs.declared.BlockNo.{BlockNo}
 use Rattle.words.specs.declared.WordNo.{WordNo}
 use Rattle.words.specs.declared.Shape.{Shape}
 
--- the shape of n lanes, c lines per lane, m blocks
+-- the shape of n lanes, c lines per lane, m blocks and a limit L of services (02, W6)
+abbrev pub limited : ℕ → ℕ → ℕ → ℕ → Shape
+limited n c m limit = record { n = n; c = c; m = m; limit = limit }
+
+-- .. with L = 1, which tape kind 00 means
 abbrev pub shaped : ℕ → ℕ → ℕ → Shape
-shaped n c m = record { n = n; c = c; m = m }
+shaped n c m = limited n c m 1
 
 -- four words, all 0
 abbrev pub zeros : List ℕ

@@ -25,11 +25,12 @@ impl WordNo {
     }
 }
 
-// What an opening fixes: lanes n, lines per lane c, blocks m.
+// What an opening fixes: lanes n, lines per lane c, blocks m, and the limit L of services under way at a time.
 pub struct Shape {
     pub n: u8,
     pub c: u8,
     pub m: u8,
+    pub limit: u8,
 }
 
 // An operation of a lane, with its v where there is one.
