@@ -1,7 +1,7 @@
-// Opening: a store of n lanes of c lines and m blocks. The definitions are store's (store/specs/Opening.antt).
+// Opening: a store of n lanes of c lines and m blocks, with a limit L of services. The definitions are store's (store/specs/Opening.antt).
 // open is open to others and has no requires; the other functions are for the crates above.
 ghost use mathlib.Core.Path.{_≡_};
-ghost use Rattle.store.specs.Opening.{badShape, blankLine, blankLane, blankBlock, freshOf, blankStore, openOf};
+ghost use Rattle.store.specs.Opening.{badShape, badLimit, blankLine, blankLane, blankBlock, freshOf, blankStore, openOf};
 use answers::Answer;
 use answers::Refusal;
 use lanes::Lane;
@@ -46,6 +46,17 @@ pub fn bad_shape(shape: Shape) -> bool
     64 < m
 }
 
+// Whether L is outside its range.
+pub fn bad_limit(shape: Shape) -> bool
+    ensures { λ r. ⌜ r ≡ badLimit shape ⌝ }
+{
+    let limit = shape.limit;
+    if limit < 1 {
+        return true;
+    }
+    8 < limit
+}
+
 fn blank_line() -> Line
     ensures { λ r. ⌜ r ≡ blankLine ⌝ }
 {
@@ -85,11 +96,11 @@ fn blank_lane() -> Lane
         ],
         returns: ReturnQueue {
             len: 0,
-            at: [up; 2],
+            at: [up; 8],
         },
         downs: DownQueue {
             len: 0,
-            at: [down; 2],
+            at: [down; 8],
         },
         waiting: Waiting::Idle,
     }
@@ -111,9 +122,10 @@ pub fn fresh(shape: Shape) -> Store
 {
     let lane = blank_lane();
     let block = blank_block();
+    let slot = store::free_slot();
     Store {
         shape: shape,
-        control: Control::Free,
+        control: Control { slots: [slot; 8] },
         completions: 0,
         lanes: [lane; 8],
         blocks: [block; 64],
@@ -124,7 +136,12 @@ pub fn fresh(shape: Shape) -> Store
 pub fn blank() -> Store
     ensures { λ r. ⌜ r ≡ blankStore ⌝ }
 {
-    let shape = Shape { n: 0, c: 0, m: 0 };
+    let shape = Shape {
+        n: 0,
+        c: 0,
+        m: 0,
+        limit: 0,
+    };
     fresh(shape)
 }
 
@@ -136,6 +153,13 @@ pub fn open(shape: Shape) -> Outcome
         let s = blank();
         return Outcome {
             answer: Answer::Refused(Refusal::InvalidShape),
+            store: s,
+        };
+    }
+    if bad_limit(shape) {
+        let s = blank();
+        return Outcome {
+            answer: Answer::Refused(Refusal::InvalidLimit),
             store: s,
         };
     }

@@ -1,7 +1,7 @@
-// The store: main memory's blocks, the control with its service, the lanes.
+// The store: main memory's blocks, the control with its services, the lanes.
 // Functions are for the crates above and not for others.
 ghost use mathlib.Core.Path.{_≡_};
-ghost use Rattle.store.specs.Control.{busyOf, serviceOf, answerOf};
+ghost use Rattle.store.specs.Control.{free, withSlot, isFor, slotOf, serviceOf, openServices, busyOf, engagedOf, freeSlot, withService, withUpdated, withoutService, answerOf};
 use answers::Answer;
 use lanes::Command;
 use lanes::Lane;
@@ -25,10 +25,15 @@ pub struct Service {
     pub bare: bool,
 }
 
-// The control has at most one service.
-pub enum Control {
-    Free,
-    Busy(Service),
+// A place for a service. Where it is not busy the service is not looked at.
+pub struct Slot {
+    pub busy: bool,
+    pub service: Service,
+}
+
+// The control: services of different blocks, each in a slot. A new one takes the lowest free slot and stays there until it closes.
+pub struct Control {
+    pub slots: [Slot; 8],
 }
 
 // The service of a block.
@@ -37,40 +42,168 @@ pub enum Lookup {
     Nothing,
 }
 
-// The control after an answer came in: with one answer fewer awaited, or without the service that it closes; or nobody awaits it.
+// What an answer does: the service awaits one answer fewer, or closes; or nobody awaits the answer.
 pub enum Counted {
-    Awaits(Control),
-    Closes(Service, Control),
+    Awaits(Service),
+    Closes(Service),
     NotAwaited,
 }
 
+impl Slot {
+    // Whether there is a service of block a in the slot.
+    pub fn is_for(self, a: BlockNo) -> bool
+        ensures { λ r. ⌜ r ≡ isFor a self ⌝ }
+    {
+        if self.busy {
+            return self.service.block.0 == a.0;
+        }
+        false
+    }
+}
+
+// A slot without a service.
+pub fn free_slot() -> Slot
+    ensures { λ r. ⌜ r ≡ free ⌝ }
+{
+    Slot {
+        busy: false,
+        service: Service {
+            lane: LaneNo(0),
+            block: BlockNo(0),
+            command: Command::ReadShared,
+            awaited: 0,
+            bare: false,
+        },
+    }
+}
+
 impl Control {
+    // The slot of block a's service, or 8.
+    fn find(self, a: BlockNo) -> u8
+        ensures { λ r. ⌜ r ≡ slotOf self a ⌝ }
+    {
+        let mut k: u8 = 0;
+        while k < 8 {
+            let i = k as usize;
+            let y = self.slots[i];
+            if y.is_for(a) {
+                return k;
+            }
+            k += 1;
+        }
+        k
+    }
+
+    // The lowest free slot, or 8.
+    fn vacant(self) -> u8
+        ensures { λ r. ⌜ r ≡ freeSlot self ⌝ }
+    {
+        let mut k: u8 = 0;
+        while k < 8 {
+            let i = k as usize;
+            let y = self.slots[i];
+            if y.busy {
+                k += 1;
+            } else {
+                return k;
+            }
+        }
+        k
+    }
+
+    // How many services are under way.
+    pub fn services(self) -> u8
+        ensures { λ r. ⌜ r ≡ openServices self ⌝ }
+    {
+        let mut n: u8 = 0;
+        let mut k: u8 = 0;
+        while k < 8 {
+            let i = k as usize;
+            let y = self.slots[i];
+            n += y.busy as u8;
+            k += 1;
+        }
+        n
+    }
+
     // Whether a service is under way.
     pub fn busy(self) -> bool
         ensures { λ r. ⌜ r ≡ busyOf self ⌝ }
     {
-        match self {
-            Control::Free => false,
-            Control::Busy(_) => true,
+        0 < self.services()
+    }
+
+    // 10: whether block a is in service, or as many services are under way as the limit allows.
+    pub fn engaged(self, limit: u8, a: BlockNo) -> bool
+        ensures { λ r. ⌜ r ≡ engagedOf limit self a ⌝ }
+    {
+        if self.find(a) < 8 {
+            return true;
         }
+        limit <= self.services()
+    }
+
+    // The control with another slot i, if there is such a slot.
+    fn with_slot(self, i: u8, y: Slot) -> Control
+        ensures { λ r. ⌜ r ≡ withSlot i y self ⌝ }
+    {
+        if 8 <= i {
+            return self;
+        }
+        let k = i as usize;
+        let mut x = self;
+        x.slots[k] = y;
+        x
+    }
+
+    // A service is opened, in the lowest free slot.
+    pub fn open(self, v: Service) -> Control
+        ensures { λ r. ⌜ r ≡ withService v self ⌝ }
+    {
+        let i = self.vacant();
+        let y = Slot {
+            busy: true,
+            service: v,
+        };
+        self.with_slot(i, y)
+    }
+
+    // The service of v's block is v now.
+    pub fn update(self, v: Service) -> Control
+        ensures { λ r. ⌜ r ≡ withUpdated v self ⌝ }
+    {
+        let j = self.find(v.block);
+        let y = Slot {
+            busy: true,
+            service: v,
+        };
+        self.with_slot(j, y)
+    }
+
+    // v's block has no service any more.
+    pub fn close(self, v: Service) -> Control
+        ensures { λ r. ⌜ r ≡ withoutService v self ⌝ }
+    {
+        let k = self.find(v.block);
+        let y = free_slot();
+        self.with_slot(k, y)
     }
 
     // The service of block a.
     pub fn service(self, a: BlockNo) -> Lookup
         ensures { λ r. ⌜ r ≡ serviceOf self a ⌝ }
     {
-        match self {
-            Control::Free => Lookup::Nothing,
-            Control::Busy(v) => {
-                if v.block.0 == a.0 {
-                    return Lookup::Of(v);
-                }
-                Lookup::Nothing
-            }
+        let i = self.find(a);
+        if 8 <= i {
+            return Lookup::Nothing;
         }
+        let k = i as usize;
+        let y = self.slots[k];
+        let v = y.service;
+        Lookup::Of(v)
     }
 
-    // An answer for block a comes in.
+    // An answer for block a: it belongs to the service of its block.
     pub fn answer(self, a: BlockNo) -> Counted
         ensures { λ r. ⌜ r ≡ answerOf self a ⌝ }
     {
@@ -82,15 +215,15 @@ impl Control {
             return Counted::NotAwaited;
         }
         if n == 1 {
-            return Counted::Closes(v, Control::Free);
+            return Counted::Closes(v);
         }
         let mut u = v;
         u.awaited = n - 1;
-        Counted::Awaits(Control::Busy(u))
+        Counted::Awaits(u)
     }
 }
 
-// The whole store: n lanes of c lines and m blocks; what stands past n, c and m is no part of it. It counts the completions since opening.
+// The whole store: n lanes of c lines and m blocks, and a limit L of services at a time; what stands past n, c and m is no part of it. It counts the completions since opening.
 pub struct Store {
     pub shape: Shape,
     pub control: Control,

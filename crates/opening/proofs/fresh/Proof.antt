@@ -10,9 +10,13 @@ blank-lane-requires c κs = search needs
 blank-block-requires : tie.Need-blank-block-requires
 blank-block-requires c κs = search needs
 
+free-slot-requires : tie.Need-free-slot-requires
+free-slot-requires c κs = search needs
+
 returns : tie.Need-returns
 unfolding freshOf
-returns c = rw (freshOf, c .blank-block .ensures, c .before .blank-lane .ensures)
+returns c = rw (freshOf, c .free-slot .ensures, c .before .blank-block .ensures, c .before .before .blank-lane .ensures)
 
 pub fresh-spec : {M : Type 1} → statement M
-fresh-spec = tie.close (tie.spec blank-lane-requires blank-block-requires returns)
+fresh-spec =
+    tie.close (tie.spec blank-lane-requires blank-block-requires free-slot-requires returns)

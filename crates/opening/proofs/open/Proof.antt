@@ -14,13 +14,50 @@ returns : tie.Need-returns
 unfolding openOf
 returns c = rw (openOf, ← c .before .before .bad-shape .ensures, c .before .if1 .taken, c .blank .ensures)
 
-fresh-requires : tie.Need-fresh-requires
-fresh-requires c κs = search needs
+bad-limit-requires : tie.Need-bad-limit-requires
+bad-limit-requires c κs = search needs
+
+blank-requires-2 : tie.Need-blank-requires-2
+blank-requires-2 c κs = search needs
 
 returns-2 : tie.Need-returns-2
 unfolding openOf
-returns-2 c = rw (openOf, ← c .before .before .bad-shape .ensures, c .before .if1 .left, c .fresh .ensures)
+returns-2 c =
+    let at-bad-limit = c .before .before in
+    rw (
+      openOf,
+      ← at-bad-limit .before .before .bad-shape .ensures,
+      at-bad-limit .before .if1 .left,
+      ← at-bad-limit .bad-limit .ensures,
+      c .before .if2 .taken,
+      c .blank2 .ensures,
+    )
+
+fresh-requires : tie.Need-fresh-requires
+fresh-requires c κs = search needs
+
+returns-3 : tie.Need-returns-3
+unfolding openOf
+returns-3 c =
+    let at-bad-limit = c .before .before in
+    rw (
+      openOf,
+      ← at-bad-limit .before .before .bad-shape .ensures,
+      at-bad-limit .before .if1 .left,
+      ← at-bad-limit .bad-limit .ensures,
+      c .before .if2 .left,
+      c .fresh .ensures,
+    )
 
 pub open-spec : {M : Type 1} → statement M
 open-spec =
-    tie.close (tie.spec bad-shape-requires blank-requires returns fresh-requires returns-2)
+    tie.close
+    (tie.spec
+    bad-shape-requires
+    blank-requires
+    returns
+    bad-limit-requires
+    blank-requires-2
+    returns-2
+    fresh-requires
+    returns-3)

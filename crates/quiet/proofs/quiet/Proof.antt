@@ -31,8 +31,8 @@ loop-holds c = (omega arith, any-none _)
 
 returns-2 : tie.Need-returns-2 Inv-loop μ-loop
 unfolding quietOf
-returns-2 c = let h : length (c .before .before .before .before .before .args .t1 .lanes) ≡ 8 = simp length-map at (c .before .before .before .before .before .good .0 .1 .1 .1 .1 .1 .0 .1 .0 .1) in
-    let z = active-past (c .before .before .before .before .before .args .t1) (c .before .before .loop .k) (c .before .before .before .before .before .args .t1 .shape .n) (omega arith) (c .before .before .loop .inv .1) in
+returns-2 c = let h : length (c .before .before .before .before .before .before .args .t1 .lanes) ≡ 8 = simp length-map at (c .before .before .before .before .before .before .good .0 .1 .1 .1 .1 .1 .0 .1 .0 .1) in
+    let z = active-past (c .before .before .before .before .before .before .args .t1) (c .before .before .loop .k) (c .before .before .before .before .before .before .args .t1 .shape .n) (omega arith) (c .before .before .loop .inv .1) in
     rw (quietOf, ← c .before .before .before .before .busy .ensures, c .before .before .before .if1 .left, z)
 
 cast-i : tie.Need-cast-i Inv-loop μ-loop
@@ -53,7 +53,7 @@ returns-3 c =
     let at-loop = c .before .before .before .before .before in
     let at-if1 = at-loop .before in
     let at-busy = at-if1 .before in
-    let start = at-busy .before in
+    let start = at-busy .before .before in
     let h = any-true (λ i. activeOf (laneAt (start .args .t1) i)) (start .args .t1 .shape .n) (at-loop .loop .k)
     (sym (c .before .active .ensures) ∙ c .if3 .taken) (omega arith) in
     rw (quietOf, ← at-busy .busy .ensures, at-if1 .if1 .left, h)
@@ -69,7 +69,7 @@ loop-again c = (omega arith, any-more _ _ (c .before .before .before .before .be
 
 returns-4 : tie.Need-returns-4 Inv-loop μ-loop
 unfolding quietOf
-returns-4 c = let e : c .before .loop .k ≡ c .before .before .before .before .args .t1 .shape .n = omega arith in
+returns-4 c = let e : c .before .loop .k ≡ c .before .before .before .before .before .args .t1 .shape .n = omega arith in
     rw (quietOf, ← c .before .before .before .busy .ensures, c .before .before .if1 .left, rw e at (c .before .loop .inv .1))
 
 pub quiet-spec : {M : Type 1} → statement M
