@@ -4,10 +4,11 @@ use mathlib.Core.List.{map}
 use Rattle.words.specs.Folds.{upTo, downTo, anyTo, countTo, sumTo, lowestTo, gatherTo, anyOf}
 use Rattle.records.specs.Records.{parseOf}
 use Rattle.lanes.specs.Search.{firstFrom}
+use Rattle.store.specs.Control.{slotOf, serviceOf, openServices, freeSlot, withService, withUpdated, withoutService}
 use Rattle.store.specs.Opening.{badShape, blankLane, blankBlock, freshOf, openOf}
 use Rattle.machine.specs.Begun.{waitingIn, begunIn}
 use Rattle.store.specs.Quiet.{activeOf, quietOf}
-use Rattle.machine.specs.Corruption.{badLane, badFlags, corruptOf}
+use Rattle.machine.specs.Corruption.{badLane, badFlags, badControl, corruptOf}
 use Rattle.machine.specs.Change.{commitLane, someFull, postTo, postAll, commitMove}
 use Rattle.machine.specs.Begin.{completeWith, hit, evict, miss, admitsOf, beginLane, beginOf}
 use Rattle.store.specs.LaneSets.{countOf}
@@ -25,5 +26,5 @@ use Rattle.machine.specs.Flat.{flatValues}
 use Rattle.machine.specs.Table.{Row, rows, wholeTape, wholeText}
 
 pub cases : map (λ (r : Row). r .given) rows ≡ map (λ (r : Row). r .wanted) rows
-unfolding upTo downTo anyTo countTo sumTo lowestTo gatherTo anyOf firstFrom badShape blankLane blankBlock freshOf openOf waitingIn begunIn activeOf quietOf badLane badFlags corruptOf commitLane someFull postTo postAll commitMove completeWith hit evict miss admitsOf beginLane beginOf ordered countOf close readyOf serveMove serveOf bitsIn byteOf ordersByte returnMove returnOf reply deliverLane deliverOf settleStep boundOf advance ended repeatStep settleOf recordBytes pictureBytes pictureOf parseOf openRecord recordOf replayFrom replayOf decimalIn answerText lineText linesText endText printed printOf callOf run waitsAfter originOf attribute operationsOf flatValues rows wholeTape wholeText
+unfolding upTo downTo anyTo countTo sumTo lowestTo gatherTo anyOf firstFrom slotOf serviceOf openServices freeSlot withService withUpdated withoutService badShape blankLane blankBlock freshOf openOf waitingIn begunIn activeOf quietOf badLane badFlags badControl corruptOf commitLane someFull postTo postAll commitMove completeWith hit evict miss admitsOf beginLane beginOf ordered countOf close readyOf serveMove serveOf bitsIn byteOf ordersByte returnMove returnOf reply deliverLane deliverOf settleStep boundOf advance ended repeatStep settleOf recordBytes pictureBytes pictureOf parseOf openRecord recordOf replayFrom replayOf decimalIn answerText lineText linesText endText printed printOf callOf run waitsAfter originOf attribute operationsOf flatValues rows wholeTape wholeText
 cases = refl

@@ -46,7 +46,7 @@ use Rattle.machine.proofs.settle.LiveSettle.{always-settles, all-comple
 --   calls   any list of load, store, exchange, add, serve, return, deliver and settle calls; lanes, words and v are any numbers, so
 --           that refused calls are in it. "In every order in which the messages reach the controller": the order in which serve,
 --           return and deliver stand in the list is that order, and it is any.
---   Opened  "from any opening": n, c and m are any that opening does not refuse. There is no other hypothesis.
+--   Opened  "from any opening": n, c, m and L (02, W6) are any that opening does not refuse. There is no other hypothesis.
 --   run     each call on the store that the last one left; each gives what its contract says (`callOf`, specs/Calls.antt).
 --
 -- Of what the calls were answered (history) and the last store it says (`Coherent`, specs/Demand3.antt):
@@ -59,7 +59,7 @@ use Rattle.machine.proofs.settle.LiveSettle.{always-settles, all-comple
 --   places      the completions' places, in their order, are 1, 2, 3 .. without a gap
 --   when-quiet  where no operation waits, no service is open and the queues are empty: every operation begun has completed; the store
 --               shows flat memory's words in every block; the four properties of the flags (000, section III)
---   same        the store still has the opening's shape: n, c and m
+--   same        the store still has the opening's shape: n, c, m and L
 pub demand-3 : Demand3
 demand-3 = order-of-memory
 
@@ -88,7 +88,7 @@ pub use-order-after : UseOrders
 use-order-after = use-orders
 
 -- 02, W3: two lists of calls from openings, each under either policy, that complete the same operations in the same order get the same values and places. What
--- is the same is the operation with its v and the word (`Asked`, specs/SameValues.antt); n, c, m, lanes, steps and refused calls may differ.
+-- is the same is the operation with its v and the word (`Asked`, specs/SameValues.antt); n, c, m, L, lanes, steps and refused calls may differ.
 pub same-values : SameValues
 same-values = same-operations
 

@@ -8,6 +8,7 @@ pub mod Live
 pub mod LiveLane
 pub mod LiveOwed
 pub mod LiveAwaited
+pub mod LiveOwing
 pub mod LiveSpare
 pub mod LiveMove
 pub mod LiveServe
@@ -17,3 +18,4 @@ pub mod LiveMemory
 pub mod LiveKeeps
 pub mod LiveStep
 pub mod LiveSettle
+pub mod LiveShort

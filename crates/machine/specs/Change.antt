@@ -1,5 +1,5 @@
 -- What every call shares: a refusal leaves the store as it was; what a call changes is put back in one place (a lane's part by
--- commitLane, memory's part by commitMove). Assumes nothing.
+-- commitLane, memory's part by commitMove). How many places a queue has is an argument of what joins one. Assumes nothing.
 use Prim.Native.Nat.{ℕ, _+_}
 use mathlib.Core.Bool.{Bool, false, true, cond, _&&_}
 use mathlib.Core.List.{List}
@@ -11,7 +11,7 @@ use Rattle.words.specs.Folds.{upTo, anyTo}
 use Rattle.words.specs.Units.{zeros}
 use Rattle.queues.specs.declared.DownMessage.{DownMessage}
 use Rattle.queues.specs.declared.DownKind.the-variants.{Update}
-use Rattle.queues.specs.Queues.{fullAt, pushDown}
+use Rattle.queues.specs.Queues.{capacity, fullAt, pushDown}
 use Rattle.lanes.specs.declared.Lane.{Lane}
 use Rattle.lanes.specs.Lanes.{withDowns}
 use Rattle.answers.specs.declared.Answer.{Answer}
@@ -81,20 +81,20 @@ abbrev pub noMessage : DownMessage
 noMessage = record { kind = Update; block = record { 0 = 0 }; words = zeros }
 
 -- 12 for messages to lanes: a down queue the step adds to is full
-unfoldable pub someFull : LaneSet → List Lane → Bool
-someFull to ls = anyTo (λ j. goesTo to j && fullAt (getD ls j noLane .downs .len)) 8
+unfoldable pub someFull : ℕ → LaneSet → List Lane → Bool
+someFull places to ls = anyTo (λ j. goesTo to j && fullAt places (getD ls j noLane .downs .len)) 8
 
 -- the message joins the down queue of a lane
-abbrev pub posted : DownMessage → Lane → Lane
-posted x l = withDowns (pushDown (l .downs) x .queue) l
+abbrev pub posted : ℕ → DownMessage → Lane → Lane
+posted places x l = withDowns (pushDown places (l .downs) x .queue) l
 
 -- .. of lane j if it goes there
-unfoldable pub postTo : LaneSet → DownMessage → ℕ → List Lane → List Lane
-postTo to x j ls = cond (goesTo to j) (set ls j (posted x (getD ls j noLane))) ls
+unfoldable pub postTo : ℕ → LaneSet → DownMessage → ℕ → List Lane → List Lane
+postTo places to x j ls = cond (goesTo to j) (set ls j (posted places x (getD ls j noLane))) ls
 
 -- .. of each lane that it goes to
-unfoldable pub postAll : LaneSet → DownMessage → List Lane → List Lane
-postAll to x ls = upTo (postTo to x) 8 ls
+unfoldable pub postAll : ℕ → LaneSet → DownMessage → List Lane → List Lane
+postAll places to x ls = upTo (postTo places to x) 8 ls
 
 -- a refusal of memory's part
 abbrev pub refuseMove : Refusal → Lane → Block → Control → Move
@@ -103,11 +103,11 @@ refuseMove r l b x = record { answer = Refused r; lane = l; block = b; control =
 -- lane k, block a, the control and the queues of those that a message goes to, after memory's part of a call
 abbrev pub movedStore : Store → LaneNo → BlockNo → Move → Store
 movedStore s k a v =
-    withBlock (withLanes (withControl s (v .control)) (postAll (v .to) (v .message) (set (s .lanes) (k .0) (v .lane)))) (a .0) (v .block)
+    withBlock (withLanes (withControl s (v .control)) (postAll capacity (v .to) (v .message) (set (s .lanes) (k .0) (v .lane)))) (a .0) (v .block)
 
 -- memory's part of a call put back: its own refusal, then 12, each with the store as it was; else the store moved
 unfoldable pub commitMove : Store → LaneNo → BlockNo → Move → Outcome
 commitMove s k a v =
     let ls = set (s .lanes) (k .0) (v .lane) in
     cond (refusedOf (v .answer)) (record { answer = v .answer; store = s })
-    (cond (someFull (v .to) ls) (refuse QueueFull s) (record { answer = v .answer; store = movedStore s k a v }))
+    (cond (someFull capacity (v .to) ls) (refuse QueueFull s) (record { answer = v .answer; store = movedStore s k a v }))

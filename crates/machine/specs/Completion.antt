@@ -1,4 +1,4 @@
--- Beside demand 3: from an opening, after any list of calls, settle is not refused (never 12, never 16), and the store is quiet
+-- Beside demand 3: from an opening, after any list of calls, settle is not refused (never 10, 12 or 16), and the store is quiet
 -- after it; so, by demand 3, every operation begun completes. And 01's bound of a settle's count, on every store. This file only
 -- states them; proofs/Theorems.antt has the theorems. Assumes nothing.
 use Prim.Native.Nat.{ℕ, _≤_}

@@ -1,4 +1,4 @@
--- 01, number 14 (spoilt), with 02, W1: the store breaks its own bounds. Looked at are the n lanes, their c lines, the m blocks, the messages
+-- 01, number 14 (spoilt), with 02, W1 and W6: the store breaks its own bounds. Looked at are the n lanes, their c lines, the m blocks, the messages
 -- in the queues and the count of completions; what stands past them in the arrays is no part of the store. Assumes nothing.
 use Prim.Native.Nat.{ℕ}
 use mathlib.Core.Bool.{Bool, false, _||_, _&&_}
@@ -8,6 +8,7 @@ use lib.ListN.{getD}
 use Rattle.words.specs.declared.Line.{Line}
 use Rattle.words.specs.declared.LineNo.{LineNo}
 use Rattle.words.specs.declared.BlockNo.{BlockNo}
+use Rattle.words.specs.declared.Shape.{Shape}
 use Rattle.words.specs.Units.{blockOf}
 use Rattle.words.specs.Lines.{noLine}
 use Rattle.words.specs.Folds.{anyTo, anyOf}
@@ -21,8 +22,9 @@ use Rattle.lanes.specs.UseOrder.{placeAt}
 use Rattle.store.specs.declared.Store.{Store}
 use Rattle.store.specs.declared.Block.{Block}
 use Rattle.store.specs.declared.Control.{Control}
-use Rattle.store.specs.declared.Control.the-variants.{Free, Busy}
-use Rattle.store.specs.Opening.{badShape}
+use Rattle.store.specs.declared.Service.{Service}
+use Rattle.store.specs.Control.{slotCount, slotAt, isFor, openServices}
+use Rattle.store.specs.Opening.{badShape, badLimit}
 use Rattle.store.specs.Stores.{laneAt, blockAt}
 use Rattle.machine.specs.Begun.{overrunOf}
 use Rattle.store.specs.LaneSets.{goesTo}
@@ -42,14 +44,12 @@ badLines c m ls = anyTo (λ i. badLine m (getD ls i noLine)) c
 abbrev pub badPlace : ℕ → ℕ → ℕ → BlockNo → Bool
 badPlace m len i a = ltb i len && badBlock m a
 
--- a queue length above 2, or a block number out of range in a queued message
-abbrev pub badReturns : ℕ → ReturnQueue → Bool
-badReturns m q =
-    ltb capacity (q .len) || (badPlace m (q .len) 0 (getD (q .at) 0 noReturn .block) || badPlace m (q .len) 1 (getD (q .at) 1 noReturn .block))
+-- a queue length above its places, or a block number out of range in a queued message
+abbrev pub badReturns : ℕ → ℕ → ReturnQueue → Bool
+badReturns places m q = ltb places (q .len) || anyTo (λ i. badPlace m (q .len) i (getD (q .at) i noReturn .block)) places
 
-abbrev pub badDowns : ℕ → DownQueue → Bool
-badDowns m q =
-    ltb capacity (q .len) || (badPlace m (q .len) 0 (getD (q .at) 0 noDown .block) || badPlace m (q .len) 1 (getD (q .at) 1 noDown .block))
+abbrev pub badDowns : ℕ → ℕ → DownQueue → Bool
+badDowns places m q = ltb places (q .len) || anyTo (λ i. badPlace m (q .len) i (getD (q .at) i noDown .block)) places
 
 -- a word number out of range in a waiting operation
 abbrev pub badWaiting : ℕ → Waiting → Bool
@@ -66,9 +66,15 @@ abbrev pub badOrder : ℕ → List LineNo → Bool
 badOrder c o = anyTo (badUse c o) c
 
 -- a lane
-unfoldable pub badLane : ℕ → ℕ → Lane → Bool
-badLane c m l =
-    anyOf (badLines c m (l .lines) ∷ badOrder c (l .order) ∷ badReturns m (l .returns) ∷ badDowns m (l .downs) ∷ badWaiting m (l .waiting) ∷ [])
+unfoldable pub badLane : ℕ → ℕ → ℕ → Lane → Bool
+badLane places c m l =
+    anyOf
+    (badLines c m (l .lines) ∷
+    badOrder c (l .order) ∷
+    badReturns places m (l .returns) ∷
+    badDowns places m (l .downs) ∷
+    badWaiting m (l .waiting) ∷
+    [])
 
 -- PRESENT for lane n or above
 abbrev pub badFlag : ℕ → Block → ℕ → Bool
@@ -78,17 +84,26 @@ unfoldable pub badFlags : ℕ → Block → Bool
 badFlags n b = anyTo (badFlag n b) 8
 
 -- a lane or block number out of range in a service, or awaited above n - 1
-abbrev pub badControl : ℕ → ℕ → Control → Bool
-badControl n m Free = false
-badControl n m (Busy v) = leb n (v .lane .0) || (badBlock m (v .block) || leb n (v .awaited))
+abbrev pub badService : ℕ → ℕ → Service → Bool
+badService n m v = leb n (v .lane .0) || (badBlock m (v .block) || leb n (v .awaited))
+
+-- .. in slot i, or an earlier slot has a service of its block
+abbrev pub badSlot : ℕ → ℕ → Control → ℕ → Bool
+badSlot n m x i =
+    slotAt x i .busy && (badService n m (slotAt x i .service) || anyTo (λ j. isFor (slotAt x i .service .block) (slotAt x j)) i)
+
+-- 02, W6: services exceed L, two have one block; each of them as above
+unfoldable pub badControl : Shape → Control → Bool
+badControl shape x = ltb (shape .limit) (openServices x) || anyTo (badSlot (shape .n) (shape .m) x) slotCount
 
 -- 14
 unfoldable pub corruptOf : Store → Bool
 corruptOf s =
     anyOf
     (badShape (s .shape) ∷
-    badControl (s .shape .n) (s .shape .m) (s .control) ∷
-    anyTo (λ k. badLane (s .shape .c) (s .shape .m) (laneAt s k)) (s .shape .n) ∷
+    badLimit (s .shape) ∷
+    badControl (s .shape) (s .control) ∷
+    anyTo (λ k. badLane capacity (s .shape .c) (s .shape .m) (laneAt s k)) (s .shape .n) ∷
     anyTo (λ a. badFlags (s .shape .n) (blockAt s a)) (s .shape .m) ∷
     overrunOf s ∷
     [])

@@ -1,4 +1,5 @@
--- 01, "Deliver k"; 02, W3: the insertion policy is an argument of what fills a line. Assumes nothing.
+-- 01, "Deliver k"; 02, W3: the insertion policy is an argument of what fills a line, and how many places a queue has one of what answers.
+-- Assumes nothing.
 use Prim.Native.Nat.{ℕ}
 use mathlib.Core.Bool.{false, not, cond}
 use lib.Dec.{eqb}
@@ -14,7 +15,7 @@ use Rattle.queues.specs.declared.ReturnKind.the-variants.{Updated, Purged, Purg
 use Rattle.queues.specs.declared.DownMessage.{DownMessage}
 use Rattle.queues.specs.declared.DownKind.{DownKind}
 use Rattle.queues.specs.declared.DownKind.the-variants.{Update, Purge, Grant, BareGrant}
-use Rattle.queues.specs.Queues.{emptyAt, headDown, takeDown, pushReturn}
+use Rattle.queues.specs.Queues.{capacity, emptyAt, headDown, takeDown, pushReturn}
 use Rattle.queues.specs.Messages.{bareReturn, wordsReturn}
 use Rattle.lanes.specs.declared.Lane.{Lane}
 use Rattle.lanes.specs.declared.Operation.{Operation}
@@ -37,9 +38,9 @@ use Rattle.machine.specs.Change.{refuseLane, guarded, commitLane, refuse
 use Rattle.machine.specs.Begin.{completeWith, complete}
 
 -- an answer joins the lane's return queue; 12 where that is full
-unfoldable pub reply : ReturnMessage → Lane → LaneStep
-reply y l =
-    let p = pushReturn (l .returns) y in
+unfoldable pub reply : ℕ → ReturnMessage → Lane → LaneStep
+reply places y l =
+    let p = pushReturn places (l .returns) y in
     cond (p .full) (refuseLane QueueFull l)
     (record { answer = Stepped; lane = withReturns (p .queue) l })
 
@@ -48,18 +49,18 @@ abbrev pub shared : Line → Line
 shared x = withPrivate false x
 
 -- UPDATE on a held block: UPDATED with the words, PRIVATE reset. On a block not held: GONE
-abbrev pub updateAt : Found → BlockNo → Lane → LaneStep
-updateAt (At i) a l = reply (wordsReturn Updated a (lineAt l i .words)) (withLine i (shared (lineAt l i)) l)
-updateAt Nothing a l = reply (bareReturn Gone a) l
+abbrev pub updateAt : ℕ → Found → BlockNo → Lane → LaneStep
+updateAt places (At i) a l = reply places (wordsReturn Updated a (lineAt l i .words)) (withLine i (shared (lineAt l i)) l)
+updateAt places Nothing a l = reply places (bareReturn Gone a) l
 
 -- PURGED, with words only if PRIVATE was set
 abbrev pub purgedOf : BlockNo → Line → ReturnMessage
 purgedOf a x = cond (x .private) (wordsReturn PurgedWords a (x .words)) (bareReturn Purged a)
 
 -- PURGE on a held block: VALID reset, PURGED. On a block not held: GONE
-abbrev pub purgeAt : Found → BlockNo → Lane → LaneStep
-purgeAt (At i) a l = reply (purgedOf a (lineAt l i)) (withLine i (invalid (lineAt l i)) l)
-purgeAt Nothing a l = reply (bareReturn Gone a) l
+abbrev pub purgeAt : ℕ → Found → BlockNo → Lane → LaneStep
+purgeAt places (At i) a l = reply places (purgedOf a (lineAt l i)) (withLine i (invalid (lineAt l i)) l)
+purgeAt places Nothing a l = reply places (bareReturn Gone a) l
 
 -- PRIVATE is set if the operation isn't load, and reset if it is
 abbrev pub claimed : Op → Line → Line
@@ -100,23 +101,23 @@ bareTo (No r) c x l = refuseLane r l
 bareTo (Go o) c x l = bareAt (searchOf l c (x .block)) c o l
 
 -- what a message does in a lane that has taken it
-abbrev pub deliverKind : Insertion → DownKind → ℕ → DownMessage → Lane → LaneStep
-deliverKind ins Update c x l = updateAt (searchOf l c (x .block)) (x .block) l
-deliverKind ins Purge c x l = purgeAt (searchOf l c (x .block)) (x .block) l
-deliverKind ins Grant c x l = grantTo ins (servedOn (l .waiting) (x .block)) c x l
-deliverKind ins BareGrant c x l = bareTo (servedOn (l .waiting) (x .block)) c x l
+abbrev pub deliverKind : ℕ → Insertion → DownKind → ℕ → DownMessage → Lane → LaneStep
+deliverKind places ins Update c x l = updateAt places (searchOf l c (x .block)) (x .block) l
+deliverKind places ins Purge c x l = purgeAt places (searchOf l c (x .block)) (x .block) l
+deliverKind places ins Grant c x l = grantTo ins (servedOn (l .waiting) (x .block)) c x l
+deliverKind places ins BareGrant c x l = bareTo (servedOn (l .waiting) (x .block)) c x l
 
 -- on a refusal the lane is as it was, with the message still in its queue
 abbrev pub orAsBefore : Lane → LaneStep → LaneStep
 orAsBefore l r = record { answer = r .answer; lane = cond (refusedIn (r .answer)) l (r .lane) }
 
 -- 9; then lane k takes the head of its down queue
-unfoldable pub deliverLane : Insertion → ℕ → Lane → LaneStep
-deliverLane ins c l =
+unfoldable pub deliverLane : ℕ → Insertion → ℕ → Lane → LaneStep
+deliverLane places ins c l =
     let x = headDown (l .downs) in
     cond (emptyAt (l .downs .len)) (refuseLane NothingPending l)
-    (orAsBefore l (deliverKind ins (x .kind) c x (withDowns (takeDown (l .downs) .queue) l)))
+    (orAsBefore l (deliverKind places ins (x .kind) c x (withDowns (takeDown (l .downs) .queue) l)))
 
 -- 14, 6, 9, 16, 12
 unfoldable pub deliverOf : Insertion → Store → LaneNo → Outcome
-deliverOf ins s k = guarded s k (commitLane s k (deliverLane ins (s .shape .c) (laneAt s (k .0))))
+deliverOf ins s k = guarded s k (commitLane s k (deliverLane capacity ins (s .shape .c) (laneAt s (k .0))))

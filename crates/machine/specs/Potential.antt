@@ -1,10 +1,11 @@
 -- 01, "Settle", to the exact step: what each step makes of R + G + 2Q + S + 2U. This file only states it; proofs/Theorems.antt has the theorem.
 -- Assumes nothing.
-use Prim.Native.Nat.{ℕ, _+_, _*_}
+use Prim.Native.Nat.{ℕ, _+_, _-_, _*_}
 use mathlib.Core.Path.{_≡_}
 use mathlib.Core.Bool.{false, cond}
 use Rattle.words.specs.declared.LaneNo.{LaneNo}
 use Rattle.words.specs.Units.{blockOf}
+use Rattle.words.specs.Folds.{sumTo}
 use Rattle.lanes.specs.UseOrder.{Insertion}
 use Rattle.lanes.specs.declared.Waiting.{Waiting}
 use Rattle.lanes.specs.declared.Waiting.the-variants.{Idle, Unserved, Served}
@@ -12,8 +13,7 @@ use Rattle.answers.specs.Refusals.{refusedOf}
 use Rattle.store.specs.declared.Store.{Store}
 use Rattle.store.specs.declared.Outcome.{Outcome}
 use Rattle.store.specs.declared.Control.{Control}
-use Rattle.store.specs.declared.Control.the-variants.{Free, Busy}
-use Rattle.store.specs.Control.{busyOf}
+use Rattle.store.specs.Control.{slotCount, slotAt}
 use Rattle.store.specs.Stores.{laneAt, blockAt}
 use Rattle.store.specs.LaneSets.{countOf}
 use Rattle.machine.specs.Serve.{ordered, serveOf}
@@ -35,14 +35,13 @@ ordersFor s k Idle = 0
 ordersFor s k (Unserved o) = countOf (ordered (blockAt s (blockOf (o .word) .0)) k (o .command))
 ordersFor s k (Served o) = 0
 
--- the answers that the control awaits
-abbrev awaitedIn : Control → ℕ
-awaitedIn Free = 0
-awaitedIn (Busy v) = v .awaited
+-- the answers that the control awaits, over all services
+unfoldable pub awaitedIn : Control → ℕ
+awaitedIn x = sumTo (λ i. cond (slotAt x i .busy) (slotAt x i .service .awaited) 0) slotCount
 
--- the orders that a step sent, by the control before and after it: those that the service which it opened awaits
+-- the orders that a step sent, by the control before and after it: those that the service which it opened awaits; no other step raises the sum
 abbrev pub sentIn : Control → Control → ℕ
-sentIn x y = cond (busyOf x) 0 (awaitedIn y)
+sentIn x y = awaitedIn y - awaitedIn x
 
 -- a step that isn't refused takes 1 from the potential, and each order that it sends adds 2
 abbrev pub Costs : ℕ → Store → Outcome → Type 0

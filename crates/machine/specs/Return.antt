@@ -1,4 +1,4 @@
--- 01, "Return k". Assumes nothing.
+-- 01, "Return k"; 02, W6: an answer belongs to the service of its block. Assumes nothing.
 use Prim.Native.Nat.{ℕ}
 use mathlib.Core.Bool.{Bool, true, false, cond}
 use mathlib.Core.List.{List}
@@ -17,7 +17,7 @@ use Rattle.store.specs.declared.Control.{Control}
 use Rattle.store.specs.declared.Counted.{Counted}
 use Rattle.store.specs.declared.Counted.the-variants.{Awaits, Closes, NotAwaited}
 use Rattle.store.specs.declared.Outcome.{Outcome}
-use Rattle.store.specs.Control.{answerOf}
+use Rattle.store.specs.Control.{withUpdated, withoutService, answerOf}
 use Rattle.store.specs.Stores.{laneAt, blockAt}
 use Rattle.store.specs.Blocks.{withContents, withPresent, withModified}
 use Rattle.store.specs.LaneSets.{nobody, without}
@@ -60,8 +60,8 @@ sendNothing l b x = record { answer = Step; lane = l; block = b; control = x; to
 -- before the message is taken, t and u after it
 abbrev pub countedMove : Counted → Lane → Block → Control → Lane → Block → Move
 countedMove NotAwaited l b x t u = refuseMove Unexpected l b x
-countedMove (Awaits y) l b x t u = sendNothing t u y
-countedMove (Closes v y) l b x t u = close v t u y
+countedMove (Awaits v) l b x t u = sendNothing t u (withUpdated v x)
+countedMove (Closes v) l b x t u = close v t u (withoutService v x)
 
 -- Memory takes the head of k's return queue
 unfoldable pub returnMove : LaneNo → ReturnMessage → Lane → Block → Control → Move

@@ -1,4 +1,4 @@
--- 01, "Serve k" and "Close". Assumes nothing.
+-- 01, "Serve k" and "Close"; 02, W6: a service for each block, at most L in all. Assumes nothing.
 use Prim.Native.Nat.{ℕ}
 use mathlib.Core.Bool.{Bool, true, false, cond}
 use lib.Dec.{ltb, eqb}
@@ -21,9 +21,8 @@ use Rattle.store.specs.declared.Store.{Store}
 use Rattle.store.specs.declared.Block.{Block}
 use Rattle.store.specs.declared.Service.{Service}
 use Rattle.store.specs.declared.Control.{Control}
-use Rattle.store.specs.declared.Control.the-variants.{Busy}
 use Rattle.store.specs.declared.Outcome.{Outcome}
-use Rattle.store.specs.Control.{busyOf}
+use Rattle.store.specs.Control.{engagedOf, withService}
 use Rattle.store.specs.Stores.{laneAt, blockAt}
 use Rattle.store.specs.Blocks.{withPresent, withModified}
 use Rattle.store.specs.LaneSets.{nobody, only, goesTo, LaneSet, including, without, countOf}
@@ -74,13 +73,14 @@ close v l b x =
     record { answer = Step; lane = l; block = closedBlock (v .command) b (v .lane); control = x; to = only (v .lane); message = grantOf b v }
 
 -- 9, 10, 11
-abbrev pub readyWith : Waiting → Lane → Control → Ready
-readyWith Idle l x = No NothingPending
-readyWith (Served o) l x = No NothingPending
-readyWith (Unserved o) l x = cond (busyOf x) (No ControlBusy) (cond (ltb 0 (l .returns .len)) (No ReturnsPending) (Go o))
+abbrev pub readyWith : Waiting → Lane → ℕ → Control → Ready
+readyWith Idle l limit x = No NothingPending
+readyWith (Served o) l limit x = No NothingPending
+readyWith (Unserved o) l limit x =
+    cond (engagedOf limit x (blockOf (o .word))) (No ControlBusy) (cond (ltb 0 (l .returns .len)) (No ReturnsPending) (Go o))
 
-unfoldable pub readyOf : Lane → Control → Ready
-readyOf l x = readyWith (l .waiting) l x
+unfoldable pub readyOf : Lane → ℕ → Control → Ready
+readyOf l limit x = readyWith (l .waiting) l limit x
 
 -- the service of lane k's operation
 abbrev pub serviceFor : LaneNo → Operation → Block → ℕ → Service
@@ -94,7 +94,7 @@ serveMove k o l b x =
     let v : Service = serviceFor k o b (countOf to) in
     let t = withWaiting (Served o) l in
     cond (eqb (countOf to) 0) (close v t b x)
-    (record { answer = Step; lane = t; block = b; control = Busy v; to = to; message = bareDown (orderOf (o .command)) (blockOf (o .word)) })
+    (record { answer = Step; lane = t; block = b; control = withService v x; to = to; message = bareDown (orderOf (o .command)) (blockOf (o .word)) })
 
 -- 12 is left to the place where the message is sent
 abbrev pub serveReady : Ready → Store → LaneNo → Outcome
@@ -104,4 +104,4 @@ serveReady (Go o) s k =
 
 -- 14, 6, 9, 10, 11, 12
 unfoldable pub serveOf : Store → LaneNo → Outcome
-serveOf s k = guarded s k (serveReady (readyOf (laneAt s (k .0)) (s .control)) s k)
+serveOf s k = guarded s k (serveReady (readyOf (laneAt s (k .0)) (s .shape .limit) (s .control)) s k)

@@ -21,7 +21,7 @@ use Rattle.answers.specs.Refusals.{refusedOf}
 use Rattle.answers.specs.Completions.{doneIn}
 use Rattle.store.specs.declared.Store.{Store}
 use Rattle.store.specs.declared.Outcome.{Outcome}
-use Rattle.store.specs.Control.{busyOf}
+use Rattle.store.specs.Control.{openServices}
 use Rattle.store.specs.Stores.{laneAt}
 use Rattle.store.specs.Quiet.{quietOf}
 use Rattle.machine.specs.declared.Settled.{Settled}
@@ -69,9 +69,9 @@ grantsIn s = sumTo (λ k. downsOf false (laneAt s k .downs)) (s .shape .n)
 abbrev pub ordersIn : Store → ℕ
 ordersIn s = sumTo (λ k. downsOf true (laneAt s k .downs)) (s .shape .n)
 
--- S: services (0 or 1)
+-- S: services (02, W6: their number)
 abbrev pub servicesIn : Store → ℕ
-servicesIn s = cond (busyOf (s .control)) 1 0
+servicesIn s = openServices (s .control)
 
 -- U: unserved operations
 abbrev pub unservedIn : Store → ℕ

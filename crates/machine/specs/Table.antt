@@ -1,20 +1,21 @@
 -- 01, "The contracts and the cases": the rows that are shown from the definitions, what each gives and what it must give; then a row or
 -- more for each of 01's races, for each store that it shuts out, and for other sentences of it. Assumes nothing.
 use Prim.Native.Nat.{ℕ}
-use mathlib.Core.Bool.{Bool, true, false}
+use mathlib.Core.Bool.{Bool, true, false, cond}
 use mathlib.Core.List.{List, [], _∷_, _++_, map}
 use lib.ListN.{length, replicate, drop}
 use Rattle.words.specs.declared.LineNo.{LineNo}
 use Rattle.words.specs.declared.WordNo.{WordNo}
 use Rattle.words.specs.declared.BlockNo.{BlockNo}
 use Rattle.words.specs.declared.Op.the-variants as Op
+use Rattle.words.specs.Folds.{gatherTo}
 use Rattle.words.specs.Operations.{applyOf}
 use Rattle.words.specs.Lines.{filledLine}
-use Rattle.words.specs.Units.{shaped, blockOf}
+use Rattle.words.specs.Units.{shaped, limited, blockOf}
 use Rattle.queues.specs.declared.DownKind.{DownKind}
 use Rattle.queues.specs.declared.DownKind.the-variants.{Update, Purge, Grant, BareGrant}
 use Rattle.queues.specs.declared.ReturnKind.the-variants.{Gone}
-use Rattle.queues.specs.Queues.{pushReturn}
+use Rattle.queues.specs.Queues.{capacity, pushReturn}
 use Rattle.queues.specs.Messages.{bareReturn, bareDown}
 use Rattle.lanes.specs.declared.Command.{Command}
 use Rattle.lanes.specs.declared.Command.the-variants.{ReadShared, ReadExclusive, Exclude}
@@ -31,7 +32,7 @@ use Rattle.answers.specs.Completions.{completionOf}
 use Rattle.answers.specs.Refusals.{numberOf}
 use Rattle.store.specs.declared.Store.{Store}
 use Rattle.store.specs.declared.Control.{Control}
-use Rattle.store.specs.declared.Control.the-variants.{Free, Busy}
+use Rattle.store.specs.Control.{slotCount, slotAt, withService}
 use Rattle.store.specs.Opening.{freshOf, openOf, line}
 use Rattle.store.specs.Stores.{laneAt, blockAt, withCompletions, withLane, withControl, withBlock}
 use Rattle.store.specs.Quiet.{quietOf}
@@ -103,6 +104,9 @@ reads tape answers = record { given = Says (map wordOf (replayOf tape)); wanted 
 -- the store of an opening
 abbrev pub opened : ℕ → ℕ → ℕ → Store
 opened n c m = openOf (shaped n c m) .store
+
+abbrev pub openedWith : ℕ → ℕ → ℕ → ℕ → Store
+openedWith n c m limit = openOf (limited n c m limit) .store
 
 -- the word of number w
 abbrev pub word : ℕ → WordNo
@@ -479,7 +483,7 @@ sentences =
     []) ∷
     -- after refusal 1 or 2 no more records are read
     reads (0 ∷ 2 ∷ 1 ∷ 1 ∷ 2 ∷ 0 ∷ []) (opens ∷ refused 1 ∷ []) ∷
-    reads (8 ∷ 0 ∷ 2 ∷ 1 ∷ 1 ∷ []) (refused 2 ∷ []) ∷
+    reads (9 ∷ 0 ∷ 2 ∷ 1 ∷ 1 ∷ []) (refused 2 ∷ []) ∷
     -- 2 before 1, 1 before 3, 3, 5 and then an opening, 4 before 5
     reads (255 ∷ []) (refused 2 ∷ []) ∷
     reads (5 ∷ []) (refused 1 ∷ []) ∷
@@ -502,8 +506,8 @@ sentences =
       wanted = Bytes (48 ∷ 32 ∷ 111 ∷ 112 ∷ 101 ∷ 110 ∷ 10 ∷ 49 ∷ 32 ∷ 119 ∷ 97 ∷ 105 ∷ 116 ∷ 10 ∷ 50 ∷ 32 ∷ 115 ∷ 116 ∷ 101 ∷ 112 ∷ 10 ∷ 51 ∷ 32 ∷ 100 ∷ 111 ∷ 110 ∷ 101 ∷ 32 ∷ 48 ∷ 32 ∷ 52 ∷ 50 ∷ 57 ∷ 52 ∷ 57 ∷ 54 ∷ 55 ∷ 50 ∷ 57 ∷ 53 ∷ 32 ∷ 49 ∷ 10 ∷ 101 ∷ 110 ∷ 100 ∷ 32 ∷ 52 ∷ 10 ∷ []);
     } ∷
     record { given = Bytes (printed []); wanted = Bytes (101 ∷ 110 ∷ 100 ∷ 32 ∷ 48 ∷ 10 ∷ []) } ∷
-    record { given = Bytes (printed (8 ∷ replicate 65535 0)); wanted = Bytes (48 ∷ 32 ∷ 114 ∷ 101 ∷ 102 ∷ 117 ∷ 115 ∷ 101 ∷ 100 ∷ 32 ∷ 50 ∷ 10 ∷ 101 ∷ 110 ∷ 100 ∷ 32 ∷ 49 ∷ 10 ∷ []) } ∷
-    record { given = Bytes (printed (8 ∷ replicate 65536 0)); wanted = Bytes (114 ∷ 101 ∷ 102 ∷ 117 ∷ 115 ∷ 101 ∷ 100 ∷ 32 ∷ 49 ∷ 51 ∷ 10 ∷ []) } ∷
+    record { given = Bytes (printed (9 ∷ replicate 65535 0)); wanted = Bytes (48 ∷ 32 ∷ 114 ∷ 101 ∷ 102 ∷ 117 ∷ 115 ∷ 101 ∷ 100 ∷ 32 ∷ 50 ∷ 10 ∷ 101 ∷ 110 ∷ 100 ∷ 32 ∷ 49 ∷ 10 ∷ []) } ∷
+    record { given = Bytes (printed (9 ∷ replicate 65536 0)); wanted = Bytes (114 ∷ 101 ∷ 102 ∷ 117 ∷ 115 ∷ 101 ∷ 100 ∷ 32 ∷ 49 ∷ 51 ∷ 10 ∷ []) } ∷
     -- room for 25 bytes of text for each byte of a tape; a buffer without it is as it was
     record { given = Number textMost; wanted = Number 1638400 } ∷
     record { given = Fills (printOf [] (replicate 6 255)); wanted = Fills (record { answer = Filled.Refused BufferTooShort; buffer = replicate 6 255 }) } ∷
@@ -515,13 +519,21 @@ abbrev pub block : ℕ → BlockNo
 block a = record { 0 = a }
 
 abbrev pub gone : ℕ → ℕ → Store → Store
-gone k a s = withLane s k (withReturns (pushReturn (laneAt s k .returns) (bareReturn Gone (block a)) .queue) (laneAt s k))
+gone k a s = withLane s k (withReturns (pushReturn capacity (laneAt s k .returns) (bareReturn Gone (block a)) .queue) (laneAt s k))
 
 abbrev pub sent : DownKind → ℕ → ℕ → Store → Store
-sent x k a s = withLane s k (posted (bareDown x (block a)) (laneAt s k))
+sent x k a s = withLane s k (posted capacity (bareDown x (block a)) (laneAt s k))
+
+-- .. with a return queue of len GONEs of block a, with a down queue of len PURGEs of it
+abbrev pub answering : ℕ → ℕ → ℕ → Store → Store
+answering len k a s = withLane s k (withReturns (record { len = len; at = replicate 8 (bareReturn Gone (block a)) }) (laneAt s k))
+
+abbrev pub purging : ℕ → ℕ → ℕ → Store → Store
+purging len k a s = withLane s k (withDowns (record { len = len; at = replicate 8 (bareDown Purge (block a)) }) (laneAt s k))
 
 abbrev pub serving : ℕ → ℕ → ℕ → Store → Store
-serving k a awaited s = withControl s (Busy (record { lane = lane k; block = block a; command = ReadExclusive; awaited = awaited; bare = false }))
+serving k a awaited s =
+    withControl s (withService (record { lane = lane k; block = block a; command = ReadExclusive; awaited = awaited; bare = false }) (s .control))
 
 abbrev pub copied : ℕ → ℕ → ℕ → ℕ → Store → Store
 copied k i a w s = withLane s k (withLine (line i) (filledLine (block a) (w ∷ 0 ∷ 0 ∷ 0 ∷ [])) (laneAt s k))
@@ -572,6 +584,8 @@ bounds =
     -- S and Q are 1; then S and R
     bounded (serving 1 0 1 (sent Purge 0 0 (opened 2 1 1))) 3 ∷
     bounded (serving 1 0 1 (gone 0 0 (opened 2 1 1))) 2 ∷
+    -- S is 2
+    bounded (serving 0 1 1 (serving 1 0 1 (openedWith 2 1 2 2))) 2 ∷
     -- R and U are 1
     bounded (unserved 0 (gone 0 0 (opened 2 1 1))) 5 ∷
     -- all of them are 1, of four lanes
@@ -635,16 +649,18 @@ corruptStores =
     -- a valid line
     corrupt (filled 0 2 (opened 2 1 2)) ∷
     sound (filled 0 1 (opened 2 1 2)) ∷
-    -- a queued message, at either place of either queue
+    -- a queued message, at the first place, the second and the last of either queue
     corrupt (gone 0 2 (opened 2 1 2)) ∷
     corrupt (gone 0 2 (gone 0 1 (opened 2 1 2))) ∷
-    sound (gone 0 1 (gone 0 1 (opened 2 1 2))) ∷
+    corrupt (answering 8 0 2 (opened 2 1 2)) ∷
+    sound (answering 8 0 1 (opened 2 1 2)) ∷
     corrupt (sent Purge 0 2 (opened 2 1 2)) ∷
     corrupt (sent Purge 0 2 (sent Purge 0 1 (opened 2 1 2))) ∷
-    sound (sent Purge 0 1 (sent Purge 0 1 (opened 2 1 2))) ∷
+    corrupt (purging 8 0 2 (opened 2 1 2)) ∷
+    sound (purging 8 0 1 (opened 2 1 2)) ∷
     -- a queue length
-    corrupt (returning 3 (opened 2 1 2)) ∷
-    corrupt (sending 3 (opened 2 1 2)) ∷
+    corrupt (returning 9 (opened 2 1 2)) ∷
+    corrupt (sending 9 (opened 2 1 2)) ∷
     -- a waiting operation
     corrupt (waits 0 (Unserved (operation 8)) (opened 2 1 2)) ∷
     corrupt (waits 0 (Served (operation 8)) (opened 2 1 2)) ∷
@@ -654,6 +670,15 @@ corruptStores =
     corrupt (serving 0 2 1 (opened 2 1 2)) ∷
     corrupt (serving 0 0 2 (opened 2 1 2)) ∷
     sound (serving 1 1 1 (opened 2 1 2)) ∷
+    -- L; services exceed it; two have one block; a service in a later slot; two of one lane are no reason
+    corrupt (freshOf (limited 2 1 2 0)) ∷
+    corrupt (freshOf (limited 2 1 2 9)) ∷
+    sound (freshOf (limited 2 1 2 8)) ∷
+    corrupt (serving 0 1 1 (serving 1 0 1 (openedWith 2 1 2 1))) ∷
+    sound (serving 0 1 1 (serving 1 0 1 (openedWith 2 1 2 2))) ∷
+    corrupt (serving 0 1 1 (serving 1 0 1 (serving 0 1 1 (openedWith 2 1 2 8)))) ∷
+    corrupt (serving 2 1 1 (serving 1 0 1 (openedWith 2 1 2 2))) ∷
+    sound (serving 1 1 1 (serving 1 0 1 (openedWith 2 1 2 2))) ∷
     -- PRESENT for lane n
     corrupt (flagged 2 (opened 2 1 2)) ∷
     sound (flagged 1 (opened 2 1 2)) ∷
@@ -673,7 +698,7 @@ heldStores =
     on (serving 1 1 1 (gone 0 0 (opened 2 1 2))) (return 0 says refused 16 ∷ []) ∷
     on (serving 1 0 0 (gone 0 0 (opened 2 1 2))) (return 0 says refused 16 ∷ []) ∷
     -- .. before 12
-    on (serving 1 0 0 (gone 0 0 (sent Purge 1 0 (sent Purge 1 0 (opened 2 1 2))))) (return 0 says refused 16 ∷ []) ∷
+    on (serving 1 0 0 (gone 0 0 (purging 8 1 0 (opened 2 1 2)))) (return 0 says refused 16 ∷ []) ∷
     -- 16: a grant whose lane has no operation, has an unserved one, has a served one on another block
     on (sent Grant 0 0 (opened 2 1 2)) (deliver 0 says refused 16 ∷ []) ∷
     on (sent Grant 0 0 (opened 2 1 2)) (load 0 0 says wait ∷ deliver 0 says refused 16 ∷ []) ∷
@@ -686,9 +711,13 @@ heldStores =
     -- 16: settle not yet quiet with queues empty and no operation unserved
     on (serving 0 0 1 (opened 2 1 2)) (Settle says refused 16 ∷ []) ∷
     -- 12, and what is refused changes nothing: the line is still there, the operation still waits; settle delivers before it returns
-    on (gone 0 0 (gone 0 0 (filled 0 0 (opened 2 1 2)))) (load 0 4 says refused 12 ∷ load 0 0 says done 0 0 1 ∷ []) ∷
-    on (sent Purge 0 0 (gone 0 0 (gone 0 0 (filled 0 0 (opened 2 1 2))))) (deliver 0 says refused 12 ∷ Settle says refused 12 ∷ load 0 0 says done 0 0 1 ∷ []) ∷
-    on (sent Purge 0 0 (sent Purge 0 0 (opened 2 1 2))) (load 0 0 says wait ∷ serve 0 says refused 12 ∷ load 0 0 says refused 8 ∷ []) ∷
+    on (answering 8 0 0 (filled 0 0 (opened 2 1 2))) (load 0 4 says refused 12 ∷ load 0 0 says done 0 0 1 ∷ []) ∷
+    on (sent Purge 0 0 (answering 8 0 0 (filled 0 0 (opened 2 1 2)))) (deliver 0 says refused 12 ∷ Settle says refused 12 ∷ load 0 0 says done 0 0 1 ∷ []) ∷
+    on (purging 8 0 0 (opened 2 1 2)) (load 0 0 says wait ∷ serve 0 says refused 12 ∷ load 0 0 says refused 8 ∷ []) ∷
+    -- .. and not with a place left
+    on (answering 7 0 0 (filled 0 0 (opened 2 1 2))) (load 0 4 says wait ∷ []) ∷
+    on (sent Purge 0 0 (answering 7 0 0 (filled 0 0 (opened 2 1 2)))) (deliver 0 says step ∷ []) ∷
+    on (purging 7 0 0 (opened 2 1 2)) (load 0 0 says wait ∷ serve 0 says step ∷ []) ∷
     []
 
 -- a store that has completed so many operations
@@ -713,7 +742,7 @@ places =
     load 1 0 says refused 17 ∷
     []) ∷
     -- a sum of 4,294,967,295: 17 before 12; other calls are not refused by it
-    on (counting 4294967295 (gone 0 0 (gone 0 0 (filled 0 0 (opened 2 1 2))))) (load 0 4 says refused 17 ∷ serve 0 says refused 9 ∷ []) ∷
+    on (counting 4294967295 (answering 8 0 0 (filled 0 0 (opened 2 1 2)))) (load 0 4 says refused 17 ∷ serve 0 says refused 9 ∷ []) ∷
     on (counting 4294967295 (opened 2 1 1)) (Settle says settled 0 [] ∷ store 0 0 7 says refused 17 ∷ exchange 1 0 7 says refused 17 ∷ add 1 0 7 says refused 17 ∷ []) ∷
     -- a larger sum is 14, also where the operation that waits is served
     on (counting 4294967295 (unserved 0 (opened 2 1 1)))
@@ -828,10 +857,9 @@ waitingByte s k Idle = 0
 waitingByte s k (Unserved o) = ordersByte (blockAt s (blockOf (o .word) .0)) (lane k) (o .command)
 waitingByte s k (Served o) = 0
 
--- the answers that a control awaits: none, or those of its service
+-- the answers that each service awaits, by slot
 abbrev pub awaitedBy : Control → List ℕ
-awaitedBy Free = []
-awaitedBy (Busy v) = v .awaited ∷ []
+awaitedBy x = gatherTo (λ i. cond (slotAt x i .busy) (slotAt x i .service .awaited ∷ []) []) slotCount
 
 -- serve k of four lanes after an operation that waits: its byte; after it, what the service awaits, if there is one, and the orders and the grants in each down queue
 abbrev pub servedByByte : Store → Call → ℕ → ℕ → List ℕ → List ℕ → List ℕ → List Row
@@ -848,7 +876,7 @@ twoCopies = flagged 1 (flagged 2 (opened 4 1 1))
 
 -- .. and lane k's down queue is full
 abbrev pub fullDowns : ℕ → Store
-fullDowns k = sent Purge k 0 (sent Purge k 0 twoCopies)
+fullDowns k = purging 8 k 0 twoCopies
 
 -- 02, W4: the byte of a serve, bit j for each lane j that it sends an order
 abbrev pub serveBytes : List Row
@@ -950,7 +978,7 @@ loadsBeside =
     on (counting 4294967293 (unserved 0 (filled 0 0 (opened 2 1 2))))
     (load 0 0 says done 0 0 4294967294 ∷ load 0 0 says refused 17 ∷ load 0 4 says refused 8 ∷ store 0 0 9 says refused 8 ∷ load 1 0 says refused 17 ∷ []) ∷
     -- a full return queue is not looked at
-    on (gone 0 0 (gone 0 0 (unserved 0 (filled 0 0 (opened 2 1 2))))) (load 0 0 says done 0 0 1 ∷ load 0 4 says refused 8 ∷ []) ∷
+    on (answering 8 0 0 (unserved 0 (filled 0 0 (opened 2 1 2)))) (load 0 0 says done 0 0 1 ∷ load 0 4 says refused 8 ∷ []) ∷
     -- it is a use of its line; a refused one is none
     inOrder LoadsOldest (unserved 0 (filled 0 0 mixed)) (load 0 0 ∷ []) (2 ∷ 1 ∷ 0 ∷ []) ∷
     inOrder LoadsOldest (waits 0 (Served (operation 0)) (filled 0 0 mixed)) (load 0 0 ∷ []) (2 ∷ 1 ∷ 0 ∷ []) ∷
@@ -962,6 +990,68 @@ loadsBeside =
     -- the load (index 4) is of its own call and stands ahead of the add (index 3), as flat memory is fed
     completes 2 1 1 (load 0 0 ∷ serve 0 ∷ deliver 0 ∷ add 0 0 5 ∷ load 0 0 ∷ serve 0 ∷ deliver 0 ∷ load 0 0 ∷ []) (0 ∷ 4 ∷ 3 ∷ 7 ∷ []) (0 ∷ 0 ∷ 0 ∷ 5 ∷ [])
 
+-- 02, W6: the limit of an opening that isn't refused, or its number
+abbrev pub limitOf : Answer → Store → Shown
+limitOf (Refused r) s = Number (numberOf r)
+limitOf Opened s = Numbers (s .shape .limit ∷ [])
+limitOf (Done x) s = Numbers []
+limitOf Wait s = Numbers []
+limitOf Step s = Numbers []
+
+abbrev pub openingWith : ℕ → ℕ → ℕ → ℕ → Shown
+openingWith n c m limit = let r = openOf (limited n c m limit) in limitOf (r .answer) (r .store)
+
+-- lane 2 has a copy of block 0 and lane 3 one of block 1, with their flags; lanes 0 and 1 wait to store into words 0 and 4
+abbrev pub flaggedIn : ℕ → ℕ → Store → Store
+flaggedIn a k s = let b = blockAt s a in withBlock s a (withPresent (including (lane k) (b .present)) b)
+
+abbrev pub storing : ℕ → ℕ → ℕ → Store → Store
+storing k w v s = waits k (Unserved (record { command = ReadExclusive; op = Op.Store v; word = word w })) s
+
+abbrev pub twoBlocks : ℕ → Store
+twoBlocks limit = storing 0 0 7 (storing 1 4 9 (flaggedIn 0 2 (flaggedIn 1 3 (filled 2 0 (filled 3 1 (openedWith 4 1 3 limit))))))
+
+-- the answers that each service awaits, after calls
+abbrev pub awaitedAfter : Store → List Call → List ℕ → Row
+awaitedAfter s cs awaited = record { given = Bytes (awaitedBy (after s cs .control)); wanted = Bytes awaited }
+
+-- services for blocks 0, 1 and 2 that await 1, 2 and 3 answers
+abbrev pub threeServices : Store
+threeServices = serving 2 2 3 (serving 1 1 2 (serving 0 0 1 (openedWith 4 1 4 8)))
+
+abbrev pub services : List Row
+services =
+    -- 18 after 5; the ends of L's range
+    record { given = openingWith 2 1 65 0; wanted = Number 5 } ∷
+    record { given = openingWith 2 1 1 0; wanted = Number 18 } ∷
+    record { given = openingWith 2 1 1 9; wanted = Number 18 } ∷
+    record { given = openingWith 2 1 1 1; wanted = Numbers (1 ∷ []) } ∷
+    record { given = openingWith 2 1 1 8; wanted = Numbers (8 ∷ []) } ∷
+    -- kind 08: an open for 3 and 4; 5, then 18; refused, it leaves the tape shut; cut; 2 from 09 on
+    reads (8 ∷ 2 ∷ 1 ∷ 1 ∷ 8 ∷ 1 ∷ 0 ∷ 0 ∷ 0 ∷ 2 ∷ 1 ∷ 1 ∷ 8 ∷ 2 ∷ 1 ∷ 65 ∷ 0 ∷ []) (opens ∷ wait ∷ refused 4 ∷ refused 4 ∷ []) ∷
+    reads (8 ∷ 2 ∷ 1 ∷ 65 ∷ 0 ∷ 8 ∷ 2 ∷ 1 ∷ 1 ∷ 9 ∷ 5 ∷ 0 ∷ 0 ∷ 2 ∷ 1 ∷ 1 ∷ 8 ∷ 2 ∷ 1 ∷ 1 ∷ 1 ∷ []) (refused 5 ∷ refused 18 ∷ refused 3 ∷ opens ∷ refused 4 ∷ []) ∷
+    reads (8 ∷ 2 ∷ 1 ∷ 1 ∷ []) (refused 1 ∷ []) ∷
+    reads (9 ∷ []) (refused 2 ∷ []) ∷
+    -- two services open at once, closing in either order
+    on (twoBlocks 2) (serve 0 says step ∷ serve 1 says step ∷ deliver 2 says step ∷ deliver 3 says step ∷ return 2 says step ∷ deliver 0 says done 0 7 1 ∷ return 3 says step ∷ deliver 1 says done 1 9 2 ∷ []) ∷
+    on (twoBlocks 2) (serve 0 says step ∷ serve 1 says step ∷ deliver 2 says step ∷ deliver 3 says step ∷ return 3 says step ∷ deliver 1 says done 1 9 1 ∷ return 2 says step ∷ deliver 0 says done 0 7 2 ∷ []) ∷
+    -- .. and with L = 1 not at once
+    on (twoBlocks 1) (serve 0 says step ∷ serve 1 says refused 10 ∷ deliver 2 says step ∷ return 2 says step ∷ serve 1 says step ∷ []) ∷
+    -- 10 with L = 2 on a third block, which has no service; not with L = 3; for a block in service with any L; before 11
+    on (unserved 3 (serving 2 2 1 (serving 1 1 1 (openedWith 4 1 3 2)))) (serve 3 says refused 10 ∷ []) ∷
+    on (unserved 3 (serving 2 2 1 (serving 1 1 1 (openedWith 4 1 3 3)))) (serve 3 says step ∷ []) ∷
+    on (unserved 3 (serving 2 0 1 (openedWith 4 1 3 8))) (serve 3 says refused 10 ∷ []) ∷
+    on (gone 3 0 (unserved 3 (serving 2 0 1 (openedWith 4 1 3 8)))) (serve 3 says refused 10 ∷ []) ∷
+    -- an answer lowers, or closes, the service of its block alone
+    awaitedAfter (gone 3 2 threeServices) (return 3 ∷ []) (1 ∷ 2 ∷ 2 ∷ []) ∷
+    awaitedAfter (gone 3 1 threeServices) (return 3 ∷ []) (1 ∷ 1 ∷ 3 ∷ []) ∷
+    awaitedAfter (gone 3 0 threeServices) (return 3 ∷ []) (2 ∷ 3 ∷ []) ∷
+    -- a new one takes the lowest free slot
+    awaitedAfter (storing 3 12 7 (flaggedIn 3 0 (flaggedIn 3 1 (flaggedIn 3 2 (gone 3 0 threeServices))))) (return 3 ∷ serve 3 ∷ []) (3 ∷ 2 ∷ 3 ∷ []) ∷
+    -- settle serves the lowest unserved, also where 10 refuses that
+    on (unserved 0 (serving 3 2 1 (openedWith 4 1 3 1))) (Settle says refused 10 ∷ []) ∷
+    []
+
 -- the table
 unfoldable pub rows : List Row
-rows = casesOf01 ++ races ++ shutOut ++ bounds ++ sentences ++ pictures ++ corruptStores ++ heldStores ++ places ++ insertions ++ serveBytes ++ loadsBeside
+rows = casesOf01 ++ races ++ shutOut ++ bounds ++ sentences ++ pictures ++ corruptStores ++ heldStores ++ places ++ insertions ++ serveBytes ++ loadsBeside ++ services

@@ -15,7 +15,7 @@ use Rattle.words.specs.declared.Op.{Op}
 use Rattle.words.specs.declared.Shape.{Shape}
 use Rattle.lanes.specs.UseOrder.{Insertion}
 use Rattle.store.specs.declared.Store.{Store}
-use Rattle.store.specs.Opening.{badShape, freshOf}
+use Rattle.store.specs.Opening.{badShape, badLimit, freshOf}
 use Rattle.store.specs.Stores.{laneAt}
 use Rattle.machine.specs.Corruption.{corruptOf}
 use Rattle.machine.specs.Begin.{beginOf}
@@ -42,8 +42,8 @@ fit s e w = record { sound = sound s e; long = w }
 any-fit : (s : Store) → corruptOf s ≡ false → Fit 0 s
 any-fit s e = record { sound = sound s e; long = λ k h. omega arith }
 
-pub open-keeps : (shape : Shape) → badShape shape ≡ false → corruptOf (freshOf shape) ≡ false
-open-keeps shape e = not-corrupt (freshOf shape) (open-fit shape e .sound)
+pub open-keeps : (shape : Shape) → badShape shape ≡ false → badLimit shape ≡ false → corruptOf (freshOf shape) ≡ false
+open-keeps shape e f = not-corrupt (freshOf shape) (open-fit shape e f .sound)
 
 pub begin-keeps : (s : Store) (k : LaneNo) (op : Op) (w : WordNo) → corruptOf s ≡ false → Whole s → corruptOf (beginOf s k op w .store) ≡ false
 begin-keeps s k op w e h = not-corrupt (beginOf s k op w .store) (begin-fit 8 s k op w (sound s e .c-high) (fit s e h) .sound)
@@ -57,8 +57,8 @@ return-keeps s k e = not-corrupt (returnOf s k .store) (return-fit 0 s k (any-fi
 pub deliver-keeps : (ins : Insertion) (s : Store) (k : LaneNo) → corruptOf s ≡ false → Whole s → corruptOf (deliverOf ins s k .store) ≡ false
 deliver-keeps ins s k e h = not-corrupt (deliverOf ins s k .store) (deliver-fit ins 8 s k (sound s e .c-high) (fit s e h) .sound)
 
-pub open-whole : (shape : Shape) → badShape shape ≡ false → Whole (freshOf shape)
-open-whole shape e = open-fit shape e .long
+pub open-whole : (shape : Shape) → badShape shape ≡ false → badLimit shape ≡ false → Whole (freshOf shape)
+open-whole shape e f = open-fit shape e f .long
 
 pub begin-whole : (s : Store) (k : LaneNo) (op : Op) (w : WordNo) → Whole s → Whole (beginOf s k op w .store)
 unfolding beginOf

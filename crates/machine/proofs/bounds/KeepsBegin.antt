@@ -18,7 +18,7 @@ use Rattle.words.specs.Units.{blockOf}
 use Rattle.words.specs.Operations.{isLoad}
 use Rattle.words.proofs.Folds.{by-cond}
 use Rattle.queues.specs.declared.ReturnMessage.{ReturnMessage}
-use Rattle.queues.specs.Queues.{noReturn}
+use Rattle.queues.specs.Queues.{capacity, noReturn}
 use Rattle.lanes.specs.declared.Lane.{Lane}
 use Rattle.lanes.specs.declared.Command.the-variants.{Exclude}
 use Rattle.lanes.specs.declared.Found.{Found}
@@ -66,31 +66,31 @@ module _ (h c m : ℕ) (c₀ : 1 ≤ c) (c₁ : c ≤ h) (z : 1 ≤ m) (op : Op)
       (with-unserved h c m l g (record { command = Exclude; op = op; word = w }) b)
 
   -- the line given up is valid, so its block is one of the store's
-  evict-keeps : (i : LineNo) → lineAt l i .block .0 < m → LaneFit h c m (evict i op w l .lane)
+  evict-keeps : (i : LineNo) → lineAt l i .block .0 < m → LaneFit h c m (evict capacity i op w l .lane)
   unfolding evict
   evict-keeps i p =
       let y = by-cond (λ (x : ReturnMessage). x .block .0 < m) (lineAt l i .private) _ _ p p in
       let t = with-line h c m l g i (invalid (lineAt l i)) (λ e. clash (cc)) in
-      on (leb 2 (l .returns .len)) (λ e. rw e g)
+      on (leb capacity (l .returns .len)) (λ e. rw e g)
       (λ e. rw e
       (let q = with-returns h c m (withLine i (invalid (lineAt l i)) l) t
       (record { len = l .returns .len + 1; at = set (l .returns .at) (l .returns .len) (ejectOf (lineAt l i)) })
       (join-keeps (λ (x : ReturnMessage). x .block .0) noReturn m (l .returns .len) (l .returns .at) (ejectOf (lineAt l i)) (leb-false _ _ e) z y (g .sound .returns)) in
       with-unserved h c m _ q (record { command = readOf op; op = op; word = w }) b))
 
-  miss-keeps : (f : Found) → vacantOf l c ≡ f → LaneFit h c m (missWith f op w l .lane)
+  miss-keeps : (f : Found) → vacantOf l c ≡ f → LaneFit h c m (missWith capacity f op w l .lane)
   miss-keeps (At i) e = with-unserved h c m l g (record { command = readOf op; op = op; word = w }) b
   miss-keeps Nothing e =
       let o = g .sound .order .named 0 c₀ in
       evict-keeps (placeAt (l .order) 0) (g .sound .lines (placeAt (l .order) 0 .0) o (all-valid l c e (placeAt (l .order) 0 .0) o))
 
-  at-keeps : (f : Found) → searchOf l c (blockOf w) ≡ f → LaneFit h c m (beginAt f c op w l .lane)
+  at-keeps : (f : Found) → searchOf l c (blockOf w) ≡ f → LaneFit h c m (beginAt capacity f c op w l .lane)
   unfolding miss
   at-keeps (At i) e = hit-keeps i (found-below l c (blockOf w) i e)
   at-keeps Nothing e = miss-keeps (vacantOf l c) refl
 
   -- the lane's part of begin
-  pub begin-lane-keeps : LaneFit h c m (beginLane c op w l .lane)
+  pub begin-lane-keeps : LaneFit h c m (beginLane capacity c op w l .lane)
   unfolding beginLane
   begin-lane-keeps = at-keeps (searchOf l c (blockOf w)) refl
 

@@ -23,7 +23,7 @@ use Rattle.queues.specs.declared.ReturnMessage.{ReturnMessage}
 use Rattle.queues.specs.declared.DownMessage.{DownMessage}
 use Rattle.queues.specs.declared.DownKind.{DownKind}
 use Rattle.queues.specs.declared.DownKind.the-variants.{Update, Purge, Grant, BareGrant}
-use Rattle.queues.specs.Queues.{emptyAt, headDown, takeDown, pushReturn}
+use Rattle.queues.specs.Queues.{capacity, emptyAt, headDown, takeDown, pushReturn}
 use Rattle.lanes.specs.declared.Lane.{Lane}
 use Rattle.lanes.specs.declared.Operation.{Operation}
 use Rattle.lanes.specs.declared.Command.the-variants.{Exclude}
@@ -105,37 +105,37 @@ module _ (c : ℕ) (op : Op) (w : WordNo) (l : Lane) (admits : Admitted c op w l
       (λ _. complete-begins 1 _ i (lineAt l i) op w l l (omega arith))
       (λ t _. sym (begins-one (admits .write (or-left (isLoad op) (lineAt l i .private) t))))
 
-  evict-begins : l .waiting ≡ Idle → (i : LineNo) → LaneBegins 1 l (evict i op w l)
+  evict-begins : l .waiting ≡ Idle → (i : LineNo) → LaneBegins 1 l (evict capacity i op w l)
   unfolding evict
   evict-begins idle i =
-      by-cond (LaneBegins 1 l) (pushReturn (l .returns) (ejectOf (lineAt l i)) .full) (refuseLane QueueFull l) _ (refused-begins 1 l QueueFull) (λ _. sym (begins-one idle))
+      by-cond (LaneBegins 1 l) (pushReturn capacity (l .returns) (ejectOf (lineAt l i)) .full) (refuseLane QueueFull l) _ (refused-begins 1 l QueueFull) (λ _. sym (begins-one idle))
 
-  miss-begins : l .waiting ≡ Idle → (f : Found) → LaneBegins 1 l (missWith f op w l)
+  miss-begins : l .waiting ≡ Idle → (f : Found) → LaneBegins 1 l (missWith capacity f op w l)
   miss-begins idle (At i) = λ _. sym (begins-one idle)
   miss-begins idle Nothing = evict-begins idle (placeAt (l .order) 0)
 
-  at-begins : (f : Found) → searchOf l c (blockOf w) ≡ f → LaneBegins 1 l (beginAt f c op w l)
+  at-begins : (f : Found) → searchOf l c (blockOf w) ≡ f → LaneBegins 1 l (beginAt capacity f c op w l)
   unfolding miss
   at-begins (At i) e = hit-begins i
   at-begins Nothing e = miss-begins (admits .miss e) (vacantOf l c)
 
   -- the lane's part of begin
-  pub begin-lane-begins : LaneBegins 1 l (beginLane c op w l)
+  pub begin-lane-begins : LaneBegins 1 l (beginLane capacity c op w l)
   unfolding beginLane
   begin-lane-begins = at-begins (searchOf l c (blockOf w)) refl
 
 -- an answer joins the return queue of a lane that waits as l does
-reply-begins : (y : ReturnMessage) (l t : Lane) → waits t ≡ waits l → LaneBegins 0 l (reply y t)
+reply-begins : (y : ReturnMessage) (l t : Lane) → waits t ≡ waits l → LaneBegins 0 l (reply capacity y t)
 unfolding reply
 reply-begins y l t h =
-    by-cond (LaneBegins 0 l) (pushReturn (t .returns) y .full) (refuseLane QueueFull t) _ (λ e. absurd (true≢false e)) (λ _. omega arith)
+    by-cond (LaneBegins 0 l) (pushReturn capacity (t .returns) y .full) (refuseLane QueueFull t) _ (λ e. absurd (true≢false e)) (λ _. omega arith)
 
 module _ (ins : Insertion) (c : ℕ) (l : Lane) where
-  update-begins : (a : BlockNo) (f : Found) → LaneBegins 0 l (updateAt f a l)
+  update-begins : (a : BlockNo) (f : Found) → LaneBegins 0 l (updateAt capacity f a l)
   update-begins a (At i) = reply-begins _ l _ refl
   update-begins a Nothing = reply-begins _ l l refl
 
-  purge-begins : (a : BlockNo) (f : Found) → LaneBegins 0 l (purgeAt f a l)
+  purge-begins : (a : BlockNo) (f : Found) → LaneBegins 0 l (purgeAt capacity f a l)
   purge-begins a (At i) = reply-begins _ l _ refl
   purge-begins a Nothing = reply-begins _ l l refl
 
@@ -172,14 +172,14 @@ module _ (ins : Insertion) (c : ℕ) (l : Lane) where
       (bare-begins o e (searchOf l c (x .block))) (refused-begins 0 l Unexpected)
 
   -- what a message does in a lane that has taken it
-  kind-begins : (y : DownKind) (x : DownMessage) → LaneBegins 0 l (deliverKind ins y c x l)
+  kind-begins : (y : DownKind) (x : DownMessage) → LaneBegins 0 l (deliverKind capacity ins y c x l)
   kind-begins Update x = update-begins (x .block) (searchOf l c (x .block))
   kind-begins Purge x = purge-begins (x .block) (searchOf l c (x .block))
   kind-begins Grant x = grants-begin x (l .waiting) refl
   kind-begins BareGrant x = bares-begin x (l .waiting) refl
 
 -- the lane's part of deliver
-pub deliver-lane-begins : (ins : Insertion) (c : ℕ) (l : Lane) → LaneBegins 0 l (deliverLane ins c l)
+pub deliver-lane-begins : (ins : Insertion) (c : ℕ) (l : Lane) → LaneBegins 0 l (deliverLane capacity ins c l)
 unfolding deliverLane
 deliver-lane-begins ins c l =
     pick (LaneBegins 0 l) (emptyAt (l .downs .len)) (refuseLane NothingPending l) _ (λ _. refused-begins 0 l NothingPending)
@@ -241,16 +241,16 @@ lane-there ls k h = go (below? k (length ls))
     go (inr l) = let e = ap (λ (x : Lane). length (x .order)) (List·getD-eq-default ls noLane l) in absurd (omega arith)
 
 -- a message to some lanes: each waits on
-posts-wait : (to : List Bool) (x : DownMessage) (t : ℕ) (ls : List Lane) (j : ℕ) → waits (getD (upTo (postTo to x) t ls) j noLane) ≡ waits (getD ls j noLane)
+posts-wait : (to : List Bool) (x : DownMessage) (t : ℕ) (ls : List Lane) (j : ℕ) → waits (getD (upTo (postTo capacity to x) t ls) j noLane) ≡ waits (getD ls j noLane)
 unfolding upTo postTo
 posts-wait to x zero ls j = refl
-posts-wait to x (suc t) ls j = go (upTo (postTo to x) t ls) (posts-wait to x t ls j)
+posts-wait to x (suc t) ls j = go (upTo (postTo capacity to x) t ls) (posts-wait to x t ls j)
   where
     go : (now : List Lane) → waits (getD now j noLane) ≡ waits (getD ls j noLane) →
-        waits (getD (cond (goesTo to t) (set now t (posted x (getD now t noLane))) now) j noLane) ≡ waits (getD ls j noLane)
+        waits (getD (cond (goesTo to t) (set now t (posted capacity x (getD now t noLane))) now) j noLane) ≡ waits (getD ls j noLane)
     go now e =
-        by-cond (λ (r : List Lane). waits (getD r j noLane) ≡ waits (getD ls j noLane)) (goesTo to t) (set now t (posted x (getD now t noLane))) now
-        (set-cases (λ (l : Lane). waits l ≡ waits (getD ls j noLane)) now t j (posted x (getD now t noLane)) noLane (λ q. sym (ap (λ (i : ℕ). waits (getD now i noLane)) q) ∙ e) e)
+        by-cond (λ (r : List Lane). waits (getD r j noLane) ≡ waits (getD ls j noLane)) (goesTo to t) (set now t (posted capacity x (getD now t noLane))) now
+        (set-cases (λ (l : Lane). waits l ≡ waits (getD ls j noLane)) now t j (posted capacity x (getD now t noLane)) noLane (λ q. sym (ap (λ (i : ℕ). waits (getD now i noLane)) q) ∙ e) e)
         e
 
 -- the store after memory's part of a call, whose lane waits on

@@ -14,7 +14,7 @@ use Rattle.queues.specs.declared.ReturnKind.the-variants.{Updated, Gone}
 use Rattle.queues.specs.declared.DownMessage.{DownMessage}
 use Rattle.queues.specs.declared.DownKind.{DownKind}
 use Rattle.queues.specs.declared.DownKind.the-variants.{Update, Purge, Grant, BareGrant}
-use Rattle.queues.specs.Queues.{emptyAt, headDown, takeDown, noDown}
+use Rattle.queues.specs.Queues.{capacity, emptyAt, headDown, takeDown, noDown}
 use Rattle.queues.specs.Messages.{bareReturn, wordsReturn}
 use Rattle.lanes.specs.declared.Lane.{Lane}
 use Rattle.lanes.specs.declared.Operation.{Operation}
@@ -44,14 +44,14 @@ pub found-below : (l : Lane) (c : ℕ) (a : BlockNo) (i : LineNo) → searchOf l
 found-below l c a i e = let b = first-bound (λ (x : Line). holdsOf x a) (l .lines) c 0 i e in omega arith
 
 module _ (ins : Insertion) (h c m : ℕ) (c₀ : 1 ≤ c) (c₁ : c ≤ h) (z : 1 ≤ m) (l : Lane) (g : LaneFit h c m l) where
-  update-keeps : (a : BlockNo) → a .0 < m → (f : Found) → searchOf l c a ≡ f → LaneFit h c m (updateAt f a l .lane)
+  update-keeps : (a : BlockNo) → a .0 < m → (f : Found) → searchOf l c a ≡ f → LaneFit h c m (updateAt capacity f a l .lane)
   update-keeps a b (At i) e =
       reply-keeps h c m (withLine i (shared (lineAt l i)) l)
       (with-line h c m l g i (shared (lineAt l i)) (g .sound .lines (i .0) (found-below l c a i e)))
       (wordsReturn Updated a (lineAt l i .words)) z b
   update-keeps a b Nothing e = reply-keeps h c m l g (bareReturn Gone a) z b
 
-  purge-keeps : (a : BlockNo) → a .0 < m → (f : Found) → LaneFit h c m (purgeAt f a l .lane)
+  purge-keeps : (a : BlockNo) → a .0 < m → (f : Found) → LaneFit h c m (purgeAt capacity f a l .lane)
   purge-keeps a b (At i) =
       reply-keeps h c m (withLine i (invalid (lineAt l i)) l) (with-line h c m l g i (invalid (lineAt l i)) (λ e. clash (cc)))
       (purgedOf a (lineAt l i)) z (by-cond (λ (x : ReturnMessage). x .block .0 < m) (lineAt l i .private) _ _ b b)
@@ -80,23 +80,23 @@ module _ (ins : Insertion) (h c m : ℕ) (c₀ : 1 ≤ c) (c₁ : c ≤ h) (z : 
   bares-keep x (Go o) = bare-keeps o (x .block) (searchOf l c (x .block)) refl
 
   -- what a message does in a lane that has taken it
-  pub kind-keeps : (y : DownKind) (x : DownMessage) → x .block .0 < m → LaneFit h c m (deliverKind ins y c x l .lane)
+  pub kind-keeps : (y : DownKind) (x : DownMessage) → x .block .0 < m → LaneFit h c m (deliverKind capacity ins y c x l .lane)
   kind-keeps Update x b = update-keeps (x .block) b (searchOf l c (x .block)) refl
   kind-keeps Purge x b = purge-keeps (x .block) b (searchOf l c (x .block))
   kind-keeps Grant x b = grants-keep x b (servedOn (l .waiting) (x .block))
   kind-keeps BareGrant x b = bares-keep x (servedOn (l .waiting) (x .block))
 
 -- the lane's part of deliver
-pub deliver-lane-keeps : (ins : Insertion) (h c m : ℕ) (l : Lane) → 1 ≤ c → c ≤ h → 1 ≤ m → LaneFit h c m l → LaneFit h c m (deliverLane ins c l .lane)
+pub deliver-lane-keeps : (ins : Insertion) (h c m : ℕ) (l : Lane) → 1 ≤ c → c ≤ h → 1 ≤ m → LaneFit h c m l → LaneFit h c m (deliverLane capacity ins c l .lane)
 unfolding deliverLane
 deliver-lane-keeps ins h c m l c₀ c₁ z g =
     pick (λ (r : LaneStep). LaneFit h c m (r .lane)) (emptyAt (l .downs .len)) (refuseLane NothingPending l) _ (λ _. g)
     (λ e. by-cond (LaneFit h c m) (refusedIn (took .answer)) l (took .lane) g
-    (kind-keeps ins h c m c₀ c₁ z (withDowns (takeDown (l .downs) .queue) l) (taken-keeps h c m l g) (headDown (l .downs) .kind) (headDown (l .downs))
+    (kind-keeps ins h c m c₀ c₁ z (withDowns (takeDown (l .downs) .queue) l) (taken-keeps h c m l g z) (headDown (l .downs) .kind) (headDown (l .downs))
     (head-inside m (l .downs .len) (λ i. getD (l .downs .at) i noDown .block .0) (g .sound .downs) e)))
   where
     took : LaneStep
-    took = deliverKind ins (headDown (l .downs) .kind) c (headDown (l .downs)) (withDowns (takeDown (l .downs) .queue) l)
+    took = deliverKind capacity ins (headDown (l .downs) .kind) c (headDown (l .downs)) (withDowns (takeDown (l .downs) .queue) l)
 
 pub deliver-fit : (ins : Insertion) (h : ℕ) (s : Store) (k : LaneNo) → s .shape .c ≤ h → Fit h s → Fit h (deliverOf ins s k .store)
 deliver-fit ins h s k b g =

@@ -1,5 +1,5 @@
 -- What every step does to a lane, a block and the control keeps them within bounds. Assumes nothing.
-use Prim.Native.Nat.{ℕ, _+_, _-_, _<_, _≤_}
+use Prim.Native.Nat.{ℕ, suc, _+_, _-_, _<_, _≤_}
 use mathlib.Core.Logic.{_⊎_, inl, inr, _≢_}
 use mathlib.Core.Path.{_≡_}
 use mathlib.Core.Bool.{true, false}
@@ -20,7 +20,8 @@ use Rattle.queues.specs.declared.ReturnMessage.{ReturnMessage}
 use Rattle.queues.specs.declared.ReturnQueue.{ReturnQueue}
 use Rattle.queues.specs.declared.DownMessage.{DownMessage}
 use Rattle.queues.specs.declared.DownQueue.{DownQueue}
-use Rattle.queues.specs.Queues.{noReturn, noDown, takeReturn, takeDown}
+use Rattle.queues.specs.Queues.{capacity, shifted, noReturn, noDown, takeReturn, takeDown}
+use Rattle.queues.proofs.Shifts.{shifted-cases}
 use Rattle.lanes.specs.declared.Lane.{Lane}
 use Rattle.lanes.specs.declared.Operation.{Operation}
 use Rattle.lanes.specs.declared.Waiting.{Waiting}
@@ -39,7 +40,7 @@ pub clash : {A : Type 0} → _≡_ {A = ℕ} 0 1 → A
 clash z = absurd (omega arith)
 
 -- a message joins a queue; b gives a message's block
-pub join-keeps : {A : Type 0} (b : A → ℕ) (none : A) (m len : ℕ) (places : List A) (x : A) → len < 2 → b none < m → b x < m →
+pub join-keeps : {A : Type 0} (b : A → ℕ) (none : A) (m len : ℕ) (places : List A) (x : A) → len < capacity → b none < m → b x < m →
     Queued m len (λ i. b (getD places i none)) → Queued m (len + 1) (λ i. b (getD (set places len x) i none))
 join-keeps {A} b none m len places x h z y g = record { short = omega arith; inside = λ i l. go i l (same? i len) }
   where
@@ -48,15 +49,8 @@ join-keeps {A} b none m len places x h z y g = record { short = omega arith; ins
     go i l (inr n) = rw (getD-set-other places len i x none n) (g .inside i (omega (arith, n)))
 
 -- the head leaves a queue
-pub leave-keeps : {A : Type 0} (b : A → ℕ) (none : A) (m len : ℕ) (places : List A) →
-    Queued m len (λ i. b (getD places i none)) → Queued m (len - 1) (λ i. b (getD (set places 0 (getD places 1 none)) i none))
-leave-keeps {A} b none m len places g = record { short = let s = g .short in omega arith; inside = go }
-  where
-    go : (i : ℕ) → i < len - 1 → b (getD (set places 0 (getD places 1 none)) i none) < m
-    go i l =
-        let s = g .short in
-        let e : i ≡ 0 = omega arith in
-        rw e (set-cases (λ (r : A). b r < m) places 0 0 (getD places 1 none) none (λ _. g .inside 1 (omega arith)) (g .inside 0 (omega arith)))
+pub leave-keeps : {A : Type 0} (b : A → ℕ) (none : A) (m len : ℕ) (at : List A) → b none < m → Queued m len (λ i. b (getD at i none)) → Queued m (len - 1) (λ i. b (getD (shifted at) i none))
+leave-keeps {A} b none m len at z g = record { short = let s = g .short in omega arith; inside = λ i l. shifted-cases (λ (r : A). b r < m) none at i z (g .inside (suc i) (omega arith)) (g .inside i (omega arith)) }
 
 -- a lane within bounds whose use order has at least h places: h is what a law needs or keeps
 pub record LaneFit (h c m : ℕ) (l : Lane) : Type 0 where
@@ -130,30 +124,30 @@ module _ (h c m : ℕ) (l : Lane) (g : LaneFit h c m l) where
       }
 
   -- a message joins the down queue, or it is full
-  pub posted-keeps : (x : DownMessage) → 1 ≤ m → x .block .0 < m → LaneFit h c m (posted x l)
+  pub posted-keeps : (x : DownMessage) → 1 ≤ m → x .block .0 < m → LaneFit h c m (posted capacity x l)
   posted-keeps x z b =
-      on (leb 2 (l .downs .len)) (λ e. rw e g)
+      on (leb capacity (l .downs .len)) (λ e. rw e g)
       (λ e. rw e (with-downs (record { len = l .downs .len + 1; at = set (l .downs .at) (l .downs .len) x })
       (join-keeps (λ (y : DownMessage). y .block .0) noDown m (l .downs .len) (l .downs .at) x (leb-false _ _ e) z b (g .sound .downs))))
 
   -- the head of a queue leaves it
-  pub returned-keeps : LaneFit h c m (withReturns (takeReturn (l .returns) .queue) l)
-  returned-keeps =
+  pub returned-keeps : 1 ≤ m → LaneFit h c m (withReturns (takeReturn (l .returns) .queue) l)
+  returned-keeps z =
       on (eqb (l .returns .len) 0) (λ e. rw e g)
-      (λ e. rw e (with-returns (record { len = l .returns .len - 1; at = set (l .returns .at) 0 (getD (l .returns .at) 1 noReturn) })
-      (leave-keeps (λ (y : ReturnMessage). y .block .0) noReturn m (l .returns .len) (l .returns .at) (g .sound .returns))))
+      (λ e. rw e (with-returns (record { len = l .returns .len - 1; at = shifted (l .returns .at) })
+      (leave-keeps (λ (y : ReturnMessage). y .block .0) noReturn m (l .returns .len) (l .returns .at) z (g .sound .returns))))
 
-  pub taken-keeps : LaneFit h c m (withDowns (takeDown (l .downs) .queue) l)
-  taken-keeps =
+  pub taken-keeps : 1 ≤ m → LaneFit h c m (withDowns (takeDown (l .downs) .queue) l)
+  taken-keeps z =
       on (eqb (l .downs .len) 0) (λ e. rw e g)
-      (λ e. rw e (with-downs (record { len = l .downs .len - 1; at = set (l .downs .at) 0 (getD (l .downs .at) 1 noDown) })
-      (leave-keeps (λ (y : DownMessage). y .block .0) noDown m (l .downs .len) (l .downs .at) (g .sound .downs))))
+      (λ e. rw e (with-downs (record { len = l .downs .len - 1; at = shifted (l .downs .at) })
+      (leave-keeps (λ (y : DownMessage). y .block .0) noDown m (l .downs .len) (l .downs .at) z (g .sound .downs))))
 
   -- an answer joins the return queue, or the lane is as before
-  pub reply-keeps : (x : ReturnMessage) → 1 ≤ m → x .block .0 < m → LaneFit h c m (reply x l .lane)
+  pub reply-keeps : (x : ReturnMessage) → 1 ≤ m → x .block .0 < m → LaneFit h c m (reply capacity x l .lane)
   unfolding reply
   reply-keeps x z b =
-      on (leb 2 (l .returns .len)) (λ e. rw e g)
+      on (leb capacity (l .returns .len)) (λ e. rw e g)
       (λ e. rw e (with-returns (record { len = l .returns .len + 1; at = set (l .returns .at) (l .returns .len) x })
       (join-keeps (λ (y : ReturnMessage). y .block .0) noReturn m (l .returns .len) (l .returns .at) x (leb-false _ _ e) z b (g .sound .returns))))
 

@@ -8,14 +8,14 @@ use Rattle.words.specs.declared.Shape.{Shape}
 use Rattle.words.specs.Lines.{noLine}
 use Rattle.lanes.specs.UseOrder.{placeAt}
 use Rattle.lanes.specs.Waits.{idleOf}
-use Rattle.store.specs.Opening.{badShape, blankLine, blankLane, blankBlock, freshOf}
+use Rattle.store.specs.Opening.{badShape, badLimit, blankLine, blankLane, blankBlock, freshOf}
 use Rattle.store.specs.Stores.{noLane, noBlock, laneAt, blockAt}
 use Rattle.machine.specs.Begun.{waitingIn, begunIn}
 use Rattle.machine.proofs.laws.Sums.{count-zero}
-use Rattle.machine.proofs.bounds.Shape.{shape-bounds}
+use Rattle.machine.proofs.bounds.Shape.{shape-bounds, limit-bounds}
 use Rattle.machine.proofs.bounds.Sound.{Ordered, BlockSound}
 use Rattle.machine.proofs.bounds.KeepsLane.{clash, LaneFit}
-use Rattle.machine.proofs.bounds.KeepsServe.{free-sound}
+use Rattle.machine.proofs.bounds.KeepsServe.{blank-sound}
 use Rattle.machine.proofs.bounds.KeepsStore.{Fit}
 
 -- lines are ordered by number
@@ -80,10 +80,11 @@ fresh-begun shape h =
     let z = count-zero (λ k. not (idleOf (laneAt (freshOf shape) k .waiting))) (shape .n) (λ k l. ap not (fresh-idle shape k (omega arith))) in
     omega arith
 
-pub open-fit : (shape : Shape) → badShape shape ≡ false → Fit 8 (freshOf shape)
+pub open-fit : (shape : Shape) → badShape shape ≡ false → badLimit shape ≡ false → Fit 8 (freshOf shape)
 unfolding freshOf
-open-fit shape e =
+open-fit shape e f =
     let b = shape-bounds shape e in
+    let l = limit-bounds shape f in
     record {
       sound = record {
         n-low = b .0;
@@ -92,7 +93,9 @@ open-fit shape e =
         c-high = b .3;
         m-low = b .4;
         m-high = b .5;
-        control = free-sound (shape .n) (shape .m);
+        limit-low = l .0;
+        limit-high = l .1;
+        control = blank-sound (shape .n) (shape .m) (shape .limit);
         lane = λ k h. let p = b .1 in rw (fresh-lane shape k (omega arith)) (blank-fit (shape .c) (shape .m) (b .3) .sound);
         block = λ a h. let p = b .5 in rw (fresh-block shape a (omega arith)) (blank-block (shape .n));
         begun = let z = fresh-begun shape (b .1) in omega arith;

@@ -1,7 +1,8 @@
 -- Serve and close keep a store within bounds. Assumes nothing.
 use Prim.Native.Nat.{ℕ, _<_, _≤_}
-use mathlib.Core.Path.{_≡_, refl}
-use mathlib.Core.Bool.{Bool, true, false}
+use mathlib.Core.Logic.{_⊎_, inl, inr}
+use mathlib.Core.Path.{_≡_, refl, sym, ap, _∙_}
+use mathlib.Core.Bool.{Bool, true, false, true≢false}
 use mathlib.Core.List.{List}
 use lib.ListN.{getD, set, getD-replicate}
 use native.Mathlib.Omega.{arith}
@@ -20,12 +21,16 @@ use Rattle.store.specs.declared.Store.{Store}
 use Rattle.store.specs.declared.Block.{Block}
 use Rattle.store.specs.declared.Service.{Service}
 use Rattle.store.specs.declared.Control.{Control}
-use Rattle.store.specs.declared.Control.the-variants.{Free, Busy}
+use Rattle.store.specs.declared.Slot.{Slot}
+use Rattle.store.specs.Opening.{blankControl}
+use Rattle.store.specs.Control.{slotAt, slotOf, openServices, engagedOf, freeSlot, free, busyWith, withSlot, withService, withUpdated, withoutService}
+use Rattle.store.proofs.Services.{Found, Distinct, slot-is, count-most-written, opened-distinct, updated-count, updated-distinct, closed-count, closed-distinct, not-engaged}
 use Rattle.store.specs.declared.Outcome.{Outcome}
 use Rattle.store.specs.Stores.{laneAt, blockAt}
 use Rattle.store.specs.LaneSets.{nobody, goesTo, countOf}
 use Rattle.machine.specs.Serve.{sendsOf, ordered, closedBlock, close, serviceFor, serveMove, serveOf}
 use Rattle.machine.proofs.laws.Sets.{set-cases, set-here}
+use Rattle.machine.proofs.laws.Sums.{count-zero}
 use Rattle.machine.proofs.laws.Counts.{count-less, count-past}
 use Rattle.machine.proofs.bounds.Sound.{BlockSound, ServiceSound, ControlSound, sound}
 use Rattle.machine.proofs.bounds.KeepsLane.{LaneFit, with-served, clash}
@@ -34,12 +39,54 @@ use Rattle.machine.proofs.bounds.KeepsStore.{Fit, lane-fit, MoveFit, co
 use Rattle.machine.proofs.rules.Rules.{serve-rule}
 use Rattle.machine.proofs.rules.RulesMemory.{serve-move-rule}
 
--- a control with a service within bounds
-pub busy-sound : (n m : ℕ) (v : Service) → ServiceSound n m v → ControlSound n m (Busy v)
-busy-sound n m v g = record { service = λ w e. let q : _≡_ {A = Service} v w = cc in rw q at g }
+-- the control after one slot was written stays within bounds
+written-sound : (n m limit i : ℕ) (y : Slot) (x : Control) → (y .busy ≡ true → ServiceSound n m (y .service)) → ControlSound n m limit x → Distinct (withSlot i y x) →
+    openServices (withSlot i y x) ≤ limit → ControlSound n m limit (withSlot i y x)
+written-sound n m limit i y x h g d c = record { services = λ j l b. go j l b (slot-is x i j y); distinct = d; most = c }
+  where
+    go : (j : ℕ) → j < 8 → slotAt (withSlot i y x) j .busy ≡ true → ((j ≡ i) × (slotAt (withSlot i y x) j ≡ y)) ⊎ (slotAt (withSlot i y x) j ≡ slotAt x j) →
+        ServiceSound n m (slotAt (withSlot i y x) j .service)
+    go j l b (inl e) = rw (e .1) (h (ap (λ (r : Slot). r .busy) (sym (e .1)) ∙ b))
+    go j l b (inr e) = rw e (g .services j l (ap (λ (r : Slot). r .busy) (sym e) ∙ b))
 
-pub free-sound : (n m : ℕ) → ControlSound n m Free
-free-sound n m = record { service = λ w e. clash (cc) }
+module _ (n m limit : ℕ) (v : Service) (x : Control) (g : ControlSound n m limit x) where
+  -- a service is opened
+  pub opened-sound : ServiceSound n m v → slotOf x (v .block) ≡ 8 → openServices x < limit → ControlSound n m limit (withService v x)
+  unfolding withService
+  opened-sound s none less =
+      let c = count-most-written x (freeSlot x) (busyWith v) in
+      written-sound n m limit (freeSlot x) (busyWith v) x (λ _. s) g (opened-distinct x v none (g .distinct)) (omega arith)
+
+  module _ (u : Service) (f : Found x (v .block) u) where
+    -- .. awaits one answer fewer
+    pub updated-sound : ServiceSound n m v → ControlSound n m limit (withUpdated v x)
+    unfolding withUpdated
+    updated-sound s =
+        let c = updated-count x v u f in
+        let d = g .most in
+        written-sound n m limit (slotOf x (v .block)) (busyWith v) x (λ _. s) g (updated-distinct x v u f (g .distinct)) (omega arith)
+
+    -- .. is closed
+    pub closed-sound : ControlSound n m limit (withoutService v x)
+    unfolding withoutService
+    closed-sound =
+        let c = closed-count x v u f in
+        let d = g .most in
+        written-sound n m limit (slotOf x (v .block)) free x (λ b. clash (cc)) g (closed-distinct x v u f (g .distinct)) (omega arith)
+
+-- no service at all
+pub blank-sound : (n m limit : ℕ) → ControlSound n m limit blankControl
+unfolding openServices
+blank-sound n m limit =
+    let z = count-zero (λ i. slotAt blankControl i .busy) 8 none in
+    record {
+      services = λ i h b. absurd (true≢false (sym b ∙ none i h));
+      distinct = λ i j h _ b _. absurd (true≢false (sym b ∙ none i h));
+      most = omega arith;
+    }
+  where
+    none : (i : ℕ) → i < 8 → slotAt blankControl i .busy ≡ false
+    none i h = ap (λ (y : Slot). y .busy) (getD-replicate 8 i free free h)
 
 -- nobody is no lane
 nobody-absent : (j : ℕ) → j < 8 → goesTo nobody j ≡ false
@@ -61,10 +108,10 @@ closed-keeps n ReadExclusive b k h g = record { absent = set-absent n (k .0) nob
 closed-keeps n Exclude b k h g = record { absent = set-absent n (k .0) nobody h (λ j _ l. nobody-absent j l) }
 
 -- close
-pub close-keeps : (h n c m : ℕ) (v : Service) (l : Lane) (b : Block) (x : Control) → v .lane .0 < n → v .block .0 < m →
-    LaneFit h c m l → BlockSound n b → ControlSound n m x → MoveFit h n c m (close v l b x)
+pub close-keeps : (h n c m limit : ℕ) (v : Service) (l : Lane) (b : Block) (x : Control) → v .lane .0 < n → v .block .0 < m →
+    LaneFit h c m l → BlockSound n b → ControlSound n m limit x → MoveFit h n c m limit (close v l b x)
 unfolding close
-close-keeps h n c m v l b x p q f g y =
+close-keeps h n c m limit v l b x p q f g y =
     record {
       lane = f;
       block = closed-keeps n (v .command) b (v .lane) p g;
@@ -98,17 +145,18 @@ ordered-fewer n b k x h l g =
     omega arith
 
 -- memory's part of serve
-pub serve-move-keeps : (h n c m : ℕ) (k : LaneNo) (o : Operation) (l : Lane) (b : Block) (x : Control) → n ≤ 8 → k .0 < n → blockOf (o .word) .0 < m →
-    LaneFit h c m l → BlockSound n b → ControlSound n m x → MoveFit h n c m (serveMove k o l b x)
-serve-move-keeps h n c m k o l b x p q r f g y =
+pub serve-move-keeps : (h n c m limit : ℕ) (k : LaneNo) (o : Operation) (l : Lane) (b : Block) (x : Control) → n ≤ 8 → k .0 < n → blockOf (o .word) .0 < m →
+    engagedOf limit x (blockOf (o .word)) ≡ false → LaneFit h c m l → BlockSound n b → ControlSound n m limit x → MoveFit h n c m limit (serveMove k o l b x)
+serve-move-keeps h n c m limit k o l b x p q r a f g y =
     let t = with-served h c m l f o r in
     let z = ordered-fewer n b k (o .command) p q g in
-    serve-move-rule (MoveFit h n c m) k o l b x
-    (λ _. close-keeps h n c m (serviceFor k o b (countOf (ordered b k (o .command)))) (withWaiting (Served o) l) b x q r t g y)
+    let e = not-engaged limit x (blockOf (o .word)) a in
+    serve-move-rule (MoveFit h n c m limit) k o l b x
+    (λ _. close-keeps h n c m limit (serviceFor k o b (countOf (ordered b k (o .command)))) (withWaiting (Served o) l) b x q r t g y)
     (λ _. record {
       lane = t;
       block = g;
-      control = busy-sound n m (serviceFor k o b (countOf (ordered b k (o .command)))) (record { lane = q; block = r; awaited = z });
+      control = opened-sound n m limit (serviceFor k o b (countOf (ordered b k (o .command)))) x y (record { lane = q; block = r; awaited = z }) (e .0) (e .1);
       message = r;
     })
 
@@ -119,6 +167,6 @@ serve-fit h s k g =
     let f = lane-fit h s g (k .0) (r .lane) in
     let b = f .sound .unserved o (r .unserved) in
     commit-move-keeps h s k (blockOf (o .word)) _ g
-    (serve-move-keeps h (s .shape .n) (s .shape .c) (s .shape .m) k o (laneAt s (k .0)) (blockAt s (blockOf (o .word) .0)) (s .control) (g .sound .n-high) (r .lane) b f
+    (serve-move-keeps h (s .shape .n) (s .shape .c) (s .shape .m) (s .shape .limit) k o (laneAt s (k .0)) (blockAt s (blockOf (o .word) .0)) (s .control) (g .sound .n-high) (r .lane) b (r .free) f
     (g .sound .block (blockOf (o .word) .0) b) (g .sound .control))
     (serve-move-waits k o (laneAt s (k .0)) (blockAt s (blockOf (o .word) .0)) (s .control) (r .unserved)))

@@ -9,6 +9,7 @@ use Rattle.words.specs.declared.LaneNo.{LaneNo}
 use Rattle.words.specs.declared.BlockNo.{BlockNo}
 use Rattle.words.specs.Folds.{upTo}
 use Rattle.words.proofs.Folds.{by-cond}
+use Rattle.queues.specs.Queues.{capacity}
 use Rattle.queues.specs.declared.DownMessage.{DownMessage}
 use Rattle.lanes.specs.declared.Lane.{Lane}
 use Rattle.store.specs.declared.Store.{Store}
@@ -51,6 +52,8 @@ commit-lane-keeps h b s k r one l g f t most = lane-rule (λ (x : Outcome). Fit 
             c-high = a .c-high;
             m-low = a .m-low;
             m-high = a .m-high;
+            limit-low = a .limit-low;
+            limit-high = a .limit-high;
             control = a .control;
             lane = λ j l. set-cases (LaneSound (s .shape .c) (s .shape .m)) (s .lanes) (k .0) j (r .lane) noLane (λ _. f .sound) (a .lane j l);
             block = a .block;
@@ -64,36 +67,36 @@ abbrev Lanes : ℕ → ℕ → ℕ → ℕ → List Lane → Type 0
 Lanes h n c m ls = (j : ℕ) → j < n → LaneFit h c m (getD ls j noLane)
 
 post-keeps : (h n c m : ℕ) (to : List Bool) (x : DownMessage) (i : ℕ) (ls : List Lane) → 1 ≤ m → x .block .0 < m → Lanes h n c m ls →
-    Lanes h n c m (postTo to x i ls)
+    Lanes h n c m (postTo capacity to x i ls)
 unfolding postTo
 post-keeps h n c m to x i ls z b g j l =
-    by-cond (λ (r : List Lane). LaneFit h c m (getD r j noLane)) (goesTo to i) (set ls i (posted x (getD ls i noLane))) ls
-    (set-cases (LaneFit h c m) ls i j (posted x (getD ls i noLane)) noLane
+    by-cond (λ (r : List Lane). LaneFit h c m (getD r j noLane)) (goesTo to i) (set ls i (posted capacity x (getD ls i noLane))) ls
+    (set-cases (LaneFit h c m) ls i j (posted capacity x (getD ls i noLane)) noLane
     (λ e. posted-keeps h c m (getD ls i noLane) (rw e at (g j l)) x z b)
     (g j l))
     (g j l)
 
 posts-keep : (h n c m : ℕ) (to : List Bool) (x : DownMessage) (t : ℕ) (ls : List Lane) → 1 ≤ m → x .block .0 < m → Lanes h n c m ls →
-    Lanes h n c m (upTo (postTo to x) t ls)
+    Lanes h n c m (upTo (postTo capacity to x) t ls)
 unfolding upTo
 posts-keep h n c m to x zero ls z b g = g
-posts-keep h n c m to x (suc t) ls z b g = post-keeps h n c m to x t (upTo (postTo to x) t ls) z b (posts-keep h n c m to x t ls z b g)
+posts-keep h n c m to x (suc t) ls z b g = post-keeps h n c m to x t (upTo (postTo capacity to x) t ls) z b (posts-keep h n c m to x t ls z b g)
 
 -- a message joins the down queues of those that it goes to
 pub post-all-keeps : (h n c m : ℕ) (to : List Bool) (x : DownMessage) (ls : List Lane) → 1 ≤ m → x .block .0 < m → Lanes h n c m ls →
-    Lanes h n c m (postAll to x ls)
+    Lanes h n c m (postAll capacity to x ls)
 unfolding postAll
 post-all-keeps h n c m to x ls z b g = posts-keep h n c m to x 8 ls z b g
 
 -- memory's part of a call within bounds
-pub record MoveFit (h n c m : ℕ) (v : Move) : Type 0 where
+pub record MoveFit (h n c m limit : ℕ) (v : Move) : Type 0 where
   pub lane : LaneFit h c m (v .lane)
   pub block : BlockSound n (v .block)
-  pub control : ControlSound n m (v .control)
+  pub control : ControlSound n m limit (v .control)
   pub message : v .message .block .0 < m
 
 -- the store after memory's part of a call
-pub commit-move-keeps : (h : ℕ) (s : Store) (k : LaneNo) (a : BlockNo) (v : Move) → Fit h s → MoveFit h (s .shape .n) (s .shape .c) (s .shape .m) v →
+pub commit-move-keeps : (h : ℕ) (s : Store) (k : LaneNo) (a : BlockNo) (v : Move) → Fit h s → MoveFit h (s .shape .n) (s .shape .c) (s .shape .m) (s .shape .limit) v →
     waits (v .lane) ≡ waits (laneAt s (k .0)) → Fit h (commitMove s k a v .store)
 commit-move-keeps h s k a v g f d =
     move-rule (λ (r : Outcome). Fit h (r .store)) s k a v (λ _. g)
@@ -106,6 +109,8 @@ commit-move-keeps h s k a v g f d =
         c-high = b .c-high;
         m-low = b .m-low;
         m-high = b .m-high;
+        limit-low = b .limit-low;
+        limit-high = b .limit-high;
         control = f .control;
         lane = λ j l. after j l .sound;
         block = λ j l. set-cases (BlockSound (s .shape .n)) (s .blocks) (a .0) j (v .block) noBlock (λ _. f .block) (b .block j l);
@@ -114,7 +119,7 @@ commit-move-keeps h s k a v g f d =
       long = λ j l. after j l .long;
     })
   where
-    after : Lanes h (s .shape .n) (s .shape .c) (s .shape .m) (postAll (v .to) (v .message) (set (s .lanes) (k .0) (v .lane)))
+    after : Lanes h (s .shape .n) (s .shape .c) (s .shape .m) (postAll capacity (v .to) (v .message) (set (s .lanes) (k .0) (v .lane)))
     after =
         post-all-keeps h (s .shape .n) (s .shape .c) (s .shape .m) (v .to) (v .message) (set (s .lanes) (k .0) (v .lane)) (g .sound .m-low) (f .message)
         (λ j l. set-cases (LaneFit h (s .shape .c) (s .shape .m)) (s .lanes) (k .0) j (v .lane) noLane (λ _. f .lane) (lane-fit h s g j l))

@@ -29,7 +29,7 @@ use Rattle.queues.specs.declared.DownKind.the-variants.{Update, Purge, Grant, B
 use Rattle.queues.specs.declared.DownQueue.{DownQueue}
 use Rattle.queues.specs.declared.DownPushed.{DownPushed}
 use Rattle.queues.specs.declared.DownTaken.{DownTaken}
-use Rattle.queues.specs.Queues.{fullAt, emptyAt, headReturn, headDown, pushReturn, pushDown, takeReturn, takeDown}
+use Rattle.queues.specs.Queues.{capacity, fullAt, emptyAt, headReturn, headDown, pushReturn, pushDown, takeReturn, takeDown}
 use Rattle.lanes.specs.declared.Lane.{Lane}
 use Rattle.lanes.specs.declared.Operation.{Operation}
 use Rattle.lanes.specs.declared.Command.{Command}
@@ -45,6 +45,9 @@ use Rattle.answers.specs.declared.Refusal.the-variants.{NothingPending}
 use Rattle.store.specs.declared.Store.{Store}
 use Rattle.store.specs.declared.Block.{Block}
 use Rattle.store.specs.declared.Control.{Control}
+use Rattle.store.specs.declared.Slot.{Slot}
+use Rattle.store.specs.Control.{slotCount, free, slotOf, freeSlot, withSlot, withService, withUpdated, withoutService}
+use Rattle.queues.proofs.Shifts.{length-shifted}
 use Rattle.store.specs.declared.Outcome.{Outcome}
 use Rattle.store.specs.Opening.{blankLane, blankBlock, freshOf}
 use Rattle.store.specs.Stores.{noLane, noBlock, laneAt, blockAt}
@@ -68,27 +71,27 @@ use Rattle.machine.proofs.rules.RulesSettle.{step-rule}
 use Rattle.machine.proofs.rules.RulesMemory.{return-move-rule, serve-move-rule}
 
 -- a message joins a queue, or the head leaves it: its places stay 2
-push-return-sized : (q : ReturnQueue) (x : ReturnMessage) → length (q .at) ≡ 2 → length (pushReturn q x .queue .at) ≡ 2
+push-return-sized : (q : ReturnQueue) (x : ReturnMessage) → length (q .at) ≡ capacity → length (pushReturn capacity q x .queue .at) ≡ capacity
 push-return-sized q x e =
-    by-cond (λ (r : ReturnPushed). length (r .queue .at) ≡ 2) (fullAt (q .len)) _ _ e (length-set (q .at) (q .len) x ∙ e)
+    by-cond (λ (r : ReturnPushed). length (r .queue .at) ≡ capacity) (fullAt capacity (q .len)) _ _ e (length-set (q .at) (q .len) x ∙ e)
 
-push-down-sized : (q : DownQueue) (x : DownMessage) → length (q .at) ≡ 2 → length (pushDown q x .queue .at) ≡ 2
+push-down-sized : (q : DownQueue) (x : DownMessage) → length (q .at) ≡ capacity → length (pushDown capacity q x .queue .at) ≡ capacity
 push-down-sized q x e =
-    by-cond (λ (r : DownPushed). length (r .queue .at) ≡ 2) (fullAt (q .len)) _ _ e (length-set (q .at) (q .len) x ∙ e)
+    by-cond (λ (r : DownPushed). length (r .queue .at) ≡ capacity) (fullAt capacity (q .len)) _ _ e (length-set (q .at) (q .len) x ∙ e)
 
-take-return-sized : (q : ReturnQueue) → length (q .at) ≡ 2 → length (takeReturn q .queue .at) ≡ 2
+take-return-sized : (q : ReturnQueue) → length (q .at) ≡ capacity → length (takeReturn q .queue .at) ≡ capacity
 take-return-sized q e =
-    by-cond (λ (r : ReturnTaken). length (r .queue .at) ≡ 2) (emptyAt (q .len)) _ _ e (length-set (q .at) 0 _ ∙ e)
+    by-cond (λ (r : ReturnTaken). length (r .queue .at) ≡ capacity) (emptyAt (q .len)) _ _ e (length-shifted (q .at) ∙ e)
 
-take-down-sized : (q : DownQueue) → length (q .at) ≡ 2 → length (takeDown q .queue .at) ≡ 2
+take-down-sized : (q : DownQueue) → length (q .at) ≡ capacity → length (takeDown q .queue .at) ≡ capacity
 take-down-sized q e =
-    by-cond (λ (r : DownTaken). length (r .queue .at) ≡ 2) (emptyAt (q .len)) _ _ e (length-set (q .at) 0 _ ∙ e)
+    by-cond (λ (r : DownTaken). length (r .queue .at) ≡ capacity) (emptyAt (q .len)) _ _ e (length-shifted (q .at) ∙ e)
 
 module _ (l : Lane) (g : LaneSized l) where
-  with-returns-sized : (q : ReturnQueue) → length (q .at) ≡ 2 → LaneSized (withReturns q l)
+  with-returns-sized : (q : ReturnQueue) → length (q .at) ≡ capacity → LaneSized (withReturns q l)
   with-returns-sized q e = record { lines = g .lines; order = g .order; returns = e; downs = g .downs }
 
-  with-downs-sized : (q : DownQueue) → length (q .at) ≡ 2 → LaneSized (withDowns q l)
+  with-downs-sized : (q : DownQueue) → length (q .at) ≡ capacity → LaneSized (withDowns q l)
   with-downs-sized q e = record { lines = g .lines; order = g .order; returns = g .returns; downs = e }
 
   with-waiting-sized : (w : Waiting) → LaneSized (withWaiting w l)
@@ -115,10 +118,10 @@ module _ (l : Lane) (g : LaneSized l) where
       (complete-sized _ i (lineAt l i) op w (used-kept c i (l .order) .0))
       (with-waiting-sized _)
 
-  evict-sized : (i : LineNo) (op : Op) (w : WordNo) → LaneSized (evict i op w l .lane)
+  evict-sized : (i : LineNo) (op : Op) (w : WordNo) → LaneSized (evict capacity i op w l .lane)
   unfolding evict
   evict-sized i op w =
-      by-cond (λ (r : LaneStep). LaneSized (r .lane)) (pushReturn (l .returns) (ejectOf (lineAt l i)) .full) _ _ g
+      by-cond (λ (r : LaneStep). LaneSized (r .lane)) (pushReturn capacity (l .returns) (ejectOf (lineAt l i)) .full) _ _ g
       (record {
         lines = length-set (l .lines) (i .0) (invalid (lineAt l i)) ∙ g .lines;
         order = g .order;
@@ -126,36 +129,36 @@ module _ (l : Lane) (g : LaneSized l) where
         downs = g .downs;
       })
 
-  miss-sized : (op : Op) (w : WordNo) (f : Found) → LaneSized (missWith f op w l .lane)
+  miss-sized : (op : Op) (w : WordNo) (f : Found) → LaneSized (missWith capacity f op w l .lane)
   miss-sized op w (At i) = with-waiting-sized _
   miss-sized op w Nothing = evict-sized (placeAt (l .order) 0) op w
 
-  begin-at-sized : (c : ℕ) (op : Op) (w : WordNo) (f : Found) → LaneSized (beginAt f c op w l .lane)
+  begin-at-sized : (c : ℕ) (op : Op) (w : WordNo) (f : Found) → LaneSized (beginAt capacity f c op w l .lane)
   unfolding miss
   begin-at-sized c op w (At i) = hit-sized c i op w
   begin-at-sized c op w Nothing = miss-sized op w (vacantOf l c)
 
   -- the lane's part of begin
-  pub begin-lane-sized : (c : ℕ) (op : Op) (w : WordNo) → LaneSized (beginLane c op w l .lane)
+  pub begin-lane-sized : (c : ℕ) (op : Op) (w : WordNo) → LaneSized (beginLane capacity c op w l .lane)
   unfolding beginLane
   begin-lane-sized c op w = begin-at-sized c op w (searchOf l c (blockOf w))
 
   -- a message joins the down queue
-  posted-sized : (x : DownMessage) → LaneSized (posted x l)
-  posted-sized x = with-downs-sized (pushDown (l .downs) x .queue) (push-down-sized (l .downs) x (g .downs))
+  posted-sized : (x : DownMessage) → LaneSized (posted capacity x l)
+  posted-sized x = with-downs-sized (pushDown capacity (l .downs) x .queue) (push-down-sized (l .downs) x (g .downs))
 
-  reply-sized : (x : ReturnMessage) → LaneSized (reply x l .lane)
+  reply-sized : (x : ReturnMessage) → LaneSized (reply capacity x l .lane)
   unfolding reply
   reply-sized x =
-      by-cond (λ (r : LaneStep). LaneSized (r .lane)) (pushReturn (l .returns) x .full) _ _ g
-      (with-returns-sized (pushReturn (l .returns) x .queue) (push-return-sized (l .returns) x (g .returns)))
+      by-cond (λ (r : LaneStep). LaneSized (r .lane)) (pushReturn capacity (l .returns) x .full) _ _ g
+      (with-returns-sized (pushReturn capacity (l .returns) x .queue) (push-return-sized (l .returns) x (g .returns)))
 
 module _ (ins : Insertion) (c : ℕ) (l : Lane) (g : LaneSized l) where
-  update-sized : (a : BlockNo) (f : Found) → LaneSized (updateAt f a l .lane)
+  update-sized : (a : BlockNo) (f : Found) → LaneSized (updateAt capacity f a l .lane)
   update-sized a (At i) = reply-sized (withLine i (shared (lineAt l i)) l) (with-line-sized l g i (shared (lineAt l i))) _
   update-sized a Nothing = reply-sized l g _
 
-  purge-sized : (a : BlockNo) (f : Found) → LaneSized (purgeAt f a l .lane)
+  purge-sized : (a : BlockNo) (f : Found) → LaneSized (purgeAt capacity f a l .lane)
   purge-sized a (At i) = reply-sized (withLine i (invalid (lineAt l i)) l) (with-line-sized l g i (invalid (lineAt l i))) _
   purge-sized a Nothing = reply-sized l g _
 
@@ -179,14 +182,14 @@ module _ (ins : Insertion) (c : ℕ) (l : Lane) (g : LaneSized l) where
   bares-sized x (No n) = g
   bares-sized x (Go o) = bare-sized o (searchOf l c (x .block))
 
-  kind-sized : (y : DownKind) (x : DownMessage) → LaneSized (deliverKind ins y c x l .lane)
+  kind-sized : (y : DownKind) (x : DownMessage) → LaneSized (deliverKind capacity ins y c x l .lane)
   kind-sized Update x = update-sized (x .block) (searchOf l c (x .block))
   kind-sized Purge x = purge-sized (x .block) (searchOf l c (x .block))
   kind-sized Grant x = grants-sized x (servedOn (l .waiting) (x .block))
   kind-sized BareGrant x = bares-sized x (servedOn (l .waiting) (x .block))
 
 -- the lane's part of deliver
-pub deliver-lane-sized : (ins : Insertion) (c : ℕ) (l : Lane) → LaneSized l → LaneSized (deliverLane ins c l .lane)
+pub deliver-lane-sized : (ins : Insertion) (c : ℕ) (l : Lane) → LaneSized l → LaneSized (deliverLane capacity ins c l .lane)
 unfolding deliverLane
 deliver-lane-sized ins c l g =
     by-cond (λ (r : LaneStep). LaneSized (r .lane)) (emptyAt (l .downs .len)) (refuseLane NothingPending l) _ g
@@ -195,7 +198,7 @@ deliver-lane-sized ins c l g =
     (with-downs-sized l g (takeDown (l .downs) .queue) (take-down-sized (l .downs) (g .downs))) (headDown (l .downs) .kind) (headDown (l .downs))))
   where
     took : LaneStep
-    took = deliverKind ins (headDown (l .downs) .kind) c (headDown (l .downs)) (withDowns (takeDown (l .downs) .queue) l)
+    took = deliverKind capacity ins (headDown (l .downs) .kind) c (headDown (l .downs)) (withDowns (takeDown (l .downs) .queue) l)
 
 -- the lanes of a store, all of them with their lengths
 pub record LanesSized (ls : List Lane) : Type 0 where
@@ -209,19 +212,19 @@ set-lane-sized ls k l g f =
       lane = λ j h. set-cases LaneSized ls k j l noLane (λ e. f (rw e at h)) (g .lane j h);
     }
 
-post-sized : (to : List Bool) (x : DownMessage) (i : ℕ) (ls : List Lane) → LanesSized ls → LanesSized (postTo to x i ls)
+post-sized : (to : List Bool) (x : DownMessage) (i : ℕ) (ls : List Lane) → LanesSized ls → LanesSized (postTo capacity to x i ls)
 unfolding postTo
 post-sized to x i ls g =
-    by-cond LanesSized (goesTo to i) (set ls i (posted x (getD ls i noLane))) ls
-    (set-lane-sized ls i (posted x (getD ls i noLane)) g (λ h. posted-sized (getD ls i noLane) (g .lane i h) x))
+    by-cond LanesSized (goesTo to i) (set ls i (posted capacity x (getD ls i noLane))) ls
+    (set-lane-sized ls i (posted capacity x (getD ls i noLane)) g (λ h. posted-sized (getD ls i noLane) (g .lane i h) x))
     g
 
-posts-sized : (to : List Bool) (x : DownMessage) (t : ℕ) (ls : List Lane) → LanesSized ls → LanesSized (upTo (postTo to x) t ls)
+posts-sized : (to : List Bool) (x : DownMessage) (t : ℕ) (ls : List Lane) → LanesSized ls → LanesSized (upTo (postTo capacity to x) t ls)
 unfolding upTo
 posts-sized to x zero ls g = g
-posts-sized to x (suc t) ls g = post-sized to x t (upTo (postTo to x) t ls) (posts-sized to x t ls g)
+posts-sized to x (suc t) ls g = post-sized to x t (upTo (postTo capacity to x) t ls) (posts-sized to x t ls g)
 
-post-all-sized : (to : List Bool) (x : DownMessage) (ls : List Lane) → LanesSized ls → LanesSized (postAll to x ls)
+post-all-sized : (to : List Bool) (x : DownMessage) (ls : List Lane) → LanesSized ls → LanesSized (postAll capacity to x ls)
 unfolding postAll
 post-all-sized to x ls g = posts-sized to x 8 ls g
 
@@ -233,20 +236,25 @@ pub commit-lane-sized : (s : Store) (k : LaneNo) (r : LaneStep) → Sized s → 
 commit-lane-sized s k r g f =
     lane-rule (λ (x : Outcome). Sized (x .store)) s k r (λ _ _. g)
     (λ _. let t = set-lane-sized (s .lanes) (k .0) (r .lane) (lanes-sized s g) f in
-    record { lanes = t .lanes; blocks = g .blocks; lane = t .lane; present = g .present })
+    record { lanes = t .lanes; slots = g .slots; blocks = g .blocks; lane = t .lane; present = g .present })
 
 -- the store after memory's part of a call
 pub commit-move-sized : (s : Store) (k : LaneNo) (a : BlockNo) (v : Move) → Sized s → (k .0 < 8 → LaneSized (v .lane)) →
-    (a .0 < 64 → length (v .block .present) ≡ 8) → Sized (commitMove s k a v .store)
-commit-move-sized s k a v g f b =
+    length (v .control .slots) ≡ slotCount → (a .0 < 64 → length (v .block .present) ≡ 8) → Sized (commitMove s k a v .store)
+commit-move-sized s k a v g f x b =
     move-rule (λ (r : Outcome). Sized (r .store)) s k a v (λ _. g)
     (λ _ _. let t = post-all-sized (v .to) (v .message) _ (set-lane-sized (s .lanes) (k .0) (v .lane) (lanes-sized s g) f) in
     record {
       lanes = t .lanes;
+      slots = x;
       blocks = length-set (s .blocks) (a .0) (v .block) ∙ g .blocks;
       lane = t .lane;
       present = λ j h. set-cases (λ (y : Block). length (y .present) ≡ 8) (s .blocks) (a .0) j (v .block) noBlock (λ e. b (rw e at h)) (g .present j h);
     })
+
+-- the control with another slot
+slot-sized : (i : ℕ) (y : Slot) (x : Control) → length (x .slots) ≡ slotCount → length (withSlot i y x .slots) ≡ slotCount
+slot-sized i y x e = length-set (x .slots) i y ∙ e
 
 -- the flags of one lane alone
 only-sized : (k : LaneNo) → length (only k) ≡ 8
@@ -267,6 +275,10 @@ serve-move-present : (k : LaneNo) (o : Operation) (l : Lane) (b : Block) (x : Co
 unfolding close
 serve-move-present k o l b x e =
     serve-move-rule (λ (v : Move). length (v .block .present) ≡ 8) k o l b x (λ _. closed-sized (o .command) b k e) (λ _. e)
+
+serve-move-slots : (k : LaneNo) (o : Operation) (l : Lane) (b : Block) (x : Control) → length (x .slots) ≡ slotCount → length (serveMove k o l b x .control .slots) ≡ slotCount
+unfolding close withService
+serve-move-slots k o l b x e = serve-move-rule (λ (v : Move). length (v .control .slots) ≡ slotCount) k o l b x (λ _. e) (λ _. slot-sized (freeSlot x) _ x e)
 
 -- memory's part of return
 taken-by-sized : (x : ReturnKind) (ws : List ℕ) (k : LaneNo) (b : Block) → length (b .present) ≡ 8 → length (takenBy x ws k b .present) ≡ 8
@@ -290,6 +302,11 @@ return-move-present k x l b y e =
     let u = taken-by-sized (x .kind) (x .words) k b e in
     return-move-rule (λ (v : Move). length (v .block .present) ≡ 8) k x l b y (λ _. u) e (λ _ v _ _. closed-sized (v .command) _ (v .lane) u) (λ _ v _ _. u)
 
+return-move-slots : (k : LaneNo) (x : ReturnMessage) (l : Lane) (b : Block) (y : Control) → length (y .slots) ≡ slotCount → length (returnMove k x l b y .control .slots) ≡ slotCount
+unfolding close withUpdated withoutService
+return-move-slots k x l b y e =
+    return-move-rule (λ (v : Move). length (v .control .slots) ≡ slotCount) k x l b y (λ _. e) e (λ _ v _ _. slot-sized (slotOf y (v .block)) free y e) (λ _ v _ _. slot-sized (slotOf y (v .block)) _ y e)
+
 -- an opening
 blank-sized : LaneSized blankLane
 unfolding blankLane
@@ -300,6 +317,7 @@ unfolding freshOf blankBlock
 open-sized shape =
     record {
       lanes = length-replicate 8 blankLane;
+      slots = length-replicate 8 free;
       blocks = length-replicate 64 blankBlock;
       lane = λ k h. rw (getD-replicate 8 k blankLane noLane h) blank-sized;
       present = λ a h. rw (getD-replicate 64 a blankBlock noBlock h) (length-replicate 8 false);
@@ -316,6 +334,7 @@ serve-sized s k g =
     serve-rule (λ (r : Outcome). Sized (r .store)) s k (λ _. g)
     (λ o _. commit-move-sized s k (blockOf (o .word)) _ g
     (λ h. serve-move-lane k o (laneAt s (k .0)) (blockAt s (blockOf (o .word) .0)) (s .control) (g .lane (k .0) h))
+    (serve-move-slots k o (laneAt s (k .0)) (blockAt s (blockOf (o .word) .0)) (s .control) (g .slots))
     (λ h. serve-move-present k o (laneAt s (k .0)) (blockAt s (blockOf (o .word) .0)) (s .control) (g .present (blockOf (o .word) .0) h)))
 
 pub return-sized : (s : Store) (k : LaneNo) → Sized s → Sized (returnOf s k .store)
@@ -325,6 +344,7 @@ return-sized s k g =
     let x = headReturn (laneAt s (k .0) .returns) in
     commit-move-sized s k (x .block) _ g
     (λ h. return-move-lane k x (laneAt s (k .0)) (blockAt s (x .block .0)) (s .control) (g .lane (k .0) h))
+    (return-move-slots k x (laneAt s (k .0)) (blockAt s (x .block .0)) (s .control) (g .slots))
     (λ h. return-move-present k x (laneAt s (k .0)) (blockAt s (x .block .0)) (s .control) (g .present (x .block .0) h)))
 
 pub deliver-sized : (ins : Insertion) (s : Store) (k : LaneNo) → Sized s → Sized (deliverOf ins s k .store)

@@ -10,7 +10,7 @@ use Rattle.lanes.specs.UseOrder.{Insertion}
 use Rattle.answers.specs.declared.Completion.{Completion}
 use Rattle.store.specs.declared.Store.{Store}
 use Rattle.store.specs.declared.Outcome.{Outcome}
-use Rattle.store.specs.Opening.{badShape, freshOf, openOf}
+use Rattle.store.specs.Opening.{badShape, badLimit, freshOf, openOf}
 use Rattle.machine.specs.Calls.{Call, callOf, run, Entry, completionsOf, isWait}
 use Rattle.machine.specs.Attribution.{Attributed, LastWaits, noWaits, waitsAfter, attribute}
 use Rattle.machine.specs.Places.{numbersFrom}
@@ -40,7 +40,8 @@ attributed-given i last (e ∷ es) =
 -- an opening has completed nothing
 open-none : (shape : Shape) → openOf shape .store .completions ≡ 0
 unfolding openOf freshOf
-open-none shape = by-cond (λ (r : Outcome). r .store .completions ≡ 0) (badShape shape) _ _ refl refl
+open-none shape =
+    by-cond (λ (r : Outcome). r .store .completions ≡ 0) (badShape shape) _ _ refl (by-cond (λ (r : Outcome). r .store .completions ≡ 0) (badLimit shape) _ _ refl refl)
 
 -- from an opening the places are 1, 2, 3 ..
 pub places-run : (ins : Insertion) (shape : Shape) (cs : List Call) →

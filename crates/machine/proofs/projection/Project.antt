@@ -14,7 +14,7 @@ use Rattle.words.specs.declared.LaneNo.{LaneNo}
 use Rattle.words.specs.declared.BlockNo.{BlockNo}
 use Rattle.words.proofs.Folds.{below?, any-false, by-cond}
 use Rattle.queues.specs.declared.DownMessage.{DownMessage}
-use Rattle.queues.specs.Queues.{fullAt, messages}
+use Rattle.queues.specs.Queues.{capacity, fullAt, messages}
 use Rattle.lanes.specs.declared.Lane.{Lane}
 use Rattle.store.specs.declared.Store.{Store}
 use Rattle.store.specs.declared.Block.{Block}
@@ -63,17 +63,17 @@ project-lane-same s k l a h e =
 
 -- every lane, after a message to those that it goes to
 pub post-at : (to : List Bool) (x : DownMessage) (ls : List Lane) (j : ℕ) → length to ≡ 8 → length ls ≡ 8 →
-    getD (postAll to x ls) j noLane ≡ cond (goesTo to j) (posted x (getD ls j noLane)) (getD ls j noLane)
+    getD (postAll capacity to x ls) j noLane ≡ cond (goesTo to j) (posted capacity x (getD ls j noLane)) (getD ls j noLane)
 post-at to x ls j t l = go (below? j 8)
   where
-    go : (j < 8) ⊎ (8 ≤ j) → getD (postAll to x ls) j noLane ≡ cond (goesTo to j) (posted x (getD ls j noLane)) (getD ls j noLane)
-    go (inl h) = post-all-at to x j ls h (omega arith)
+    go : (j < 8) ⊎ (8 ≤ j) → getD (postAll capacity to x ls) j noLane ≡ cond (goesTo to j) (posted capacity x (getD ls j noLane)) (getD ls j noLane)
+    go (inl h) = post-all-at capacity to x j ls h (omega arith)
     go (inr h) =
-        let z = post-all-length to x ls in
+        let z = post-all-length capacity to x ls in
         let p : length to ≤ j = omega arith in
         let q : length ls ≤ j = omega arith in
-        let r : length (postAll to x ls) ≤ j = omega arith in
-        rw (List·getD-eq-default to false p, List·getD-eq-default ls noLane q, List·getD-eq-default (postAll to x ls) noLane r)
+        let r : length (postAll capacity to x ls) ≤ j = omega arith in
+        rw (List·getD-eq-default to false p, List·getD-eq-default ls noLane q, List·getD-eq-default (postAll capacity to x ls) noLane r)
 
 -- a message goes to lanes only
 pub goes-below : (to : List Bool) (j : ℕ) → length to ≡ 8 → goesTo to j ≡ true → j < 8
@@ -87,11 +87,11 @@ goes-below to j t e = go (below? j 8)
         clash (cc)
 
 -- the lanes that a message goes to have room for it
-pub room : (to : List Bool) (ls : List Lane) (j : ℕ) → length to ≡ 8 → someFull to ls ≡ false → goesTo to j ≡ true → getD ls j noLane .downs .len < 2
+pub room : (to : List Bool) (ls : List Lane) (j : ℕ) → length to ≡ 8 → someFull capacity to ls ≡ false → goesTo to j ≡ true → getD ls j noLane .downs .len < capacity
 unfolding someFull
 room to ls j t e g =
-    leb-false 2 (getD ls j noLane .downs .len)
-    (and-right (goesTo to j) (fullAt (getD ls j noLane .downs .len)) (any-false (λ i. goesTo to i && fullAt (getD ls i noLane .downs .len)) 8 j e (goes-below to j t g)) g)
+    leb-false capacity (getD ls j noLane .downs .len)
+    (and-right (goesTo to j) (fullAt capacity (getD ls j noLane .downs .len)) (any-false (λ i. goesTo to i && fullAt capacity (getD ls i noLane .downs .len)) 8 j e (goes-below to j t g)) g)
 
 -- a lane with one down message more, or as it was
 post-pick : (b : Bool) (x : DownMessage) (l : Seen) →
@@ -101,20 +101,20 @@ post-pick true x l = refl
 post-pick false x l = refl
 
 -- a lane that a message joined, as a block sees it
-pub seen-posted : (c : ℕ) (a : BlockNo) (x : DownMessage) (l : Lane) → LaneSized l → l .downs .len < 2 →
-    seen c a (posted x l) ≡ cond (downAbout a x) (postSeen x (seen c a l)) (seen c a l)
+pub seen-posted : (c : ℕ) (a : BlockNo) (x : DownMessage) (l : Lane) → LaneSized l → l .downs .len < capacity →
+    seen c a (posted capacity x l) ≡ cond (downAbout a x) (postSeen x (seen c a l)) (seen c a l)
 unfolding seen
 seen-posted c a x l z h =
-    rw (lt-leb 2 (l .downs .len) h, push-messages (l .downs .len) (l .downs .at) x (z .downs) h, keep-join (downAbout a) (messages (l .downs .len) (l .downs .at)) x)
+    rw (lt-leb capacity (l .downs .len) h, push-messages (l .downs .len) (l .downs .at) x (z .downs) h, keep-join (downAbout a) (messages (l .downs .len) (l .downs .at)) x)
     (post-pick (downAbout a x) x (seen c a l))
 
 -- lane j of a store in which lane k was put back and a message sent to some lanes
 pub lane-sent : (s : Store) (k : ℕ) (l : Lane) (to : List Bool) (x : DownMessage) (j : ℕ) → length to ≡ 8 → length (s .lanes) ≡ 8 → k < 8 →
-    getD (postAll to x (set (s .lanes) k l)) j noLane ≡ cond (goesTo to j) (posted x (cond (eqb j k) l (laneAt s j))) (cond (eqb j k) l (laneAt s j))
+    getD (postAll capacity to x (set (s .lanes) k l)) j noLane ≡ cond (goesTo to j) (posted capacity x (cond (eqb j k) l (laneAt s j))) (cond (eqb j k) l (laneAt s j))
 lane-sent s k l to x j t n h =
     let z = length-set (s .lanes) k l in
     post-at to x (set (s .lanes) k l) j t (z ∙ n) ∙
-    ap (λ (y : Lane). cond (goesTo to j) (posted x y) y) (getD-set (s .lanes) k j l noLane (omega arith))
+    ap (λ (y : Lane). cond (goesTo to j) (posted capacity x y) y) (getD-set (s .lanes) k j l noLane (omega arith))
 
 -- what memory's part of a call has to show: sizes, room in the queues, and that its message is about its block
 pub record Moves (s : Store) (k : LaneNo) (a : BlockNo) (v : Move) : Type 0 where
@@ -123,7 +123,7 @@ pub record Moves (s : Store) (k : LaneNo) (a : BlockNo) (v : Move) : Type 0 wher
   pub block-below : a .0 < 64
   pub to : length (v .to) ≡ 8
   pub lane : LaneSized (v .lane)
-  pub space : someFull (v .to) (set (s .lanes) (k .0) (v .lane)) ≡ false
+  pub space : someFull capacity (v .to) (set (s .lanes) (k .0) (v .lane)) ≡ false
   pub about : (j : ℕ) → goesTo (v .to) j ≡ true → v .message .block .0 ≡ a .0
 
 module _ (s : Store) (k : LaneNo) (x : BlockNo) (v : Move) (g : Moves s k x v) where
@@ -135,7 +135,7 @@ module _ (s : Store) (k : LaneNo) (x : BlockNo) (v : Move) (g : Moves s k x v) w
   unfolding was
   was-sized j h = by-cond LaneSized (eqb j (k .0)) (v .lane) (laneAt s j) (g .lane) (g .sized .lane j h)
 
-  pub was-room : (j : ℕ) → goesTo (v .to) j ≡ true → was j .downs .len < 2
+  pub was-room : (j : ℕ) → goesTo (v .to) j ≡ true → was j .downs .len < capacity
   unfolding was
   was-room j e =
       let z = g .sized .lanes in
@@ -145,7 +145,7 @@ module _ (s : Store) (k : LaneNo) (x : BlockNo) (v : Move) (g : Moves s k x v) w
 
   -- each lane, as block a sees it
   lane-seen : (a : BlockNo) (j : ℕ) →
-      seen (s .shape .c) a (getD (postAll (v .to) (v .message) (set (s .lanes) (k .0) (v .lane))) j noLane) ≡
+      seen (s .shape .c) a (getD (postAll capacity (v .to) (v .message) (set (s .lanes) (k .0) (v .lane))) j noLane) ≡
       cond (goesTo (v .to) j && downAbout a (v .message)) (postSeen (v .message) (seen (s .shape .c) a (was j))) (seen (s .shape .c) a (was j))
   unfolding was
   lane-seen a j =

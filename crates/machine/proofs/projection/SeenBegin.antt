@@ -19,7 +19,7 @@ use Rattle.words.specs.Operations.{performOf, isLoad}
 use Rattle.words.proofs.Folds.{or-left, or-right, pick}
 use Rattle.queues.specs.declared.ReturnMessage.{ReturnMessage}
 use Rattle.queues.specs.declared.ReturnQueue.{ReturnQueue}
-use Rattle.queues.specs.Queues.{pushReturn}
+use Rattle.queues.specs.Queues.{capacity, pushReturn}
 use Rattle.lanes.specs.declared.Lane.{Lane}
 use Rattle.lanes.specs.declared.Command.{Command}
 use Rattle.lanes.specs.declared.Command.the-variants.{Exclude}
@@ -134,18 +134,18 @@ module _ (o : List LineNo) (c : ℕ) (l : Lane) (long : c ≤ length (l .lines))
       seen-same c a l (completeWith o i x op w l .lane) s refl refl refl
 
 -- a queue that took a message had a free place
-pub push-room : (q : ReturnQueue) (m : ReturnMessage) → pushReturn q m .full ≡ false → q .len < 2
-push-room q m e = on (leb 2 (q .len)) (λ t. clash (cc (rw t at e))) (λ t. leb-false 2 (q .len) t)
+pub push-room : (q : ReturnQueue) (m : ReturnMessage) → pushReturn capacity q m .full ≡ false → q .len < capacity
+push-room q m e = on (leb capacity (q .len)) (λ t. clash (cc (rw t at e))) (λ t. leb-false capacity (q .len) t)
 
 -- a message joins the return queue: the block it is about sees it, the others do not
-module _ (q : ReturnQueue) (m : ReturnMessage) (z : length (q .at) ≡ 2) (room : q .len < 2) (a : BlockNo) where
-  returns-after : keepIf (returnAbout a) (queuedReturns (pushReturn q m .queue)) ≡ cond (returnAbout a m) (keepIf (returnAbout a) (queuedReturns q) ++ (m ∷ [])) (keepIf (returnAbout a) (queuedReturns q))
+module _ (q : ReturnQueue) (m : ReturnMessage) (z : length (q .at) ≡ capacity) (room : q .len < capacity) (a : BlockNo) where
+  returns-after : keepIf (returnAbout a) (queuedReturns (pushReturn capacity q m .queue)) ≡ cond (returnAbout a m) (keepIf (returnAbout a) (queuedReturns q) ++ (m ∷ [])) (keepIf (returnAbout a) (queuedReturns q))
   returns-after = ap (keepIf (returnAbout a)) (push-returns q m z room) ∙ keep-join (returnAbout a) (queuedReturns q) m
 
-  pub returns-here : m .block .0 ≡ a .0 → keepIf (returnAbout a) (queuedReturns (pushReturn q m .queue)) ≡ keepIf (returnAbout a) (queuedReturns q) ++ (m ∷ [])
+  pub returns-here : m .block .0 ≡ a .0 → keepIf (returnAbout a) (queuedReturns (pushReturn capacity q m .queue)) ≡ keepIf (returnAbout a) (queuedReturns q) ++ (m ∷ [])
   returns-here e = returns-after ∙ rw (eq-eqb (m .block .0) (a .0) e)
 
-  pub returns-other : m .block .0 ≢ a .0 → keepIf (returnAbout a) (queuedReturns (pushReturn q m .queue)) ≡ keepIf (returnAbout a) (queuedReturns q)
+  pub returns-other : m .block .0 ≢ a .0 → keepIf (returnAbout a) (queuedReturns (pushReturn capacity q m .queue)) ≡ keepIf (returnAbout a) (queuedReturns q)
   returns-other n = returns-after ∙ rw (ne-eqb (m .block .0) (a .0) n)
 
 -- the ejection of a line is about its block, and is the one that the block sees
@@ -157,10 +157,10 @@ eject-seen x l = on (x .private) (λ p. rw p) (λ p. rw p)
 
 -- the lane with line i given up
 abbrev pub evicted : LineNo → Lane → Lane
-evicted i l = withReturns (pushReturn (l .returns) (ejectOf (lineAt l i)) .queue) (withLine i (invalid (lineAt l i)) l)
+evicted i l = withReturns (pushReturn capacity (l .returns) (ejectOf (lineAt l i)) .queue) (withLine i (invalid (lineAt l i)) l)
 
 -- line i is given up: it is valid, and the return queue has a free place
-module _ (c : ℕ) (l : Lane) (z : LaneSized l) (b : c ≤ 8) (u : Unique c l) (i : LineNo) (h : i .0 < c) (v : lineAt l i .valid ≡ true) (room : l .returns .len < 2) where
+module _ (c : ℕ) (l : Lane) (z : LaneSized l) (b : c ≤ 8) (u : Unique c l) (i : LineNo) (h : i .0 < c) (v : lineAt l i .valid ≡ true) (room : l .returns .len < capacity) where
   evict-changed : Changed i (invalid (lineAt l i)) l (evicted i l)
   evict-changed = let s = z .lines in set-changed i (invalid (lineAt l i)) l (evicted i l) refl (omega arith)
 
@@ -321,7 +321,7 @@ module _ (c : ℕ) (op : Op) (w : WordNo) (l : Lane) (z : LaneSized l) (b : c �
           others = wait-other (readOf op) l idle;
         }
 
-    evict-case : (i : LineNo) → i .0 < c → lineAt l i .valid ≡ true → l .returns .len < 2 → EvictCase c op w l (waits (readOf op) op w (evicted i l))
+    evict-case : (i : LineNo) → i .0 < c → lineAt l i .valid ≡ true → l .returns .len < capacity → EvictCase c op w l (waits (readOf op) op w (evicted i l))
     evict-case i h v room =
         record {
           wait = record {
@@ -342,22 +342,22 @@ module _ (c : ℕ) (op : Op) (w : WordNo) (l : Lane) (z : LaneSized l) (b : c �
         apart : lineAt l i .block .0 ≢ blockOf w .0
         apart q = let f = none-holds c l (blockOf w) e (i .0) h in let t = valid-holds (lineAt l i) (blockOf w) v q in clash (cc)
 
-    oldest-case : (i : LineNo) → i .0 < c → lineAt l i .valid ≡ true → BeginCase c op w l (evict i op w l)
+    oldest-case : (i : LineNo) → i .0 < c → lineAt l i .valid ≡ true → BeginCase c op w l (evict capacity i op w l)
     unfolding evict
     oldest-case i h v =
-        pick (BeginCase c op w l) (pushReturn (l .returns) (ejectOf (lineAt l i)) .full) (refuseLane QueueFull l) (waits (readOf op) op w (evicted i l))
+        pick (BeginCase c op w l) (pushReturn capacity (l .returns) (ejectOf (lineAt l i)) .full) (refuseLane QueueFull l) (waits (readOf op) op w (evicted i l))
         (λ t. Refuses (record { reason = QueueFull; answer = refl; same = refl }))
         (λ t. Evicts (evict-case i h v (push-room (l .returns) (ejectOf (lineAt l i)) t)))
 
-    miss-case : placeAt (l .order) 0 .0 < c → (f : Found) → vacantOf l c ≡ f → BeginCase c op w l (missWith f op w l)
+    miss-case : placeAt (l .order) 0 .0 < c → (f : Found) → vacantOf l c ≡ f → BeginCase c op w l (missWith capacity f op w l)
     miss-case h (At i) q = Reads read-case
     miss-case h Nothing q = oldest-case (placeAt (l .order) 0) h (all-valid l c q (placeAt (l .order) 0 .0) h)
 
 -- the lane's part of begin
-pub begin-case : (c : ℕ) (op : Op) (w : WordNo) (l : Lane) → LaneSized l → c ≤ 8 → Unique c l → placeAt (l .order) 0 .0 < c → Admitted c op w l → BeginCase c op w l (beginLane c op w l)
+pub begin-case : (c : ℕ) (op : Op) (w : WordNo) (l : Lane) → LaneSized l → c ≤ 8 → Unique c l → placeAt (l .order) 0 .0 < c → Admitted c op w l → BeginCase c op w l (beginLane capacity c op w l)
 unfolding beginLane miss
 begin-case c op w l z b u h admits = go (searchOf l c (blockOf w)) refl
   where
-    go : (f : Found) → searchOf l c (blockOf w) ≡ f → BeginCase c op w l (beginAt f c op w l)
+    go : (f : Found) → searchOf l c (blockOf w) ≡ f → BeginCase c op w l (beginAt capacity f c op w l)
     go (At i) e = at-case c op w l z b u admits i e
     go Nothing e = miss-case c op w l z b u admits e h (vacantOf l c) refl

@@ -21,7 +21,7 @@ use Rattle.queues.specs.declared.DownMessage.{DownMessage}
 use Rattle.queues.specs.declared.DownKind.{DownKind}
 use Rattle.queues.specs.declared.DownKind.the-variants.{Update, Purge, Grant, BareGrant}
 use Rattle.queues.specs.declared.DownQueue.{DownQueue}
-use Rattle.queues.specs.Queues.{emptyAt, headDown, takeDown, pushReturn}
+use Rattle.queues.specs.Queues.{capacity, emptyAt, headDown, takeDown, pushReturn}
 use Rattle.queues.specs.Messages.{bareReturn, wordsReturn}
 use Rattle.lanes.specs.declared.Lane.{Lane}
 use Rattle.lanes.specs.declared.Operation.{Operation}
@@ -122,7 +122,7 @@ claimed-line false = refl
 
 -- the lane with other lines, its head taken and an answer sent
 abbrev withAnswer : List Line → ReturnMessage → Lane → Lane
-withAnswer ls m l = withReturns (pushReturn (l .returns) m .queue) (withDowns (afterHead l) (withLines ls l))
+withAnswer ls m l = withReturns (pushReturn capacity (l .returns) m .queue) (withDowns (afterHead l) (withLines ls l))
 
 -- .. its lines changed for the head's block alone, which then has status t and the words ws
 record Relined (c : ℕ) (ls : List Line) (m : ReturnMessage) (t : Status) (ws : List ℕ) (l : Lane) : Type 0 where
@@ -181,7 +181,7 @@ module _ (c : ℕ) (l : Lane) (z : LaneSized l) (b : c ≤ 8) (u : Unique c l) (
           words = ap (λ (r : Seen). r .words) s;
         }
 
-module _ (ins : Insertion) (c : ℕ) (l : Lane) (z : LaneSized l) (b : c ≤ 8) (u : Unique c l) (some : l .downs .len ≢ 0) (short : l .downs .len ≤ 2) where
+module _ (ins : Insertion) (c : ℕ) (l : Lane) (z : LaneSized l) (b : c ≤ 8) (u : Unique c l) (some : l .downs .len ≢ 0) (short : l .downs .len ≤ capacity) where
   -- the messages about block a once the head has left
   left : BlockNo → List DownMessage
   left a = keepIf (downAbout a) (queuedDowns (afterHead l))
@@ -198,7 +198,7 @@ module _ (ins : Insertion) (c : ℕ) (l : Lane) (z : LaneSized l) (b : c ≤ 8) 
       keep-tail (downAbout a) (headDown (l .downs)) (queuedDowns (afterHead l)) (ne-eqb (headBlock l .0) (a .0) (λ q. n (sym q))))
 
   -- an answer about the head's block was sent, with a free place for it
-  module _ (ls : List Line) (m : ReturnMessage) (e : m .block .0 ≡ headBlock l .0) (room : l .returns .len < 2) where
+  module _ (ls : List Line) (m : ReturnMessage) (e : m .block .0 ≡ headBlock l .0) (room : l .returns .len < capacity) where
     answer-seen : seen c (headBlock l) (withAnswer ls m l) ≡
         answerSeen (seen c (headBlock l) (withAnswer ls m l) .line) (seen c (headBlock l) (withAnswer ls m l) .words) m (left (headBlock l)) (seen c (headBlock l) l)
     unfolding seen left
@@ -226,11 +226,11 @@ module _ (ins : Insertion) (c : ℕ) (l : Lane) (z : LaneSized l) (b : c ≤ 8) 
         }
 
   -- 12, or the answer is sent
-  reply-rule : (ls : List Line) (m : ReturnMessage) → (l .returns .len < 2 → DeliverCase c l (record { answer = Stepped; lane = withAnswer ls m l })) →
-      DeliverCase c l (orAsBefore l (reply m (withDowns (afterHead l) (withLines ls l))))
+  reply-rule : (ls : List Line) (m : ReturnMessage) → (l .returns .len < capacity → DeliverCase c l (record { answer = Stepped; lane = withAnswer ls m l })) →
+      DeliverCase c l (orAsBefore l (reply capacity m (withDowns (afterHead l) (withLines ls l))))
   unfolding reply
   reply-rule ls m next =
-      pick (λ (r : LaneStep). DeliverCase c l (orAsBefore l r)) (pushReturn (l .returns) m .full) (refuseLane QueueFull _) (record { answer = Stepped; lane = withAnswer ls m l })
+      pick (λ (r : LaneStep). DeliverCase c l (orAsBefore l r)) (pushReturn capacity (l .returns) m .full) (refuseLane QueueFull _) (record { answer = Stepped; lane = withAnswer ls m l })
       (λ t. Refuses (record { reason = QueueFull; answer = refl; same = refl })) (λ t. next (push-room (l .returns) m t))
 
   -- the line found, and none found, as the head's block sees them
@@ -240,7 +240,7 @@ module _ (ins : Insertion) (c : ℕ) (l : Lane) (z : LaneSized l) (b : c ≤ 8) 
   no-line : searchOf l c (headBlock l) ≡ Nothing → (seen c (headBlock l) l .line ≡ Invalid) × (seen c (headBlock l) l .words ≡ [])
   no-line e = let s = seen-none c (headBlock l) l e in (ap (λ (x : Seen). x .line) s, ap (λ (x : Seen). x .words) s)
 
-  update-case : headDown (l .downs) .kind ≡ Update → (f : Found) → searchOf l c (headBlock l) ≡ f → DeliverCase c l (orAsBefore l (updateAt f (headBlock l) (withDowns (afterHead l) l)))
+  update-case : headDown (l .downs) .kind ≡ Update → (f : Found) → searchOf l c (headBlock l) ≡ f → DeliverCase c l (orAsBefore l (updateAt capacity f (headBlock l) (withDowns (afterHead l) l)))
   update-case q (At i) e =
       let x = lineAt l i in
       let m = wordsReturn Updated (headBlock l) (x .words) in
@@ -254,7 +254,7 @@ module _ (ins : Insertion) (c : ℕ) (l : Lane) (z : LaneSized l) (b : c ≤ 8) 
       (λ room. Updates (order-case (l .lines) m refl room Update updateSeen Invalid [] q (untouched c l z b u m e)
       (update-none (seen c (headBlock l) l) (headBlock l) (left (headBlock l)) (no-line e .0) (no-line e .1))))
 
-  purge-case : headDown (l .downs) .kind ≡ Purge → (f : Found) → searchOf l c (headBlock l) ≡ f → DeliverCase c l (orAsBefore l (purgeAt f (headBlock l) (withDowns (afterHead l) l)))
+  purge-case : headDown (l .downs) .kind ≡ Purge → (f : Found) → searchOf l c (headBlock l) ≡ f → DeliverCase c l (orAsBefore l (purgeAt capacity f (headBlock l) (withDowns (afterHead l) l)))
   purge-case q (At i) e =
       let x = lineAt l i in
       let m = purgedOf (headBlock l) x in
@@ -351,7 +351,7 @@ module _ (ins : Insertion) (c : ℕ) (l : Lane) (z : LaneSized l) (b : c ≤ 8) 
   served-case P refused go (Served o) e =
       pick P (eqb (blockOf (o .word) .0) (headBlock l .0)) (Go o) (No Unexpected) (λ q. go o e (eqb-true _ _ q)) (λ _. refused Unexpected)
 
-  kind-case : (y : DownKind) → headDown (l .downs) .kind ≡ y → DeliverCase c l (orAsBefore l (deliverKind ins y c (headDown (l .downs)) (withDowns (afterHead l) l)))
+  kind-case : (y : DownKind) → headDown (l .downs) .kind ≡ y → DeliverCase c l (orAsBefore l (deliverKind capacity ins y c (headDown (l .downs)) (withDowns (afterHead l) l)))
   kind-case Update q = update-case q (searchOf l c (headBlock l)) refl
   kind-case Purge q = purge-case q (searchOf l c (headBlock l)) refl
   kind-case Grant q =
@@ -362,7 +362,7 @@ module _ (ins : Insertion) (c : ℕ) (l : Lane) (z : LaneSized l) (b : c ≤ 8) 
       (λ r. Refuses (record { reason = r; answer = refl; same = refl })) (λ o t n. bare-case o t n q (searchOf l c (headBlock l)) refl) (l .waiting) refl
 
 -- the lane's part of deliver
-pub deliver-case : (ins : Insertion) (c : ℕ) (l : Lane) → LaneSized l → c ≤ 8 → Unique c l → l .downs .len ≤ 2 → DeliverCase c l (deliverLane ins c l)
+pub deliver-case : (ins : Insertion) (c : ℕ) (l : Lane) → LaneSized l → c ≤ 8 → Unique c l → l .downs .len ≤ capacity → DeliverCase c l (deliverLane capacity ins c l)
 unfolding deliverLane
 deliver-case ins c l z b u h =
     pick (DeliverCase c l) (emptyAt (l .downs .len)) (refuseLane NothingPending l) _ (λ t. Refuses (record { reason = NothingPending; answer = refl; same = refl }))

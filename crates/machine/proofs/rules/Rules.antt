@@ -15,7 +15,7 @@ use Rattle.words.specs.declared.Op.{Op}
 use Rattle.words.specs.Units.{blockOf}
 use Rattle.words.specs.Operations.{isLoad}
 use Rattle.words.proofs.Folds.{pick}
-use Rattle.queues.specs.Queues.{emptyAt, headReturn}
+use Rattle.queues.specs.Queues.{capacity, emptyAt, headReturn}
 use Rattle.lanes.specs.declared.Lane.{Lane}
 use Rattle.lanes.specs.declared.Operation.{Operation}
 use Rattle.lanes.specs.declared.Waiting.{Waiting}
@@ -33,7 +33,7 @@ use Rattle.store.specs.declared.Store.{Store}
 use Rattle.store.specs.declared.Outcome.{Outcome}
 use Rattle.store.specs.Stores.{laneAt, blockAt}
 use Rattle.machine.specs.Begun.{begunIn, lastPlace, exhaustedOf}
-use Rattle.store.specs.Control.{busyOf}
+use Rattle.store.specs.Control.{engagedOf}
 use Rattle.machine.specs.declared.LaneAnswer.{LaneAnswer}
 use Rattle.machine.specs.declared.LaneAnswer.the-variants.{Value, Waits, Stepped}
 use Rattle.machine.specs.declared.LaneStep.{LaneStep}
@@ -96,7 +96,7 @@ pub record BeginReady (s : Store) (k : LaneNo) (op : Op) (w : WordNo) : Type 0 w
   pub left : begunIn s ≢ lastPlace
 
 pub begin-rule : (P : Outcome → Type 0) (s : Store) (k : LaneNo) (op : Op) (w : WordNo) → ((x : Refusal) → P (refuse x s)) →
-    (BeginReady s k op w → P (commitLane s k (beginLane (s .shape .c) op w (laneAt s (k .0))))) → P (beginOf s k op w)
+    (BeginReady s k op w → P (commitLane s k (beginLane capacity (s .shape .c) op w (laneAt s (k .0))))) → P (beginOf s k op w)
 unfolding beginOf
 begin-rule P s k op w stays next =
     guarded-rule P s k _ stays
@@ -118,12 +118,12 @@ pub begin-is : (s : Store) (k : LaneNo) (op : Op) (w : WordNo) → corruptOf s �
 unfolding beginOf
 begin-is s k op w c h i = guarded-is s k _ c h ∙ rw (lt-leb (4 * s .shape .m) (w .0) i) refl
 
--- nothing refuses a serve before memory's part: operation o waits, unserved; the control is free; no return is queued
+-- nothing refuses a serve before memory's part: operation o waits, unserved; its block has no service, and fewer than L are open; no return is queued
 pub record ServeReady (s : Store) (k : LaneNo) (o : Operation) : Type 0 where
   pub sound : corruptOf s ≡ false
   pub lane : k .0 < s .shape .n
   pub unserved : laneAt s (k .0) .waiting ≡ Unserved o
-  pub free : busyOf (s .control) ≡ false
+  pub free : engagedOf (s .shape .limit) (s .control) (blockOf (o .word)) ≡ false
   pub clear : laneAt s (k .0) .returns .len ≡ 0
 
 -- serve where nothing refuses it
@@ -134,11 +134,11 @@ pub serve-rule : (P : Outcome → Type 0) (s : Store) (k : LaneNo) → ((x : Ref
 unfolding serveOf readyOf
 serve-rule P s k stays next = guarded-rule P s k _ stays (λ c h. go c h (laneAt s (k .0) .waiting) refl)
   where
-    go : corruptOf s ≡ false → k .0 < s .shape .n → (w : Waiting) → laneAt s (k .0) .waiting ≡ w → P (serveReady (readyWith w (laneAt s (k .0)) (s .control)) s k)
+    go : corruptOf s ≡ false → k .0 < s .shape .n → (w : Waiting) → laneAt s (k .0) .waiting ≡ w → P (serveReady (readyWith w (laneAt s (k .0)) (s .shape .limit) (s .control)) s k)
     go c h Idle e = stays NothingPending
     go c h (Served o) e = stays NothingPending
     go c h (Unserved o) e =
-        pick (λ (y : Ready). P (serveReady y s k)) (busyOf (s .control)) _ _ (λ _. stays ControlBusy)
+        pick (λ (y : Ready). P (serveReady y s k)) (engagedOf (s .shape .limit) (s .control) (blockOf (o .word))) _ _ (λ _. stays ControlBusy)
         (λ q. pick (λ (y : Ready). P (serveReady y s k)) (ltb 0 (laneAt s (k .0) .returns .len)) _ _ (λ _. stays ReturnsPending)
         (λ d. let p = ltb-false 0 (laneAt s (k .0) .returns .len) d in next o (record { sound = c; lane = h; unserved = e; free = q; clear = omega arith })))
 
@@ -170,11 +170,11 @@ return-is s k r = guarded-is s k _ (r .sound) (r .lane) ∙ rw (ne-eqb _ _ (r .f
 
 -- deliver: 9 is the lane's own
 pub deliver-rule : (ins : Insertion) (P : Outcome → Type 0) (s : Store) (k : LaneNo) → ((x : Refusal) → P (refuse x s)) →
-    (corruptOf s ≡ false → k .0 < s .shape .n → P (commitLane s k (deliverLane ins (s .shape .c) (laneAt s (k .0))))) → P (deliverOf ins s k)
+    (corruptOf s ≡ false → k .0 < s .shape .n → P (commitLane s k (deliverLane capacity ins (s .shape .c) (laneAt s (k .0))))) → P (deliverOf ins s k)
 unfolding deliverOf
 deliver-rule ins P s k stays next = guarded-rule P s k _ stays next
 
-pub deliver-is : (ins : Insertion) (s : Store) (k : LaneNo) → corruptOf s ≡ false → k .0 < s .shape .n → deliverOf ins s k ≡ commitLane s k (deliverLane ins (s .shape .c) (laneAt s (k .0)))
+pub deliver-is : (ins : Insertion) (s : Store) (k : LaneNo) → corruptOf s ≡ false → k .0 < s .shape .n → deliverOf ins s k ≡ commitLane s k (deliverLane capacity ins (s .shape .c) (laneAt s (k .0)))
 unfolding deliverOf
 deliver-is ins s k c h = guarded-is s k _ c h
 
@@ -203,12 +203,12 @@ lane-rule P s k r stays next = go (r .answer) refl
 
 -- memory's part put back: refused by what it says or by 12, or the store has moved
 pub move-rule : (P : Outcome → Type 0) (s : Store) (k : LaneNo) (a : BlockNo) (v : Move) → ((x : Refusal) → P (refuse x s)) →
-    (refusedOf (v .answer) ≡ false → someFull (v .to) (set (s .lanes) (k .0) (v .lane)) ≡ false → P (record { answer = v .answer; store = movedStore s k a v })) →
+    (refusedOf (v .answer) ≡ false → someFull capacity (v .to) (set (s .lanes) (k .0) (v .lane)) ≡ false → P (record { answer = v .answer; store = movedStore s k a v })) →
     P (commitMove s k a v)
 unfolding commitMove
 move-rule P s k a v stays next =
     pick P (refusedOf (v .answer)) _ _ (λ q. go (v .answer) q)
-    (λ q. pick P (someFull (v .to) _) _ _ (λ _. stays QueueFull) (λ e. next q e))
+    (λ q. pick P (someFull capacity (v .to) _) _ _ (λ _. stays QueueFull) (λ e. next q e))
   where
     go : (x : Answer) → refusedOf x ≡ true → P (record { answer = x; store = s })
     go Opened q = clash (cc)

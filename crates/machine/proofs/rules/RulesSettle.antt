@@ -1,14 +1,13 @@
 -- A rule for settle's step, and one for its repetition, by which the proofs go. Assumes nothing.
-use Prim.Native.Nat.{ℕ, zero, suc, _<_, _≤_}
+use Prim.Native.Nat.{ℕ, zero, suc, _<_}
 use mathlib.Core.Path.{_≡_}
 use mathlib.Core.Bool.{Bool, true, false, cond}
-use mathlib.Core.Logic.{_≢_, inl, inr}
+use mathlib.Core.Logic.{_≢_}
 use lib.Dec.{ltb}
 use borrow.Author.Tests.{ltb-true, ltb-false}
-use native.Mathlib.Nat.{eq-or-lt-of-le}
 use native.Mathlib.Omega.{arith}
 use Rattle.words.specs.Folds.{lowestTo}
-use Rattle.words.proofs.Folds.{pick}
+use Rattle.words.proofs.Folds.{pick, lowest-passes, lowest-absent}
 use Rattle.lanes.specs.Waits.{unservedOf}
 use Rattle.lanes.specs.UseOrder.{Insertion}
 use Rattle.answers.specs.declared.Refusal.the-variants.{Unexpected}
@@ -21,40 +20,11 @@ use Rattle.machine.specs.Return.{returnOf}
 use Rattle.machine.specs.Deliver.{deliverOf}
 use Rattle.machine.specs.Settle.{lane, settleStep, Progress, advance, ended, repeatStep}
 
--- the lowest number that passes a test passes it
-lowest-passes : (p : ℕ → Bool) (n : ℕ) → lowestTo p n < n → p (lowestTo p n) ≡ true
-unfolding lowestTo
-lowest-passes p zero h = absurd (omega arith)
-lowest-passes p (suc n) h = go (lowest-passes p n) h
-  where
-    P : ℕ → Type 0
-    P r = r < suc n → p r ≡ true
-
-    go : (lowestTo p n < n → p (lowestTo p n) ≡ true) → P (cond (ltb (lowestTo p n) n) (lowestTo p n) (cond (p n) n (suc n)))
-    go ih = pick P (ltb (lowestTo p n) n) _ _ (λ e _. ih (ltb-true _ _ e)) (λ _. pick P (p n) n (suc n) (λ e _. e) (λ _ h. absurd (omega arith)))
-
--- where there is none, no number passes
-lowest-none : (p : ℕ → Bool) (n : ℕ) → n ≤ lowestTo p n → (k : ℕ) → k < n → p k ≡ false
-unfolding lowestTo
-lowest-none p zero h = λ k l. absurd (omega arith)
-lowest-none p (suc n) h = go (lowest-none p n) h
-  where
-    P : ℕ → Type 0
-    P r = suc n ≤ r → (k : ℕ) → k < suc n → p k ≡ false
-
-    last : p n ≡ false → ((k : ℕ) → k < n → p k ≡ false) → (k : ℕ) → k < suc n → p k ≡ false
-    last e ih k l = let m : k ≤ n = omega arith in elim (eq-or-lt-of-le m) [ inl q ↦ rw q e | inr q ↦ ih k q ]
-
-    go : (n ≤ lowestTo p n → (k : ℕ) → k < n → p k ≡ false) → P (cond (ltb (lowestTo p n) n) (lowestTo p n) (cond (p n) n (suc n)))
-    go ih =
-        pick P (ltb (lowestTo p n) n) _ _ (λ e h. let q : lowestTo p n < n = ltb-true _ _ e in absurd (omega arith))
-        (λ e. pick P (p n) n (suc n) (λ _ h. absurd (omega arith)) (λ d _. last d (ih (ltb-false _ _ e))))
-
 -- the lowest lane that passes a test, or none passes
 lowest-rule : {A : Type 0} (P : A → Type 0) (p : ℕ → Bool) (n : ℕ) (x y : A) → (lowestTo p n < n → p (lowestTo p n) ≡ true → P x) →
     (((k : ℕ) → k < n → p k ≡ false) → P y) → P (cond (ltb (lowestTo p n) n) x y)
 lowest-rule P p n x y some none =
-    pick P (ltb (lowestTo p n) n) x y (λ e. some (ltb-true _ _ e) (lowest-passes p n (ltb-true _ _ e))) (λ e. none (lowest-none p n (ltb-false _ _ e)))
+    pick P (ltb (lowestTo p n) n) x y (λ e. some (ltb-true _ _ e) (lowest-passes p n (ltb-true _ _ e))) (λ e. none (lowest-absent p n (ltb-false _ _ e)))
 
 -- no lane has a filled down queue; a filled return queue; an unserved operation
 abbrev pub NoDowns : Store → Type 0

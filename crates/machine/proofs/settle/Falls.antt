@@ -19,7 +19,6 @@ use Rattle.answers.specs.Refusals.{refusedOf}
 use Rattle.answers.specs.Completions.{doneIn}
 use Rattle.store.specs.declared.Store.{Store}
 use Rattle.store.specs.declared.Outcome.{Outcome}
-use Rattle.store.specs.Control.{busyOf}
 use Rattle.store.specs.Stores.{laneAt, blockAt}
 use Rattle.machine.specs.Begun.{waitingIn, begunIn}
 use Rattle.machine.specs.Corruption.{corruptOf}
@@ -29,7 +28,6 @@ use Rattle.machine.specs.Return.{returnOf}
 use Rattle.machine.specs.Deliver.{deliverOf}
 use Rattle.machine.specs.Settle.{settleStep, boundOf, lane}
 use Rattle.machine.specs.Sized.{Sized}
-use Rattle.machine.proofs.laws.Counts.{step-most}
 use Rattle.machine.proofs.laws.Sums.{sum-most}
 use Rattle.machine.proofs.bounds.Sound.{sound}
 use Rattle.machine.proofs.bounds.SizedKeeps.{serve-move-lane, return-move-lane}
@@ -67,7 +65,7 @@ return-advances u s k g =
     let a = sound s (r .sound) in
     commit-move-advances u 0 0 s k (x .block) _ g (a .n-high) (r .lane)
     (λ z. return-move-lane k x (laneAt s (k .0)) (blockAt s (x .block .0)) (s .control) (g .lane (k .0) z))
-    (return-move-weighs (s .shape .n) (s .shape .m) u k x (laneAt s (k .0)) (blockAt s (x .block .0)) (s .control) (a .n-high) (a .control) (ne-eqb _ _ (r .filled))))
+    (return-move-weighs (s .shape .n) (s .shape .m) (s .shape .limit) u k x (laneAt s (k .0)) (blockAt s (x .block .0)) (s .control) (a .n-high) (a .control) (ne-eqb _ _ (r .filled))))
 
 serve-advances : (u : ℕ) (s : Store) (k : LaneNo) → Sized s → Advancing u 1 (ordersFor s k (laneAt s (k .0) .waiting)) s (serveOf s k)
 serve-advances u s k g =
@@ -77,7 +75,7 @@ serve-advances u s k g =
     rw (ap (ordersFor s k) (r .unserved))
     (commit-move-advances u 1 _ s k (blockOf (o .word)) _ g (a .n-high) (r .lane)
     (λ z. serve-move-lane k o (laneAt s (k .0)) (blockAt s (blockOf (o .word) .0)) (s .control) (g .lane (k .0) z))
-    (serve-move-weighs (s .shape .n) u k o (laneAt s (k .0)) (blockAt s (blockOf (o .word) .0)) (s .control) (a .n-high) (r .lane)
+    (serve-move-weighs (s .shape .n) u (s .shape .limit) k o (laneAt s (k .0)) (blockAt s (blockOf (o .word) .0)) (s .control) (a .n-high) (a .limit-high) (g .slots) (r .lane)
     (a .block (blockOf (o .word) .0) (a .lane (k .0) (r .lane) .unserved o (r .unserved))) (r .unserved) (r .free))))
 
 -- a serve's orders are fewer than the lanes
@@ -135,15 +133,16 @@ pub settle-completes : (ins : Insertion) (s : Store) → Sized s → length (don
 unfolding begunIn
 settle-completes ins s g = let a = step-counts ins s .counted in let b = step-begun ins s g in omega arith
 
--- 8 lanes of 2 returns, 2 orders and an unserved operation, and a service
-pub bound-most : (s : Store) → corruptOf s ≡ false → boundOf s ≤ 177
+-- 8 lanes of 8 returns, 8 orders and an unserved operation, and 8 services
+pub bound-most : (s : Store) → corruptOf s ≡ false → boundOf s ≤ 328
 bound-most s e =
     let a = sound s e in
     let h = a .n-high in
     let b = bound-tally s ∙ tally-sum (2 * s .shape .n) s in
-    let c = sum-most (λ k. weight (2 * s .shape .n) (laneAt s k)) 22 (s .shape .n)
+    let c = sum-most (λ k. weight (2 * s .shape .n) (laneAt s k)) 40 (s .shape .n)
     (λ j l. let d = weight-most (2 * s .shape .n) (laneAt s j) (a .lane j l .returns .short) in omega arith) in
-    let d = step-most (busyOf (s .control)) in
+    let d = a .control .most in
+    let f = a .limit-high in
     omega arith
 
 pub waiting-most : (s : Store) → corruptOf s ≡ false → waitingIn s ≤ 8

@@ -1,11 +1,12 @@
 -- What memory's part of serve and of return makes of what the lane, the messages sent and the service add. Assumes nothing.
 use Prim.Native.Nat.{ℕ, _+_, _*_, _<_, _≤_}
-use mathlib.Core.Path.{_≡_, refl, sym, ap, _∙_}
-use mathlib.Core.Bool.{true, false, true≢false}
-use lib.ListN.{getD-replicate}
+use mathlib.Core.Path.{_≡_, refl, sym, _∙_}
+use mathlib.Core.Bool.{true, false, cond, true≢false}
+use lib.ListN.{length, getD-replicate}
 use lib.Seq.{getD-set-same, getD-set-other}
 use native.Mathlib.Omega.{arith}
 use Rattle.words.specs.declared.LaneNo.{LaneNo}
+use Rattle.words.specs.Units.{blockOf}
 use Rattle.words.specs.Folds.{countTo}
 use Rattle.words.proofs.Folds.{by-cond}
 use Rattle.queues.specs.declared.ReturnMessage.{ReturnMessage}
@@ -21,17 +22,18 @@ use Rattle.answers.specs.Refusals.{refusedOf}
 use Rattle.store.specs.declared.Block.{Block}
 use Rattle.store.specs.declared.Service.{Service}
 use Rattle.store.specs.declared.Control.{Control}
-use Rattle.store.specs.declared.Control.the-variants.{Free, Busy}
-use Rattle.store.specs.Control.{busyOf, lowered}
+use Rattle.store.specs.Control.{slotAt, slotOf, engagedOf, freeSlot, free, busyWith, lowered, withSlot, withService, withUpdated, withoutService}
+use Rattle.store.specs.declared.Slot.{Slot}
+use Rattle.store.proofs.Services.{Found, Vacant, vacant, not-engaged, busy-there, opened-count, updated-count, closed-count}
 use Rattle.store.specs.LaneSets.{nobody, only, goesTo, countOf}
 use Rattle.machine.specs.declared.Move.{Move}
-use Rattle.machine.specs.Serve.{orderOf, ordered, grantOf, close, serveMove}
+use Rattle.machine.specs.Serve.{orderOf, ordered, grantOf, close, serviceFor, serveMove}
 use Rattle.machine.specs.Return.{sendNothing, returnMove}
-use Rattle.machine.proofs.laws.Sums.{count-zero, count-one}
-use Rattle.machine.proofs.bounds.Sound.{BlockSound, ControlSound}
+use Rattle.machine.proofs.laws.Sums.{count-zero, count-one, set-sum}
+use Rattle.machine.proofs.bounds.Sound.{BlockSound, ControlSound, service-sound}
 use Rattle.machine.proofs.bounds.KeepsServe.{ordered-count}
 use Rattle.machine.proofs.rules.RulesMemory.{return-move-rule, serve-move-rule}
-use Rattle.machine.specs.Potential.{sentIn}
+use Rattle.machine.specs.Potential.{awaitedIn, sentIn}
 use Rattle.machine.proofs.settle.FallsLane.{price, weight, served-weight, returned-weight}
 use Rattle.machine.proofs.settle.FallsStore.{service, sent-none, Weighs}
 
@@ -73,23 +75,59 @@ module _ (n u served orders : ℕ) (h : n ≤ 8) (l : Lane) (x : Control) where
       Weighs n u served orders l x (sendNothing t b y)
   sendNothing-weighs t b y p d = let c = nobody-none n h in record { exact = omega arith; sends = d }
 
+-- what a slot awaits
+abbrev awaitedAt : Slot → ℕ
+awaitedAt y = cond (y .busy) (y .service .awaited) 0
+
+-- the answers awaited, after slot i was written
+awaited-written : (x : Control) (i : ℕ) (y : Slot) → i < 8 → i < length (x .slots) → awaitedIn (withSlot i y x) + awaitedAt (slotAt x i) ≡ awaitedIn x + awaitedAt y
+unfolding awaitedIn
+awaited-written x i y h z = set-sum awaitedAt (x .slots) free i 8 y h z
+
+-- a service that is opened has sent what it awaits
+sent-opened : (x : Control) (v : Service) → length (x .slots) ≡ 8 → Vacant x → sentIn x (withService v x) ≡ v .awaited
+unfolding withService
+sent-opened x v z h =
+    let l = h .below in
+    let e = awaited-written x (freeSlot x) (busyWith v) l (omega arith) in
+    let f : awaitedAt (slotAt x (freeSlot x)) ≡ 0 = rw (h .idle) in
+    omega arith
+
+-- an answer has sent nothing
+module _ (x : Control) (v : Service) (f : Found x (v .block) v) where
+  had : awaitedAt (slotAt x (slotOf x (v .block))) ≡ v .awaited
+  had = rw (f .busy, f .service)
+
+  sent-lowered : sentIn x (withUpdated (lowered v) x) ≡ 0
+  unfolding withUpdated
+  sent-lowered = let e = awaited-written x (slotOf x (v .block)) (busyWith (lowered v)) (f .below) (busy-there x _ (f .busy)) in let g = had in omega arith
+
+  sent-closed : sentIn x (withoutService v x) ≡ 0
+  unfolding withoutService
+  sent-closed = let e = awaited-written x (slotOf x (v .block)) free (f .below) (busy-there x _ (f .busy)) in omega arith
+
 -- memory's part of serve
-pub serve-move-weighs : (n u : ℕ) (k : LaneNo) (o : Operation) (l : Lane) (b : Block) (x : Control) → n ≤ 8 → k .0 < n → BlockSound n b →
-    l .waiting ≡ Unserved o → busyOf x ≡ false → Weighing n u 1 (countOf (ordered b k (o .command))) l x (serveMove k o l b x)
-serve-move-weighs n u k o l b x h i g e f _ =
+pub serve-move-weighs : (n u limit : ℕ) (k : LaneNo) (o : Operation) (l : Lane) (b : Block) (x : Control) → n ≤ 8 → limit ≤ 8 → length (x .slots) ≡ 8 → k .0 < n → BlockSound n b →
+    l .waiting ≡ Unserved o → engagedOf limit x (blockOf (o .word)) ≡ false → Weighing n u 1 (countOf (ordered b k (o .command))) l x (serveMove k o l b x)
+serve-move-weighs n u limit k o l b x h w s i g e f _ =
     let a = served-weight u l o e in
     let c = ordered-count n b k (o .command) h g in
+    let p = not-engaged limit x (blockOf (o .word)) f .1 in
+    let y = vacant x (omega arith) in
+    let d = opened-count x (serviceFor k o b (countOf (ordered b k (o .command)))) s y in
     serve-move-rule (Weighs n u 1 (countOf (ordered b k (o .command))) l x) k o l b x
     (λ z. close-weighs n u 1 _ h l x _ (withWaiting (Served o) l) b x i (omega arith) (sent-none x ∙ sym z))
-    (λ _. record { exact = rw (order-price (o .command), f) (omega arith); sends = rw f refl })
+    (λ _. record { exact = rw (order-price (o .command)) (omega arith); sends = sent-opened x _ s y })
 
 -- memory's part of return
-pub return-move-weighs : (n m u : ℕ) (k : LaneNo) (x : ReturnMessage) (l : Lane) (b : Block) (y : Control) → n ≤ 8 → ControlSound n m y →
+pub return-move-weighs : (n m limit u : ℕ) (k : LaneNo) (x : ReturnMessage) (l : Lane) (b : Block) (y : Control) → n ≤ 8 → ControlSound n m limit y →
     emptyAt (l .returns .len) ≡ false → Weighing n u 0 0 l y (returnMove k x l b y)
-return-move-weighs n m u k x l b y h g e =
+return-move-weighs n m limit u k x l b y h g e =
     let a = returned-weight u l e in
     return-move-rule (Weighing n u 0 0 l y) k x l b y
     (λ _ _. sendNothing-weighs n u 0 0 h l y _ _ y (omega arith) (sent-none y))
     (λ d. absurd (true≢false d))
-    (λ _ v q _ _. let s = ap service (q .busy) in close-weighs n u 0 0 h l y v _ _ Free (g .service v (q .busy) .lane) (omega arith) (rw (q .busy) refl))
-    (λ _ v q _ _. let s = ap service (q .busy) in sendNothing-weighs n u 0 0 h l y _ _ (Busy (lowered v)) (omega arith) (rw (q .busy) refl))
+    (λ _ v q _ _. let s = closed-count y v v (q .at) in
+    close-weighs n u 0 0 h l y v _ _ (withoutService v y) (service-sound n m limit y (v .block) v g (q .at) .lane) (omega arith) (sent-closed y v (q .at)))
+    (λ _ v q _ _. let s = updated-count y (lowered v) v (q .at) in
+    sendNothing-weighs n u 0 0 h l y _ _ (withUpdated (lowered v) y) (omega arith) (sent-lowered y v (q .at)))

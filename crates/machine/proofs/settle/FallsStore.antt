@@ -11,15 +11,14 @@ use Rattle.words.specs.declared.BlockNo.{BlockNo}
 use Rattle.words.specs.Folds.{countTo, sumTo}
 use Rattle.words.proofs.Folds.{any-false}
 use Rattle.queues.specs.declared.DownMessage.{DownMessage}
-use Rattle.queues.specs.Queues.{fullAt}
+use Rattle.queues.specs.Queues.{capacity, fullAt}
 use Rattle.lanes.specs.declared.Lane.{Lane}
 use Rattle.lanes.specs.Waits.{unservedOf}
 use Rattle.answers.specs.Refusals.{refusedOf}
 use Rattle.store.specs.declared.Store.{Store}
 use Rattle.store.specs.declared.Control.{Control}
-use Rattle.store.specs.declared.Control.the-variants.{Free, Busy}
 use Rattle.store.specs.declared.Outcome.{Outcome}
-use Rattle.store.specs.Control.{busyOf}
+use Rattle.store.specs.Control.{openServices}
 use Rattle.store.specs.Stores.{noLane, laneAt}
 use Rattle.store.specs.LaneSets.{goesTo}
 use Rattle.machine.specs.declared.LaneStep.{LaneStep}
@@ -39,9 +38,9 @@ use Rattle.machine.proofs.rules.Rules.{putBack, lane-rule, move-rule}
 abbrev pub lanesWeight : ℕ → List Lane → ℕ → ℕ
 lanesWeight u ls n = sumTo (λ k. weight u (getD ls k noLane)) n
 
--- what a control adds
+-- what a control adds: its services
 abbrev pub service : Control → ℕ
-service x = cond (busyOf x) 1 0
+service x = openServices x
 
 pub tally-sum : (u : ℕ) (s : Store) → tallyOf u s ≡ lanesWeight u (s .lanes) (s .shape .n) + service (s .control)
 unfolding tallyOf weight
@@ -62,8 +61,7 @@ Advancing u served orders s r = refusedOf (r .answer) ≡ false → Advances u s
 
 -- a control that stays has sent nothing
 pub sent-none : (x : Control) → sentIn x x ≡ 0
-sent-none Free = refl
-sent-none (Busy v) = refl
+sent-none x = omega arith
 
 -- lane k after its part of a call
 pub commit-lane-advances : (u : ℕ) (s : Store) (k : LaneNo) (r : LaneStep) → length (s .lanes) ≡ 8 → s .shape .n ≤ 8 → k .0 < s .shape .n →
@@ -80,19 +78,19 @@ commit-lane-advances u s k r g h l t = lane-rule (Advancing u 0 0 s) s k r (λ _
 
 -- a message is sent to some lanes, none of them full
 module _ (to : List Bool) (x : DownMessage) (ls : List Lane) (n : ℕ) (h : n ≤ 8) (g : LanesSized ls) where
-  post-weight : (u : ℕ) → someFull to ls ≡ false → lanesWeight u (postAll to x ls) n ≡ lanesWeight u ls n + price (x .kind) * countTo (goesTo to) n
+  post-weight : (u : ℕ) → someFull capacity to ls ≡ false → lanesWeight u (postAll capacity to x ls) n ≡ lanesWeight u ls n + price (x .kind) * countTo (goesTo to) n
   unfolding someFull
-  post-weight u e = sum-grown (λ j. weight u (getD ls j noLane)) (λ j. weight u (getD (postAll to x ls) j noLane)) (goesTo to) (price (x .kind)) n at-lane
+  post-weight u e = sum-grown (λ j. weight u (getD ls j noLane)) (λ j. weight u (getD (postAll capacity to x ls) j noLane)) (goesTo to) (price (x .kind)) n at-lane
     where
       grown : (j : ℕ) → j < 8 → (b : Bool) → goesTo to j ≡ b →
-          weight u (cond b (posted x (getD ls j noLane)) (getD ls j noLane)) ≡ weight u (getD ls j noLane) + cond b (price (x .kind)) 0
+          weight u (cond b (posted capacity x (getD ls j noLane)) (getD ls j noLane)) ≡ weight u (getD ls j noLane) + cond b (price (x .kind)) 0
       grown j l true q =
           posted-weight u x (getD ls j noLane) (g .lane j l)
-          (and-right (goesTo to j) (fullAt (getD ls j noLane .downs .len)) (any-false (λ i. goesTo to i && fullAt (getD ls i noLane .downs .len)) 8 j e l) q)
+          (and-right (goesTo to j) (fullAt capacity (getD ls j noLane .downs .len)) (any-false (λ i. goesTo to i && fullAt capacity (getD ls i noLane .downs .len)) 8 j e l) q)
       grown j l false q = sym (add-zero _)
 
-      at-lane : (j : ℕ) → j < n → weight u (getD (postAll to x ls) j noLane) ≡ weight u (getD ls j noLane) + cond (goesTo to j) (price (x .kind)) 0
-      at-lane j l = let d = g .lanes in rw (post-all-at to x j ls (omega arith) (omega arith)) (grown j (omega arith) (goesTo to j) refl)
+      at-lane : (j : ℕ) → j < n → weight u (getD (postAll capacity to x ls) j noLane) ≡ weight u (getD ls j noLane) + cond (goesTo to j) (price (x .kind)) 0
+      at-lane j l = let d = g .lanes in rw (post-all-at capacity to x j ls (omega arith) (omega arith)) (grown j (omega arith) (goesTo to j) refl)
 
 -- memory's part of a call: what the lane, the messages sent and the service add
 pub record Weighs (n u served orders : ℕ) (l : Lane) (x : Control) (v : Move) : Type 0 where
@@ -109,7 +107,7 @@ commit-move-advances u served orders s k a v g h l f t = move-rule (Advancing u 
     after : List Lane
     after = set (s .lanes) (k .0) (v .lane)
 
-    put : Weighs (s .shape .n) u served orders (laneAt s (k .0)) (s .control) v → someFull (v .to) after ≡ false →
+    put : Weighs (s .shape .n) u served orders (laneAt s (k .0)) (s .control) v → someFull capacity (v .to) after ≡ false →
         Advances u served orders s (record { answer = v .answer; store = movedStore s k a v })
     put w o =
         let z = set-lane-sized (s .lanes) (k .0) (v .lane) (lanes-sized s g) f in

@@ -6,6 +6,7 @@ use mathlib.Core.Logic.{_≢_}
 use mathlib.Core.Bool.{Bool, true, cond, not, _||_}
 use mathlib.Core.List.{List, [], _∷_}
 use lib.ListN.{getD}
+use Rattle.words.specs.declared.BlockNo.{BlockNo}
 use Rattle.words.specs.Units.{blockOf}
 use Rattle.words.specs.Lines.{noLine, holdsOf}
 use Rattle.words.specs.Folds.{anyTo}
@@ -16,7 +17,8 @@ use Rattle.lanes.specs.declared.Waiting.the-variants.{Idle, Unserved, Served}
 use Rattle.lanes.specs.Waits.{unservedOf}
 use Rattle.store.specs.declared.Store.{Store}
 use Rattle.store.specs.declared.Service.{Service}
-use Rattle.store.specs.declared.Control.the-variants.{Busy}
+use Rattle.store.specs.declared.Lookup.the-variants.{Of}
+use Rattle.store.specs.Control.{serviceOf}
 use Rattle.store.specs.Stores.{laneAt}
 use Rattle.machine.specs.Return.{isAnswer}
 use Rattle.machine.proofs.protocol.BlockState.{project}
@@ -45,4 +47,4 @@ pub record Live (s : Store) : Type 0 where
   -- a lane owes a block at most one answer
   pub one : (a : ℕ) → a < s .shape .m → (k : ℕ) → owed (project s a .lane k) ≤ 1
   -- a service awaits an answer
-  pub awaits : (v : Service) → s .control ≡ Busy v → v .awaited ≢ 0
+  pub awaits : (a : BlockNo) (v : Service) → serviceOf (s .control) a ≡ Of v → v .awaited ≢ 0

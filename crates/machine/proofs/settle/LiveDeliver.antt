@@ -1,12 +1,12 @@
 -- Deliver is never refused where a message is under way to the lane: an order finds room for its answer, and a grant the operation
 -- that it is for and a line. Assumes nothing.
-use Prim.Native.Nat.{ℕ, zero, suc, _+_, _<_, _≤_}
-use mathlib.Core.Logic.{_⊎_, inl, inr, _≢_}
+use Prim.Native.Nat.{ℕ, _+_, _<_}
+use mathlib.Core.Logic.{_≢_}
 use mathlib.Core.Path.{_≡_, refl, sym, ap, _∙_}
-use mathlib.Core.Bool.{Bool, true, false, cond, not, _||_}
-use mathlib.Core.List.{List, [], _∷_}
+use mathlib.Core.Bool.{true, false, not, _||_}
+use mathlib.Core.List.{List, _∷_}
 use lib.Dec.{eqb}
-use lib.ListN.{length, getD}
+use lib.ListN.{getD}
 use borrow.Author.Tests.{eq-eqb, eqb-true, lt-leb}
 use native.Mathlib.Omega.{arith}
 use Rattle.words.specs.declared.LaneNo.{LaneNo}
@@ -18,7 +18,7 @@ use Rattle.queues.specs.declared.ReturnMessage.{ReturnMessage}
 use Rattle.queues.specs.declared.DownMessage.{DownMessage}
 use Rattle.queues.specs.declared.DownKind.{DownKind}
 use Rattle.queues.specs.declared.DownKind.the-variants.{Update, Purge, Grant, BareGrant}
-use Rattle.queues.specs.Queues.{emptyAt, messages, noReturn, headDown, takeDown}
+use Rattle.queues.specs.Queues.{capacity, emptyAt, headDown, takeDown}
 use Rattle.lanes.specs.declared.Lane.{Lane}
 use Rattle.lanes.specs.declared.Operation.{Operation}
 use Rattle.lanes.specs.declared.Waiting.{Waiting}
@@ -38,70 +38,30 @@ use Rattle.machine.specs.declared.Ready.{Ready}
 use Rattle.machine.specs.declared.Ready.the-variants.{Go}
 use Rattle.machine.specs.Change.{commitLane, refusedIn}
 use Rattle.machine.specs.Begin.{completeWith}
-use Rattle.machine.specs.Return.{isAnswer}
 use Rattle.machine.specs.Deliver.{reply, updateAt, purgeAt, fillAt, grantAt, bareAt, servedOn, grantTo, bareTo, deliverKind, deliverLane, deliverOf}
 use Rattle.machine.specs.Settle.{isOrder}
 use Rattle.machine.specs.Flat.{flatBlock}
 use Rattle.machine.proofs.laws.Tests.{on, or-never}
-use Rattle.machine.proofs.laws.Sets.{same?}
 use Rattle.machine.proofs.laws.Counts.{step-most}
 use Rattle.machine.proofs.bounds.KeepsLane.{clash}
 use Rattle.machine.proofs.bounds.KeepsBegin.{all-valid}
 use Rattle.machine.proofs.bounds.Sound.{sound}
-use Rattle.machine.proofs.protocol.BlockState.{Invalid, held, keepIf, returnAbout, downAbout, waitingOn, seen, blockNo, project}
+use Rattle.machine.proofs.protocol.BlockState.{Invalid, held, keepIf, downAbout, waitingOn, seen, project}
 use Rattle.machine.proofs.projection.Queued.{queuedReturns, queuedDowns, take-downs, keep-head}
-use Rattle.machine.proofs.protocol.Invariant.{answerCount, orderCount, grantCount, servedCount, owed}
+use Rattle.machine.proofs.protocol.Invariant.{orderCount, grantCount, servedCount}
 use Rattle.machine.proofs.protocol.LaneMovesDeliver.{head-due, bare-held}
 use Rattle.machine.proofs.projection.Searches.{same-block, none-holds}
 use Rattle.machine.proofs.projection.SeenBegin.{held-line}
 use Rattle.machine.proofs.store.Consistent.{Consistent}
-use Rattle.machine.proofs.store.ConsistentLane.{lane-below, lane-sized}
-use Rattle.machine.proofs.settle.Live.{ejectCount, hasRoom, Live}
-use Rattle.machine.proofs.settle.LiveAwaited.{owed-awaited, awaited-same}
+use Rattle.machine.proofs.store.ConsistentLane.{lane-sized}
+use Rattle.machine.proofs.settle.Live.{hasRoom, Live}
+use Rattle.machine.proofs.settle.LiveOwing.{owed-seven, queue-length, returns-split}
 use Rattle.machine.proofs.rules.Rules.{deliver-is, answer-goes}
 
--- messages about blocks below m
-abbrev Inside : ℕ → List ReturnMessage → Type 0
-Inside m [] = Unit {0}
-Inside m (x ∷ xs) = (x .block .0 < m) × Inside m xs
-
-queue-inside : (m len : ℕ) (xs : List ReturnMessage) → ((i : ℕ) → i < len → getD xs i noReturn .block .0 < m) → Inside m (messages len xs)
-queue-inside m zero xs h = tt
-queue-inside m (suc len) [] h = tt
-queue-inside m (suc len) (x ∷ xs) h = (h 0 (omega arith), queue-inside m len xs (λ i l. h (suc i) (omega arith)))
-
--- as many messages as the queue says
-queue-length : {A : Type 0} (len : ℕ) (xs : List A) → len ≤ length xs → length (messages len xs) ≡ len
-queue-length zero xs h = refl
-queue-length (suc len) [] h = absurd (omega arith)
-queue-length (suc len) (x ∷ xs) h = ap suc (queue-length len xs (omega arith))
-
--- no answers among those kept: none in the rest, and the head is none
-kept-rest : (b : Bool) (x : ReturnMessage) (xs : List ReturnMessage) → answerCount (cond b (x ∷ xs) xs) ≡ 0 → answerCount xs ≡ 0
-kept-rest true x xs e = omega arith
-kept-rest false x xs e = e
-
-no-answer : (b : Bool) (n : ℕ) → cond b 1 0 + n ≡ 0 → b ≡ false
-no-answer true n e = absurd (omega arith)
-no-answer false n e = refl
-
--- messages of which no block sees an answer are ejections
-all-eject : (m : ℕ) (xs : List ReturnMessage) → Inside m xs → ((d : ℕ) → d < m → answerCount (keepIf (returnAbout (blockNo d)) xs) ≡ 0) → ejectCount xs ≡ length xs
-all-eject m [] h e = refl
-all-eject m (x ∷ xs) h e = go (all-eject m xs (h .1) (λ d l. kept-rest (eqb (x .block .0) d) x (keepIf (returnAbout (blockNo d)) xs) (e d l)))
-  where
-    head : isAnswer (x .kind) ≡ false
-    head =
-        no-answer (isAnswer (x .kind)) (answerCount (keepIf (returnAbout (x .block)) xs))
-        (sym (ap answerCount (keep-head (returnAbout (x .block)) x xs (eq-eqb (x .block .0) (x .block .0) refl))) ∙ e (x .block .0) (h .0))
-
-    go : ejectCount xs ≡ length xs → cond (isAnswer (x .kind)) 0 1 + ejectCount xs ≡ suc (length xs)
-    go r = rw head (omega arith)
-
 -- an answer joins a return queue with room
-reply-goes : (y : ReturnMessage) (l : Lane) → l .returns .len < 2 → refusedIn (reply y l .answer) ≡ false
+reply-goes : (y : ReturnMessage) (l : Lane) → l .returns .len < capacity → refusedIn (reply capacity y l .answer) ≡ false
 unfolding reply
-reply-goes y l h = rw (lt-leb 2 (l .returns .len) h)
+reply-goes y l h = rw (lt-leb capacity (l .returns .len) h)
 
 -- what an operation waits for is held, or there is a line that is not valid
 room-vacant : (c : ℕ) (l : Lane) (o : Operation) → hasRoom c l (Served o) ≡ true → searchOf l c (blockOf (o .word)) ≡ Nothing → vacantOf l c ≢ Nothing
@@ -155,36 +115,16 @@ module _ (ins : Insertion) (s : Store) (f : List ℕ) (i : Consistent s f) (live
       let e = take-downs (l .downs) (lane-sized s f i (k .0) h .downs) filled (sound s (i .sound) .lane (k .0) h .downs .short) in
       ap (keepIf (downAbout a)) e ∙ keep-head (downAbout a) x (queuedDowns (takeDown (l .downs) .queue)) (eq-eqb (a .0) (a .0) refl)
 
-  -- an order is owed, so no answer to it is, and nothing is owed to another block
-  order-owed : isOrder (x .kind) ≡ true → orderCount (seen (s .shape .c) a l .downs) ≡ 1 + orderCount rest
-  order-owed o = rw (has-head, o)
-
-  none-answers : isOrder (x .kind) ≡ true → (d : ℕ) → d < s .shape .m → answerCount (seen (s .shape .c) (blockNo d) l .returns) ≡ 0
-  unfolding owed
-  none-answers o d b = go (same? d (a .0))
-    where
-      mine : answerCount (seen (s .shape .c) a l .returns) + orderCount (seen (s .shape .c) a l .downs) ≢ 0
-      mine z = let q = order-owed o in omega arith
-
-      go : (d ≡ a .0) ⊎ (d ≢ a .0) → answerCount (seen (s .shape .c) (blockNo d) l .returns) ≡ 0
-      go (inl e) = let q = order-owed o in let p = live .one (a .0) block-below (k .0) in rw e (omega arith)
-      go (inr n) = other (same? (answerCount (seen (s .shape .c) (blockNo d) l .returns)) 0)
-        where
-          other : (answerCount (seen (s .shape .c) (blockNo d) l .returns) ≡ 0) ⊎ (answerCount (seen (s .shape .c) (blockNo d) l .returns) ≢ 0) → answerCount (seen (s .shape .c) (blockNo d) l .returns) ≡ 0
-          other (inl z) = z
-          other (inr z) =
-              let b8 = lane-below s f i (k .0) h in
-              absurd (n (awaited-same s f i d (a .0) (owed-awaited s f i d b (k .0) b8 (λ y. z (omega arith))) (owed-awaited s f i (a .0) block-below (k .0) b8 mine)))
-
-  -- .. so that its answer finds room: at most one ejection is on its way
-  order-room : isOrder (x .kind) ≡ true → l .returns .len < 2
-  unfolding seen
+  -- an order is owed beside the answers on their way, all of them at most 7, and at most one ejection is: its answer finds room
+  order-room : isOrder (x .kind) ≡ true → l .returns .len < capacity
   order-room o =
-      let z = lane-sized s f i (k .0) h .returns in
-      let g = sound s (i .sound) .lane (k .0) h .returns in
-      let p = all-eject (s .shape .m) (queuedReturns (l .returns)) (queue-inside (s .shape .m) (l .returns .len) (l .returns .at) (g .inside)) (none-answers o) in
-      let q = g .short in
-      let y = queue-length (l .returns .len) (l .returns .at) (omega arith) in
+      let z = lane-sized s f i (k .0) h in
+      let g = sound s (i .sound) .lane (k .0) h in
+      let p = g .returns .short in
+      let y = queue-length (l .returns .len) (l .returns .at) (omega (arith, z .returns)) in
+      let r = returns-split (queuedReturns (l .returns)) in
+      let d : orderCount (queuedDowns (l .downs)) ≡ 1 + orderCount (queuedDowns (takeDown (l .downs) .queue)) = rw (take-downs (l .downs) (z .downs) filled (g .downs .short), o) in
+      let a = owed-seven s f i live (k .0) h in
       let e = live .lane (k .0) .ejects in
       let u = step-most (unservedOf (l .waiting)) in
       omega arith
@@ -207,11 +147,11 @@ module _ (ins : Insertion) (s : Store) (f : List ℕ) (i : Consistent s f) (live
           on (eqb (blockOf (o .word) .0) (a .0)) (λ y. (o, e, eqb-true _ _ y)) (λ y. absurd (some (ap (λ (w : Waiting). servedCount (waitingOn a w)) e ∙ rw y)))
 
   -- each kind
-  update-goes : isOrder (x .kind) ≡ true → (r : Found) → refusedIn (updateAt r a t .answer) ≡ false
+  update-goes : isOrder (x .kind) ≡ true → (r : Found) → refusedIn (updateAt capacity r a t .answer) ≡ false
   update-goes o (At j) = reply-goes _ _ (order-room o)
   update-goes o Nothing = reply-goes _ _ (order-room o)
 
-  purge-goes : isOrder (x .kind) ≡ true → (r : Found) → refusedIn (purgeAt r a t .answer) ≡ false
+  purge-goes : isOrder (x .kind) ≡ true → (r : Found) → refusedIn (purgeAt capacity r a t .answer) ≡ false
   purge-goes o (At j) = reply-goes _ _ (order-room o)
   purge-goes o Nothing = reply-goes _ _ (order-room o)
 
@@ -240,7 +180,7 @@ module _ (ins : Insertion) (s : Store) (f : List ℕ) (i : Consistent s f) (live
     served-go : servedOn (l .waiting) a ≡ Go o
     served-go = ap (λ (y : Waiting). servedOn y a) w ∙ rw (eq-eqb (blockOf (o .word) .0) (a .0) b)
 
-  kind-goes : (y : DownKind) → x .kind ≡ y → refusedIn (deliverKind ins y (s .shape .c) x t .answer) ≡ false
+  kind-goes : (y : DownKind) → x .kind ≡ y → refusedIn (deliverKind capacity ins y (s .shape .c) x t .answer) ≡ false
   kind-goes Update q = update-goes (ap isOrder q) (searchOf l (s .shape .c) a)
   kind-goes Purge q = purge-goes (ap isOrder q) (searchOf l (s .shape .c) a)
   kind-goes Grant q =
@@ -253,5 +193,5 @@ module _ (ins : Insertion) (s : Store) (f : List ℕ) (i : Consistent s f) (live
   pub deliver-goes : refusedOf (deliverOf ins s k .answer) ≡ false
   unfolding deliverLane commitLane
   deliver-goes =
-      ap (λ (r : Outcome). refusedOf (r .answer)) (deliver-is ins s k (i .sound) h) ∙ answer-goes k _ (deliverLane ins (s .shape .c) l .answer) ∙
+      ap (λ (r : Outcome). refusedOf (r .answer)) (deliver-is ins s k (i .sound) h) ∙ answer-goes k _ (deliverLane capacity ins (s .shape .c) l .answer) ∙
       pick (λ (r : LaneStep). refusedIn (r .answer) ≡ false) (emptyAt (l .downs .len)) _ _ (λ e. absurd (filled (eqb-true _ _ e))) (λ _. kind-goes (x .kind) refl)

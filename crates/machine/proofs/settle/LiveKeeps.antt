@@ -1,6 +1,6 @@
 -- An opening gives a live store, and every call keeps a consistent one live; so does every list of calls. Assumes nothing.
 use Prim.Native.Nat.{ℕ, suc, _<_, _≤_}
-use mathlib.Core.Path.{_≡_, refl}
+use mathlib.Core.Path.{_≡_, refl, sym, _∙_}
 use mathlib.Core.List.{List}
 use native.Mathlib.Omega.{arith}
 use Rattle.words.specs.declared.LaneNo.{LaneNo}
@@ -13,6 +13,7 @@ use Rattle.lanes.specs.UseOrder.{Insertion, placeAt}
 use Rattle.answers.specs.declared.Answer.the-variants.{Opened}
 use Rattle.store.specs.declared.Store.{Store}
 use Rattle.store.specs.declared.Outcome.{Outcome}
+use Rattle.store.specs.declared.Lookup.the-variants.{Of, Nothing}
 use Rattle.store.specs.Opening.{blankLane, freshOf, openOf}
 use Rattle.store.specs.Stores.{noLane, laneAt}
 use Rattle.machine.specs.declared.LaneStep.{LaneStep}
@@ -33,7 +34,7 @@ use Rattle.machine.proofs.projection.SeenDeliver.{deliver-case}
 use Rattle.machine.proofs.list.OuterRun.{run-pays}
 use Rattle.machine.proofs.store.Consistent.{Consistent, pendingIn}
 use Rattle.machine.proofs.store.ConsistentLane.{lane-sized}
-use Rattle.machine.proofs.store.ConsistentOpen.{each-lane, opened-fresh, open-consistent}
+use Rattle.machine.proofs.store.ConsistentOpen.{each-lane, blank-service, opened-fresh, open-consistent}
 use Rattle.machine.proofs.store.ConsistentSettle.{serve-leads, return-leads, deliver-leads}
 use Rattle.machine.proofs.store.OrderOfMemory.{call-consistent}
 use Rattle.machine.proofs.settle.Live.{LaneLive, Live}
@@ -63,11 +64,11 @@ fresh-live shape =
     record {
       lane = each-lane (LaneLive (shape .c)) shape (blank-live (shape .c)) (record { ejects = omega arith; room = refl });
       one = λ a _. each-lane (λ (l : Lane). owed (seen (shape .c) (blockNo a) l) ≤ 1) shape (blank-owed (shape .c) (blockNo a)) (past-owed (shape .c) (blockNo a));
-      awaits = λ v e. clash (cc);
+      awaits = λ a v e. let q : Nothing ≡ Of v = sym (blank-service a) ∙ e in clash (cc);
     }
 
 pub open-live : (shape : Shape) → openOf shape .answer ≡ Opened → Live (openOf shape .store)
-open-live shape e = rw (opened-fresh shape e .1) (fresh-live shape)
+open-live shape e = rw (opened-fresh shape e .2) (fresh-live shape)
 
 -- a live lane that owes no more, put back
 lane-commits : (s : Store) (k : LaneNo) (r : LaneStep) → Live s → LaneLive (s .shape .c) (r .lane) → OwesLess (s .shape .c) (laneAt s (k .0)) (r .lane) → Live (commitLane s k r .store)

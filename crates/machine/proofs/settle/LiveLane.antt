@@ -23,7 +23,7 @@ use Rattle.queues.specs.declared.DownMessage.{DownMessage}
 use Rattle.queues.specs.declared.DownKind.{DownKind}
 use Rattle.queues.specs.declared.DownKind.the-variants.{Update, Purge, Grant, BareGrant}
 use Rattle.queues.specs.declared.DownQueue.{DownQueue}
-use Rattle.queues.specs.Queues.{emptyAt, headDown, takeDown, pushReturn}
+use Rattle.queues.specs.Queues.{capacity, emptyAt, headDown, takeDown, pushReturn}
 use Rattle.lanes.specs.declared.Lane.{Lane}
 use Rattle.lanes.specs.declared.Command.{Command}
 use Rattle.lanes.specs.declared.Command.the-variants.{Exclude}
@@ -94,12 +94,12 @@ ejects-join [] m = omega arith
 ejects-join (n ∷ q) m = let h = ejects-join q m in omega arith
 
 -- .. an answer nothing, any message at most one
-push-answer : (l : Lane) (m : ReturnMessage) → LaneSized l → l .returns .len < 2 → isAnswer (m .kind) ≡ true → ejectCount (queuedReturns (pushReturn (l .returns) m .queue)) ≡ ejectCount (queuedReturns (l .returns))
+push-answer : (l : Lane) (m : ReturnMessage) → LaneSized l → l .returns .len < capacity → isAnswer (m .kind) ≡ true → ejectCount (queuedReturns (pushReturn capacity (l .returns) m .queue)) ≡ ejectCount (queuedReturns (l .returns))
 push-answer l m z h e =
     ap ejectCount (push-returns (l .returns) m (z .returns) h) ∙ ejects-join (queuedReturns (l .returns)) m ∙
     rw e (omega arith)
 
-push-most : (l : Lane) (m : ReturnMessage) → LaneSized l → l .returns .len < 2 → ejectCount (queuedReturns (l .returns)) ≤ 0 → ejectCount (queuedReturns (pushReturn (l .returns) m .queue)) ≤ 1
+push-most : (l : Lane) (m : ReturnMessage) → LaneSized l → l .returns .len < capacity → ejectCount (queuedReturns (l .returns)) ≤ 0 → ejectCount (queuedReturns (pushReturn capacity (l .returns) m .queue)) ≤ 1
 push-most l m z h e = rw (push-returns (l .returns) m (z .returns) h, ejects-join (queuedReturns (l .returns)) m) (by-cond (λ n. ejectCount (queuedReturns (l .returns)) + n ≤ 1) (isAnswer (m .kind)) 0 1 (omega arith) (omega arith))
 
 -- a lane that waits as before, with no more ejections and no less room
@@ -112,8 +112,8 @@ stays-live c l l′ e q r h =
     }
 
 -- a message joins the down queue
-pub posted-live : (c : ℕ) (m : DownMessage) (l : Lane) → LaneLive c l → LaneLive c (posted m l)
-posted-live c m l h = stays-live c l (posted m l) refl (omega arith) (λ a e. e) h
+pub posted-live : (c : ℕ) (m : DownMessage) (l : Lane) → LaneLive c l → LaneLive c (posted capacity m l)
+posted-live c m l h = stays-live c l (posted capacity m l) refl (omega arith) (λ a e. e) h
 
 -- a lane that does not wait unserved has no ejection under way
 pub none-ejected : (c : ℕ) (l : Lane) → unservedOf (l .waiting) ≡ false → LaneLive c l → ejectCount (queuedReturns (l .returns)) ≤ 0
@@ -145,16 +145,16 @@ module _ (c : ℕ) (op : Op) (w : WordNo) (l : Lane) (z : LaneSized l) (b : c �
       waits-live Exclude l (omega arith) (any-true _ c (i .0) (holds-takes (blockOf w) (lineAt l i) (f .1)) (f .0)))
 
   -- the line given up is free
-  evict-live : l .waiting ≡ Idle → (i : LineNo) → i .0 < c → LaneLive c (evict i op w l .lane)
+  evict-live : l .waiting ≡ Idle → (i : LineNo) → i .0 < c → LaneLive c (evict capacity i op w l .lane)
   unfolding evict
   evict-live idle i h =
       let n = z .lines in
-      pick (λ (r : LaneStep). LaneLive c (r .lane)) (pushReturn (l .returns) (ejectOf (lineAt l i)) .full) (refuseLane QueueFull l) (waits (readOf op) op w (evicted i l)) (λ _. live)
+      pick (λ (r : LaneStep). LaneLive c (r .lane)) (pushReturn capacity (l .returns) (ejectOf (lineAt l i)) .full) (refuseLane QueueFull l) (waits (readOf op) op w (evicted i l)) (λ _. live)
       (λ t. waits-live (readOf op) (evicted i l) (push-most l (ejectOf (lineAt l i)) z (push-room (l .returns) (ejectOf (lineAt l i)) t) (none idle))
       (any-true _ c (i .0) (rw (getD-set-same (l .lines) (i .0) (invalid (lineAt l i)) noLine (omega arith))) h))
 
   -- a miss with a line that is not valid, or with none
-  miss-live : l .waiting ≡ Idle → placeAt (l .order) 0 .0 < c → (f : Found) → vacantOf l c ≡ f → LaneLive c (missWith f op w l .lane)
+  miss-live : l .waiting ≡ Idle → placeAt (l .order) 0 .0 < c → (f : Found) → vacantOf l c ≡ f → LaneLive c (missWith capacity f op w l .lane)
   miss-live idle h (At i) e =
       let f = vacant-invalid c l i e in
       let n = none idle in
@@ -162,31 +162,31 @@ module _ (c : ℕ) (op : Op) (w : WordNo) (l : Lane) (z : LaneSized l) (b : c �
   miss-live idle h Nothing e = evict-live idle (placeAt (l .order) 0) h
 
   -- by what Search finds
-  at-live : placeAt (l .order) 0 .0 < c → (f : Found) → searchOf l c (blockOf w) ≡ f → LaneLive c (beginAt f c op w l .lane)
+  at-live : placeAt (l .order) 0 .0 < c → (f : Found) → searchOf l c (blockOf w) ≡ f → LaneLive c (beginAt capacity f c op w l .lane)
   unfolding miss
   at-live h (At i) e = hit-live i e
   at-live h Nothing e = miss-live (admits .miss e) h (vacantOf l c) refl
 
 -- the lane's part of begin
-pub begin-lane-live : (c : ℕ) (op : Op) (w : WordNo) (l : Lane) → LaneSized l → c ≤ 8 → placeAt (l .order) 0 .0 < c → Admitted c op w l → LaneLive c l → LaneLive c (beginLane c op w l .lane)
+pub begin-lane-live : (c : ℕ) (op : Op) (w : WordNo) (l : Lane) → LaneSized l → c ≤ 8 → placeAt (l .order) 0 .0 < c → Admitted c op w l → LaneLive c l → LaneLive c (beginLane capacity c op w l .lane)
 unfolding beginLane
 begin-lane-live c op w l z b h admits live = at-live c op w l z b live admits h (searchOf l c (blockOf w)) refl
 
 module _ (ins : Insertion) (c : ℕ) (l : Lane) (z : LaneSized l) (live : LaneLive c l) (q : DownQueue) where
   -- an answer is sent from a lane whose lines leave no less room
   reply-live : (ls : List Line) (m : ReturnMessage) → isAnswer (m .kind) ≡ true → ((a : BlockNo) → roomIn c (l .lines) a ≡ true → roomIn c ls a ≡ true) →
-      LaneLive c (orAsBefore l (reply m (withDowns q (withLines ls l))) .lane)
+      LaneLive c (orAsBefore l (reply capacity m (withDowns q (withLines ls l))) .lane)
   unfolding reply
   reply-live ls m e r =
-      pick (λ (x : LaneStep). LaneLive c (orAsBefore l x .lane)) (pushReturn (l .returns) m .full) _ _ (λ _. live)
+      pick (λ (x : LaneStep). LaneLive c (orAsBefore l x .lane)) (pushReturn capacity (l .returns) m .full) _ _ (λ _. live)
       (λ t. let p = push-answer l m z (push-room (l .returns) m t) e in stays-live c l _ refl (omega arith) r live)
 
   -- the orders
-  update-live : (a : BlockNo) (f : Found) → LaneLive c (orAsBefore l (updateAt f a (withDowns q l)) .lane)
+  update-live : (a : BlockNo) (f : Found) → LaneLive c (orAsBefore l (updateAt capacity f a (withDowns q l)) .lane)
   update-live a (At i) = reply-live _ _ refl (λ d. room-set c (l .lines) (i .0) (shared (lineAt l i)) d (λ e. e))
   update-live a Nothing = reply-live (l .lines) _ refl (λ d e. e)
 
-  purge-live : (a : BlockNo) (f : Found) → LaneLive c (orAsBefore l (purgeAt f a (withDowns q l)) .lane)
+  purge-live : (a : BlockNo) (f : Found) → LaneLive c (orAsBefore l (purgeAt capacity f a (withDowns q l)) .lane)
   purge-live a (At i) =
       reply-live _ (purgedOf a (lineAt l i)) (by-cond (λ (m : ReturnMessage). isAnswer (m .kind) ≡ true) (lineAt l i .private) _ _ refl refl)
       (λ d. room-set c (l .lines) (i .0) (invalid (lineAt l i)) d (λ e. refl))
@@ -219,7 +219,7 @@ module _ (ins : Insertion) (c : ℕ) (l : Lane) (z : LaneSized l) (live : LaneLi
       by-cond P (eqb (blockOf (o .word) .0) (a .0)) (Go o) (No Unexpected) (go o (none-ejected c l (ap unservedOf e) live)) (refused Unexpected)
 
   -- what a message does in the lane that took it
-  kind-live : (y : DownKind) (x : DownMessage) → LaneLive c (orAsBefore l (deliverKind ins y c x (withDowns q l)) .lane)
+  kind-live : (y : DownKind) (x : DownMessage) → LaneLive c (orAsBefore l (deliverKind capacity ins y c x (withDowns q l)) .lane)
   kind-live Update x = update-live (x .block) (searchOf (withDowns q l) c (x .block))
   kind-live Purge x = purge-live (x .block) (searchOf (withDowns q l) c (x .block))
   kind-live Grant x =
@@ -230,7 +230,7 @@ module _ (ins : Insertion) (c : ℕ) (l : Lane) (z : LaneSized l) (live : LaneLi
       (λ o none. bare-live none o (searchOf (withDowns q l) c (x .block))) (x .block) (l .waiting) refl
 
 -- the lane's part of deliver
-pub deliver-lane-live : (ins : Insertion) (c : ℕ) (l : Lane) → LaneSized l → LaneLive c l → LaneLive c (deliverLane ins c l .lane)
+pub deliver-lane-live : (ins : Insertion) (c : ℕ) (l : Lane) → LaneSized l → LaneLive c l → LaneLive c (deliverLane capacity ins c l .lane)
 unfolding deliverLane
 deliver-lane-live ins c l z live =
     by-cond (λ (r : LaneStep). LaneLive c (r .lane)) (emptyAt (l .downs .len)) (refuseLane NothingPending l) _ live

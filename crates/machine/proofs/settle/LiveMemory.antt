@@ -7,14 +7,14 @@ use mathlib.Core.Bool.{Bool, true, false, _&&_}
 use mathlib.Core.List.{List}
 use lib.Dec.{eqb}
 use lib.ListN.{getD, set}
-use borrow.Author.Tests.{eq-eqb, ne-eqb, lt-leb}
+use borrow.Author.Tests.{ne-eqb, lt-leb}
 use native.Mathlib.Omega.{arith}
 use Rattle.words.specs.declared.LaneNo.{LaneNo}
 use Rattle.words.specs.declared.BlockNo.{BlockNo}
 use Rattle.words.specs.Units.{blockOf}
 use Rattle.words.proofs.Folds.{any-never, by-cond, pick}
 use Rattle.queues.specs.declared.ReturnMessage.{ReturnMessage}
-use Rattle.queues.specs.Queues.{fullAt, headReturn, takeReturn}
+use Rattle.queues.specs.Queues.{capacity, fullAt, headReturn, takeReturn}
 use Rattle.lanes.specs.declared.Lane.{Lane}
 use Rattle.lanes.specs.declared.Operation.{Operation}
 use Rattle.lanes.specs.declared.Waiting.the-variants.{Unserved}
@@ -23,11 +23,10 @@ use Rattle.answers.specs.Refusals.{refusedOf}
 use Rattle.store.specs.declared.Store.{Store}
 use Rattle.store.specs.declared.Block.{Block}
 use Rattle.store.specs.declared.Control.{Control}
-use Rattle.store.specs.declared.Control.the-variants.{Free, Busy}
 use Rattle.store.specs.declared.Counted.{Counted}
 use Rattle.store.specs.declared.Counted.the-variants.{Awaits, Closes}
 use Rattle.store.specs.declared.Outcome.{Outcome}
-use Rattle.store.specs.Control.{lowered, answerOf, busyOf}
+use Rattle.store.specs.Control.{lowered, answerOf, engagedOf}
 use Rattle.store.specs.Stores.{noLane, laneAt, blockAt}
 use Rattle.store.specs.LaneSets.{goesTo}
 use Rattle.machine.specs.declared.Move.{Move}
@@ -54,13 +53,13 @@ record Goes (v : Move) : Type 0 where
 
 module _ (s : Store) (empty : (j : ℕ) → laneAt s j .downs .len ≡ 0) where
   -- no down queue is full, whatever lanes a message goes to
-  none-full : (to : List Bool) (k : ℕ) (l : Lane) → l .downs .len ≡ 0 → someFull to (set (s .lanes) k l) ≡ false
+  none-full : (to : List Bool) (k : ℕ) (l : Lane) → l .downs .len ≡ 0 → someFull capacity to (set (s .lanes) k l) ≡ false
   unfolding someFull
   none-full to k l e =
-      any-never (λ j. goesTo to j && fullAt (getD (set (s .lanes) k l) j noLane .downs .len)) 8
+      any-never (λ j. goesTo to j && fullAt capacity (getD (set (s .lanes) k l) j noLane .downs .len)) 8
       (λ j _.
       let z : getD (set (s .lanes) k l) j noLane .downs .len ≡ 0 = set-cases (λ (x : Lane). x .downs .len ≡ 0) (s .lanes) k j l noLane (λ _. e) (empty j) in
-      and-never (goesTo to j) (fullAt (getD (set (s .lanes) k l) j noLane .downs .len)) (λ _. lt-leb 2 (getD (set (s .lanes) k l) j noLane .downs .len) (omega arith)))
+      and-never (goesTo to j) (fullAt capacity (getD (set (s .lanes) k l) j noLane .downs .len)) (λ _. lt-leb capacity (getD (set (s .lanes) k l) j noLane .downs .len) (omega arith)))
 
   commit-goes : (k : LaneNo) (a : BlockNo) (v : Move) → Goes v → refusedOf (commitMove s k a v .answer) ≡ false
   unfolding commitMove
@@ -95,8 +94,8 @@ module _ (s : Store) (empty : (j : ℕ) → laneAt s j .downs .len ≡ 0) where
       answer-goes : (t : Lane) (u : Block) → t .downs .len ≡ 0 → Awaited s (a .0) → Goes (countedMove (answerOf (s .control) a) l b (s .control) t u)
       unfolding close
       answer-goes t u d w =
-          rw (w .busy, eq-eqb (w .service .block .0) (a .0) (w .block), ne-eqb (w .service .awaited) 0 (w .some))
-          (by-cond (λ (c : Counted). Goes (countedMove c l b (Busy (w .service)) t u)) (eqb (w .service .awaited) 1) (Closes (w .service) Free) (Awaits (Busy (lowered (w .service))))
+          rw (w .found, ne-eqb (w .service .awaited) 0 (w .some))
+          (by-cond (λ (c : Counted). Goes (countedMove c l b (s .control) t u)) (eqb (w .service .awaited) 1) (Closes (w .service)) (Awaits (lowered (w .service)))
           (record { answer = refl; downs = d }) (record { answer = refl; downs = d }))
 
       return-move-goes : Goes (returnMove k x l b (s .control))
@@ -115,7 +114,7 @@ module _ (s : Store) (empty : (j : ℕ) → laneAt s j .downs .len ≡ 0) where
     unfolding close
     serve-move-goes o b y = serve-move-rule Goes k o l b y (λ _. record { answer = refl; downs = empty (k .0) }) (λ _. record { answer = refl; downs = empty (k .0) })
 
-    pub serve-goes : (o : Operation) → l .waiting ≡ Unserved o → busyOf (s .control) ≡ false → l .returns .len ≡ 0 → refusedOf (serveOf s k .answer) ≡ false
+    pub serve-goes : (o : Operation) → l .waiting ≡ Unserved o → engagedOf (s .shape .limit) (s .control) (blockOf (o .word)) ≡ false → l .returns .len ≡ 0 → refusedOf (serveOf s k .answer) ≡ false
     serve-goes o w c r =
         ap (λ (z : Outcome). refusedOf (z .answer)) (serve-is s k o (record { sound = i .sound; lane = h; unserved = w; free = c; clear = r })) ∙
         commit-goes k (blockOf (o .word)) (serveMove k o l (blockAt s (blockOf (o .word) .0)) (s .control)) (serve-move-goes o (blockAt s (blockOf (o .word) .0)) (s .control))

@@ -2,7 +2,7 @@
 -- Assumes nothing.
 use Prim.Native.Nat.{ℕ, _<_, _≤_}
 use mathlib.Core.Logic.{_⊎_, inl, inr, _≢_}
-use mathlib.Core.Path.{_≡_, refl, ap, _∙_}
+use mathlib.Core.Path.{_≡_, refl, sym, ap, _∙_}
 use mathlib.Core.Bool.{Bool, false, cond}
 use mathlib.Core.List.{List}
 use lib.Dec.{eqb}
@@ -11,11 +11,13 @@ use native.Mathlib.Omega.{arith}
 use Rattle.words.specs.declared.LaneNo.{LaneNo}
 use Rattle.words.specs.declared.BlockNo.{BlockNo}
 use Rattle.words.proofs.Folds.{by-cond, pick}
+use Rattle.queues.specs.Queues.{capacity}
 use Rattle.queues.specs.declared.DownMessage.{DownMessage}
 use Rattle.store.specs.declared.Store.{Store}
 use Rattle.store.specs.declared.Outcome.{Outcome}
 use Rattle.store.specs.declared.Service.{Service}
-use Rattle.store.specs.declared.Control.the-variants.{Busy}
+use Rattle.store.specs.declared.Lookup.the-variants.{Of}
+use Rattle.store.specs.Control.{serviceOf}
 use Rattle.store.specs.Stores.{laneAt}
 use Rattle.store.specs.LaneSets.{goesTo}
 use Rattle.machine.specs.declared.Move.{Move}
@@ -27,6 +29,7 @@ use Rattle.machine.proofs.protocol.BlockState.{Seen, BlockState, seen, 
 use Rattle.machine.proofs.protocol.Invariant.{owed}
 use Rattle.machine.proofs.protocol.Moves.{sendAll}
 use Rattle.machine.proofs.protocol.MemoryMoves.{post-owed}
+use Rattle.machine.proofs.projection.Searches.{same-block}
 use Rattle.machine.proofs.projection.Project.{Moves, lane-sent, project-here, project-there}
 use Rattle.machine.proofs.store.Consistent.{Consistent}
 use Rattle.machine.proofs.store.ConsistentMove.{Shows}
@@ -47,7 +50,7 @@ send-grant to m g j e = by-cond (λ (l : Seen). owed l ≡ owed (g j)) (goesTo t
 pub record ShowsLive (s : Store) (k : LaneNo) (x : BlockNo) (v : Move) : Type 0 where
   pub lane : LaneLive (s .shape .c) (v .lane)
   pub one : (j : ℕ) → owed (sendAll (v .to) (v .message) (upd (project s (x .0) .lane) (k .0) (seen (s .shape .c) x (v .lane))) j) ≤ 1
-  pub awaits : (u : Service) → v .control ≡ Busy u → u .awaited ≢ 0
+  pub awaits : (u : Service) → serviceOf (v .control) x ≡ Of u → u .awaited ≢ 0
 
 module _ (s : Store) (f : List ℕ) (i : Consistent s f) (live : Live s) (k : LaneNo) (h : k .0 < 8) (x : BlockNo) (v : Move) (w : Shows s f k x v) (y : ShowsLive s k x v) where
   -- each lane after it
@@ -61,8 +64,12 @@ module _ (s : Store) (f : List ℕ) (i : Consistent s f) (live : Live s) (k : La
 
   -- the store after it
   moved : Moves s k x v → Live (movedStore s k x v)
-  moved g = record { lane = lane-moved; one = λ a b j. go a b j (same? a (x .0)); awaits = y .awaits }
+  moved g = record { lane = lane-moved; one = λ a b j. go a b j (same? a (x .0)); awaits = λ a u e. awaits a u e (same? (a .0) (x .0)) }
     where
+      awaits : (a : BlockNo) (u : Service) → serviceOf (v .control) a ≡ Of u → (a .0 ≡ x .0) ⊎ (a .0 ≢ x .0) → u .awaited ≢ 0
+      awaits a u e (inl q) = y .awaits u (ap (serviceOf (v .control)) (sym (same-block a x q)) ∙ e)
+      awaits a u e (inr n) = live .awaits a u (sym (w .control (a .0) n) ∙ e)
+
       go : (a : ℕ) → a < s .shape .m → (j : ℕ) → (a ≡ x .0) ⊎ (a ≢ x .0) → owed (project (movedStore s k x v) a .lane j) ≤ 1
       go a b j (inl e) =
           let p = ap (λ (d : ℕ). owed (project (movedStore s k x v) d .lane j)) e in
@@ -79,5 +86,5 @@ module _ (s : Store) (f : List ℕ) (i : Consistent s f) (live : Live s) (k : La
   unfolding commitMove
   commit-live =
       rw (w .answer)
-      (pick (λ (r : Outcome). Live (r .store)) (someFull (v .to) (set (s .lanes) (k .0) (v .lane))) _ _ (λ _. live)
+      (pick (λ (r : Outcome). Live (r .store)) (someFull capacity (v .to) (set (s .lanes) (k .0) (v .lane))) _ _ (λ _. live)
       (λ e. moved (record { sized = i .sized; lane-below = h; block-below = w .below; to = w .to; lane = w .lane; space = e; about = w .about })))

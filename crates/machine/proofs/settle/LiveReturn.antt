@@ -1,7 +1,7 @@
 -- Return keeps a store live. Assumes nothing.
 use Prim.Native.Nat.{ℕ, _<_, _≤_}
 use mathlib.Core.Logic.{_≢_}
-use mathlib.Core.Path.{_≡_, refl, ap}
+use mathlib.Core.Path.{_≡_, refl, sym, ap, _∙_}
 use mathlib.Core.List.{List}
 use native.Mathlib.Omega.{arith}
 use Rattle.words.specs.declared.LaneNo.{LaneNo}
@@ -14,9 +14,9 @@ use Rattle.store.specs.declared.Store.{Store}
 use Rattle.store.specs.declared.Block.{Block}
 use Rattle.store.specs.declared.Service.{Service}
 use Rattle.store.specs.declared.Control.{Control}
-use Rattle.store.specs.declared.Control.the-variants.{Free, Busy}
+use Rattle.store.specs.declared.Lookup.the-variants.{Of, Nothing}
 use Rattle.store.specs.declared.Outcome.{Outcome}
-use Rattle.store.specs.Control.{lowered}
+use Rattle.store.specs.Control.{serviceOf, lowered, withUpdated, withoutService}
 use Rattle.store.specs.Stores.{laneAt, blockAt}
 use Rattle.store.specs.LaneSets.{nobody, only}
 use Rattle.machine.specs.declared.Move.{Move}
@@ -34,18 +34,18 @@ use Rattle.machine.proofs.protocol.Directories.{nobody-none}
 use Rattle.machine.proofs.store.Consistent.{Consistent}
 use Rattle.machine.proofs.store.ConsistentLane.{lane-below}
 use Rattle.machine.proofs.store.ConsistentServe.{send-none}
-use Rattle.machine.proofs.store.ConsistentReturn.{taken, has-head, eject-shows, last-shows, more-shows}
+use Rattle.machine.proofs.store.ConsistentReturn.{taken, has-head, own, gone, eject-shows, last-shows, more-shows}
 use Rattle.machine.proofs.settle.Live.{ejectCount, LaneLive, Live}
 use Rattle.machine.proofs.settle.LiveLane.{stays-live}
 use Rattle.machine.proofs.settle.LiveOwed.{take-owed}
 use Rattle.machine.proofs.protocol.MemoryClose.{grant-no-order}
 use Rattle.machine.proofs.settle.LiveMove.{send-grant, ShowsLive, commit-live}
 use Rattle.machine.proofs.rules.Rules.{return-rule}
-use Rattle.machine.proofs.rules.RulesMemory.{return-move-rule}
+use Rattle.machine.proofs.rules.RulesMemory.{Awaited, return-move-rule}
 use Rattle.machine.proofs.store.ConsistentMove.{Shows}
 
 -- a service that awaits more than one answer still awaits one
-lowered-awaits : (v w : Service) → v .awaited ≢ 0 → v .awaited ≢ 1 → Busy (lowered v) ≡ Busy w → w .awaited ≢ 0
+lowered-awaits : (v w : Service) → v .awaited ≢ 0 → v .awaited ≢ 1 → Of (lowered v) ≡ Of w → w .awaited ≢ 0
 lowered-awaits v w n o e z =
     let p : lowered v ≡ w = cc in
     let d = ap (λ (y : Service). y .awaited) p in
@@ -95,28 +95,28 @@ module _ (s : Store) (f : List ℕ) (i : Consistent s f) (live : Live s) (k : La
       upd-cases (λ (j : ℕ) (y : Seen). owed y ≤ 1) (project s (a .0) .lane) (k .0) (seen (s .shape .c) a t) (omega arith) (λ j _. live .one (a .0) m j)
 
   -- nothing is sent, with the control y after it; or the service closes
-  quiet-live : (y : Control) → ((v : Service) → y ≡ Busy v → v .awaited ≢ 0) → ShowsLive s k a (sendNothing t u y)
+  quiet-live : (y : Control) → ((v : Service) → serviceOf y a ≡ Of v → v .awaited ≢ 0) → ShowsLive s k a (sendNothing t u y)
   quiet-live y c = record {
     lane = taken-live;
     one = λ j. let p = ap (λ (g : ℕ → Seen). owed (g j)) (send-none nobody noMessage lanes nobody-none) in let q = one-owed j in omega arith;
     awaits = c;
   }
 
-  close-live : (v : Service) → ShowsLive s k a (close v t u Free)
+  close-live : (v : Service) → Awaited (s .control) a v → ShowsLive s k a (close v t u (withoutService v (s .control)))
   unfolding close
-  close-live v = record {
+  close-live v w = record {
     lane = taken-live;
     one = λ j. let p = send-grant (only (v .lane)) (grantOf u v) lanes j (grant-no-order u v) in let q = one-owed j in omega arith;
-    awaits = λ w e. clash (cc);
+    awaits = λ z e. let q : Nothing ≡ Of z = sym (gone s f i k h filled v w) ∙ e in clash (cc);
   }
 
   pub head-live : Live (commitMove s k a (returnMove k x l b (s .control)) .store)
   unfolding commitMove
   head-live =
       return-move-rule (λ (v : Move). Live (commitMove s k a v .store)) k x l b (s .control)
-      (λ e. committed _ (eject-shows s f i k h filled e) (quiet-live (s .control) (live .awaits))) live
-      (λ e v w one. committed _ (last-shows s f i k h filled e v w one) (close-live v))
-      (λ e v w more. committed _ (more-shows s f i k h filled e v w) (quiet-live (Busy (lowered v)) (λ z r. lowered-awaits v z (w .some) more r)))
+      (λ e. committed _ (eject-shows s f i k h filled e) (quiet-live (s .control) (live .awaits a))) live
+      (λ e v w one. committed _ (last-shows s f i k h filled e v w one) (close-live v w))
+      (λ e v w more. committed _ (more-shows s f i k h filled e v w) (quiet-live (withUpdated (lowered v) (s .control)) (λ z r. lowered-awaits v z (w .some) more (sym (own s f i k h filled e v w) ∙ r))))
     where
       committed : (v : Move) → Shows s f k a v → ShowsLive s k a v → Live (commitMove s k a v .store)
       committed v y g = commit-live s f i live k (lane-below s f i (k .0) h) a v y g

@@ -54,7 +54,7 @@ unfolding settleOf
 settle-steps ins s e h q = rw e (unless-goes (lastOf ins s .answer) s (reached s (lastOf ins s)) h ∙ rw q)
 
 -- a step of settle
-step-lively : (ins : Insertion) (s : Store) → Lively s → Lively (settleStep ins s .store)
+pub step-lively : (ins : Insertion) (s : Store) → Lively s → Lively (settleStep ins s .store)
 step-lively ins s l =
     let r = step-leads ins s (l .flat) (l .consistent) in
     record { flat = r .0; consistent = r .1; live = settle-step-live ins s (l .flat) (l .consistent) (l .live); spare = step-spare ins s (l .spare) }

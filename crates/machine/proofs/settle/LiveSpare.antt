@@ -12,12 +12,12 @@ use Rattle.words.specs.declared.BlockNo.{BlockNo}
 use Rattle.words.specs.declared.WordNo.{WordNo}
 use Rattle.words.specs.declared.Op.{Op}
 use Rattle.words.specs.declared.Shape.{Shape}
-use Rattle.words.specs.Units.{blockOf, shaped}
+use Rattle.words.specs.Units.{blockOf, limited}
 use Rattle.words.specs.Folds.{upTo}
 use Rattle.words.proofs.Folds.{by-cond}
 use Rattle.queues.specs.declared.ReturnMessage.{ReturnMessage}
 use Rattle.queues.specs.declared.DownMessage.{DownMessage}
-use Rattle.queues.specs.Queues.{headReturn}
+use Rattle.queues.specs.Queues.{capacity, headReturn}
 use Rattle.lanes.specs.declared.Lane.{Lane}
 use Rattle.lanes.specs.declared.Operation.{Operation}
 use Rattle.lanes.specs.UseOrder.{Insertion}
@@ -25,7 +25,7 @@ use Rattle.store.specs.declared.Store.{Store}
 use Rattle.store.specs.declared.Block.{Block}
 use Rattle.store.specs.declared.Control.{Control}
 use Rattle.store.specs.declared.Outcome.{Outcome}
-use Rattle.store.specs.Opening.{badShape, blankLane, freshOf, openOf}
+use Rattle.store.specs.Opening.{badShape, badLimit, blankLane, freshOf, openOf}
 use Rattle.store.specs.Stores.{noLane, laneAt, blockAt}
 use Rattle.store.specs.LaneSets.{nobody, only, goesTo}
 use Rattle.machine.specs.declared.LaneStep.{LaneStep}
@@ -39,7 +39,7 @@ use Rattle.machine.specs.Settle.{settleStep, boundOf, Progress, advance,
 use Rattle.machine.specs.Calls.{Call, Begin, Serve, Return, Deliver, Settle, callOf, run}
 use Rattle.machine.proofs.laws.Tests.{on}
 use Rattle.machine.proofs.bounds.KeepsLane.{clash}
-use Rattle.machine.proofs.bounds.Sound.{BlockSound, ControlSound, sound}
+use Rattle.machine.proofs.bounds.Sound.{BlockSound, ControlSound, service-sound, sound}
 use Rattle.machine.proofs.bounds.KeepsServe.{ordered-absent}
 use Rattle.machine.proofs.protocol.Directories.{nobody-none}
 use Rattle.machine.proofs.projection.Project.{}
@@ -68,7 +68,9 @@ fresh-spare shape j _ = each-lane Empty shape blank-empty (record { returns = re
 
 pub open-spare : (shape : Shape) → Spare (openOf shape .store)
 unfolding openOf
-open-spare shape = by-cond (λ (r : Outcome). Spare (r .store)) (badShape shape) _ _ (fresh-spare (shaped 0 0 0)) (fresh-spare shape)
+open-spare shape =
+    by-cond (λ (r : Outcome). Spare (r .store)) (badShape shape) _ _ (fresh-spare (limited 0 0 0 0))
+    (by-cond (λ (r : Outcome). Spare (r .store)) (badLimit shape) _ _ (fresh-spare (limited 0 0 0 0)) (fresh-spare shape))
 
 -- a lane put back
 set-spare : (n : ℕ) (ls : List Lane) (k : ℕ) (l : Lane) → k < n → ((j : ℕ) → n ≤ j → Empty (getD ls j noLane)) → (j : ℕ) → n ≤ j → Empty (getD (set ls k l) j noLane)
@@ -78,15 +80,15 @@ lane-spare : (s : Store) (k : LaneNo) (r : LaneStep) → k .0 < s .shape .n → 
 lane-spare s k r h e = lane-rule (λ (x : Outcome). Spare (x .store)) s k r (λ _ _. e) (λ _. set-spare (s .shape .n) (s .lanes) (k .0) (r .lane) h e)
 
 -- a message leaves the lanes that it does not go to as they were
-post-skip : (to : List Bool) (x : DownMessage) (j t : ℕ) (ls : List Lane) → (j ≡ t → goesTo to t ≡ false) → getD (postTo to x t ls) j noLane ≡ getD ls j noLane
+post-skip : (to : List Bool) (x : DownMessage) (j t : ℕ) (ls : List Lane) → (j ≡ t → goesTo to t ≡ false) → getD (postTo capacity to x t ls) j noLane ≡ getD ls j noLane
 unfolding postTo
 post-skip to x j t ls e = on (goesTo to t) (λ q. rw q (getD-set-other ls t j _ noLane (λ z. clash (cc (e z))))) (λ q. rw q)
 
-post-skips : (to : List Bool) (x : DownMessage) (j t : ℕ) (ls : List Lane) → (j < t → goesTo to j ≡ false) → getD (upTo (postTo to x) t ls) j noLane ≡ getD ls j noLane
+post-skips : (to : List Bool) (x : DownMessage) (j t : ℕ) (ls : List Lane) → (j < t → goesTo to j ≡ false) → getD (upTo (postTo capacity to x) t ls) j noLane ≡ getD ls j noLane
 unfolding upTo
 post-skips to x j zero ls e = refl
 post-skips to x j (suc t) ls e =
-    post-skip to x j t (upTo (postTo to x) t ls) (λ z. ap (goesTo to) (sym z) ∙ e (omega arith)) ∙ post-skips to x j t ls (λ h. e (omega arith))
+    post-skip to x j t (upTo (postTo capacity to x) t ls) (λ z. ap (goesTo to) (sym z) ∙ e (omega arith)) ∙ post-skips to x j t ls (λ h. e (omega arith))
 
 -- memory's part of a call, whose message goes to lanes only
 move-spare : (s : Store) (k : LaneNo) (a : BlockNo) (v : Move) → k .0 < s .shape .n → ((j : ℕ) → s .shape .n ≤ j → j < 8 → goesTo (v .to) j ≡ false) → Spare s →
@@ -117,10 +119,10 @@ serve-spare s k e =
     (serve-to (s .shape .n) k o (laneAt s (k .0)) (blockAt s (blockOf (o .word) .0)) (s .control) (r .lane) (a .block (blockOf (o .word) .0) (a .lane (k .0) (r .lane) .unserved o (r .unserved)))) e)
 
 -- return
-return-to : (n m : ℕ) (k : LaneNo) (x : ReturnMessage) (l : Lane) (b : Block) (y : Control) → ControlSound n m y → (j : ℕ) → n ≤ j → goesTo (returnMove k x l b y .to) j ≡ false
+return-to : (n m limit : ℕ) (k : LaneNo) (x : ReturnMessage) (l : Lane) (b : Block) (y : Control) → ControlSound n m limit y → (j : ℕ) → n ≤ j → goesTo (returnMove k x l b y .to) j ≡ false
 unfolding close
-return-to n m k x l b y g j p =
-    return-move-rule (λ (v : Move). goesTo (v .to) j ≡ false) k x l b y (λ _. nobody-none j) (nobody-none j) (λ _ v w _. only-spare n (v .lane) (g .service v (w .busy) .lane) j p)
+return-to n m limit k x l b y g j p =
+    return-move-rule (λ (v : Move). goesTo (v .to) j ≡ false) k x l b y (λ _. nobody-none j) (nobody-none j) (λ _ v w _. only-spare n (v .lane) (service-sound n m limit y (v .block) v g (w .at) .lane) j p)
     (λ _ v _ _. nobody-none j)
 
 return-spare : (s : Store) (k : LaneNo) → Spare s → Spare (returnOf s k .store)
@@ -129,7 +131,7 @@ return-spare s k e =
     (λ r.
     let x = headReturn (laneAt s (k .0) .returns) in
     move-spare s k (x .block) _ (r .lane)
-    (λ j p _. return-to (s .shape .n) (s .shape .m) k x (laneAt s (k .0)) (blockAt s (x .block .0)) (s .control) (sound s (r .sound) .control) j p) e)
+    (λ j p _. return-to (s .shape .n) (s .shape .m) (s .shape .limit) k x (laneAt s (k .0)) (blockAt s (x .block .0)) (s .control) (sound s (r .sound) .control) j p) e)
 
 deliver-spare : (ins : Insertion) (s : Store) (k : LaneNo) → Spare s → Spare (deliverOf ins s k .store)
 deliver-spare ins s k e = deliver-rule ins (λ (r : Outcome). Spare (r .store)) s k (λ _. e) (λ _ h. lane-spare s k _ h e)

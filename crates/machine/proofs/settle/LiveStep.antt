@@ -5,8 +5,9 @@ use mathlib.Core.Logic.{_⊎_, inl, inr, _≢_}
 use mathlib.Core.Path.{_≡_, refl, ap}
 use mathlib.Core.Bool.{true, false, not}
 use mathlib.Core.List.{List}
-use borrow.Author.Tests.{eq-eqb}
+use borrow.Author.Tests.{eq-eqb, lt-leb}
 use native.Mathlib.Omega.{arith}
+use Rattle.words.specs.declared.BlockNo.{BlockNo}
 use Rattle.words.specs.Units.{blockOf}
 use Rattle.words.proofs.Folds.{below?, any-never}
 use Rattle.lanes.specs.declared.Operation.{Operation}
@@ -17,15 +18,16 @@ use Rattle.lanes.specs.UseOrder.{Insertion}
 use Rattle.answers.specs.Refusals.{refusedOf}
 use Rattle.store.specs.declared.Store.{Store}
 use Rattle.store.specs.declared.Outcome.{Outcome}
-use Rattle.store.specs.declared.Control.{Control}
-use Rattle.store.specs.declared.Control.the-variants.{Free, Busy}
+use Rattle.store.specs.declared.Lookup.the-variants.{Nothing}
 use Rattle.store.specs.Stores.{laneAt}
 use Rattle.store.specs.Quiet.{activeOf, quietOf}
-use Rattle.store.specs.Control.{busyOf}
+use Rattle.store.specs.Control.{slotAt, slotOf, serviceOf, openServices, engagedOf}
+use Rattle.store.proofs.Services.{never, busy-found, for-none, none-found}
 use Rattle.machine.specs.Settle.{lane, settleStep}
+use Rattle.machine.proofs.laws.Sums.{count-zero}
 use Rattle.machine.proofs.bounds.KeepsLane.{clash}
 use Rattle.machine.proofs.bounds.Sound.{sound}
-use Rattle.machine.proofs.protocol.BlockState.{seen, project}
+use Rattle.machine.proofs.protocol.BlockState.{seen, blockNo, project}
 use Rattle.machine.proofs.protocol.Invariant.{grantCount, serving, servedCount, owed}
 use Rattle.machine.proofs.store.Consistent.{Consistent}
 use Rattle.machine.proofs.settle.Live.{Live}
@@ -64,12 +66,25 @@ module _ (s : Store) (f : List ℕ) (i : Consistent s f) (live : Live s) (spare 
       unfolding owed seen
       none-owed a j = rw (all-returns j, all-downs j)
 
-      free : s .control ≡ Free
-      free = go (s .control) refl
-        where
-          go : (x : Control) → s .control ≡ x → s .control ≡ Free
-          go Free e = e
-          go (Busy v) e = absurd (live .awaits v e (awaited-owed s f i v e (sound s (i .sound) .control .service v e .block) (λ k _. none-owed (v .block .0) k)))
+      idle : (j : ℕ) → j < 8 → slotAt (s .control) j .busy ≡ false
+      idle j h = never (slotAt (s .control) j .busy) (λ b.
+          let v = slotAt (s .control) j .service in
+          let g = sound s (i .sound) .control in
+          let e = busy-found (s .control) j (g .distinct) h b in
+          live .awaits (v .block) v e (awaited-owed s f i (v .block .0) v e (g .services j h b .block) (λ k _. none-owed (v .block .0) k)))
+
+      none-open : openServices (s .control) ≡ 0
+      unfolding openServices
+      none-open = count-zero (λ j. slotAt (s .control) j .busy) 8 idle
+
+      none-for : (a : BlockNo) → slotOf (s .control) a ≡ 8
+      none-for a = for-none (s .control) a (λ j h. rw (idle j h))
+
+      none-serves : (a : BlockNo) → serviceOf (s .control) a ≡ Nothing
+      none-serves a = let e = none-for a in none-found (s .control) a (omega arith)
+
+      free : (a : BlockNo) → engagedOf (s .shape .limit) (s .control) a ≡ false
+      free a = let p = sound s (i .sound) .limit-low in rw (none-for a, none-open) (lt-leb (s .shape .limit) 0 (omega arith))
 
       -- .. and no operation is served
       none-served : (k : ℕ) → k < s .shape .n → (o : Operation) → laneAt s k .waiting ≢ Served o
@@ -78,14 +93,14 @@ module _ (s : Store) (f : List ℕ) (i : Consistent s f) (live : Live s) (spare 
           let a = blockOf (o .word) .0 in
           let g = i .block a (sound s (i .sound) .lane k h .served o e) .1 .grant k in
           let d : grantCount (project s a .lane k .downs) ≡ 0 = rw (all-downs k) in
-          let c : serving (project s a .service) k ≡ 0 = rw free in
+          let c : serving (project s a .service) k ≡ 0 = rw (none-serves (blockNo a)) in
           let w : servedCount (project s a .lane k .waiting) ≡ 1 = rw (e, eq-eqb a a refl) in
           absurd (omega arith)
 
       -- .. so that a store with no unserved operation is quiet
       quiet : ((k : ℕ) → k < s .shape .n → unservedOf (laneAt s k .waiting) ≡ false) → quietOf s ≡ true
       unfolding quietOf activeOf
-      quiet none = rw free (ap not (any-never (λ k. activeOf (laneAt s k)) (s .shape .n) (λ k h. go k h (laneAt s k .waiting) refl)))
+      quiet none = rw none-open (ap not (any-never (λ k. activeOf (laneAt s k)) (s .shape .n) (λ k h. go k h (laneAt s k .waiting) refl)))
         where
           go : (k : ℕ) → k < s .shape .n → (w : Waiting) → laneAt s k .waiting ≡ w → activeOf (laneAt s k) ≡ false
           go k h Idle e = rw (e, all-returns k, all-downs k)
@@ -96,5 +111,5 @@ module _ (s : Store) (f : List ℕ) (i : Consistent s f) (live : Live s) (spare 
   step-goes ins active =
       step-rule ins (λ (r : Outcome). refusedOf (r .answer) ≡ false) s (λ k h e. deliver-goes ins s f i live (lane k) h e)
       (λ d k h e. return-goes s (all-downs d) f i (lane k) h e)
-      (λ d r k h e. let o = unserved-some _ e in serve-goes s (all-downs d) f i (lane k) h (o .0) (o .1) (ap busyOf (free d r)) (all-returns d r k))
+      (λ d r k h e. let o = unserved-some _ e in serve-goes s (all-downs d) f i (lane k) h (o .0) (o .1) (free d r (blockOf (o .0 .word))) (all-returns d r k))
       (λ d r u. clash (cc (quiet d r u)))

@@ -12,7 +12,7 @@ use Rattle.words.specs.Units.{blockOf}
 use Rattle.queues.specs.declared.DownMessage.{DownMessage}
 use Rattle.queues.specs.declared.DownKind.{DownKind}
 use Rattle.queues.specs.declared.DownKind.the-variants.{Update, Purge, Grant, BareGrant}
-use Rattle.queues.specs.Queues.{headDown}
+use Rattle.queues.specs.Queues.{capacity, headDown}
 use Rattle.lanes.specs.declared.Lane.{Lane}
 use Rattle.lanes.specs.UseOrder.{Insertion}
 use Rattle.store.specs.declared.Store.{Store}
@@ -141,5 +141,5 @@ module _ (s : Store) (f : List ℕ) (i : Consistent s f) (k : LaneNo) (h : k .0 
 pub deliver-consistent : (ins : Insertion) (s : Store) (f : List ℕ) (k : LaneNo) → Consistent s f → StaysConsistent s f (deliverOf ins s k)
 deliver-consistent ins s f k i =
     deliver-rule ins (StaysConsistent s f) s k (λ x. refused-consistent s f x i)
-    (λ _ h. case-consistent s f i k h (deliverLane ins (s .shape .c) (laneAt s (k .0)))
+    (λ _ h. case-consistent s f i k h (deliverLane capacity ins (s .shape .c) (laneAt s (k .0)))
     (deliver-case ins (s .shape .c) (laneAt s (k .0)) (lane-sized s f i (k .0) h) (sound s (i .sound) .c-high) (i .unique (k .0)) (sound s (i .sound) .lane (k .0) h .downs .short)))

@@ -10,6 +10,7 @@ use borrow.Author.Tests.{eq-eqb, ne-eqb}
 use Rattle.words.specs.declared.LaneNo.{LaneNo}
 use Rattle.words.specs.declared.BlockNo.{BlockNo}
 use Rattle.words.proofs.Folds.{pick}
+use Rattle.queues.specs.Queues.{capacity}
 use Rattle.queues.specs.declared.DownMessage.{DownMessage}
 use Rattle.lanes.specs.declared.Lane.{Lane}
 use Rattle.answers.specs.declared.Answer.the-variants.{Step}
@@ -44,7 +45,7 @@ pub record Shows (s : Store) (f : List ℕ) (k : LaneNo) (x : BlockNo) (v : Move
 
 module _ (s : Store) (f : List ℕ) (i : Consistent s f) (k : LaneNo) (h : k .0 < 8) (x : BlockNo) (v : Move) (w : Shows s f k x v) where
   -- a part of a lane that neither a message nor the call changes
-  lane-part : {A : Type 0} (g : Lane → A) → ((m : DownMessage) (l : Lane) → g (posted m l) ≡ g l) → g (v .lane) ≡ g (laneAt s (k .0)) →
+  lane-part : {A : Type 0} (g : Lane → A) → ((m : DownMessage) (l : Lane) → g (posted capacity m l) ≡ g l) → g (v .lane) ≡ g (laneAt s (k .0)) →
       (j : ℕ) → g (laneAt (movedStore s k x v) j) ≡ g (laneAt s j)
   lane-part g p e j = ap g (lane-sent s (k .0) (v .lane) (v .to) (v .message) j (w .to) (i .sized .lanes) h) ∙ sent (goesTo (v .to) j)
     where
@@ -52,7 +53,7 @@ module _ (s : Store) (f : List ℕ) (i : Consistent s f) (k : LaneNo) (h : k .0 
       put (inl q) = rw (q, eq-eqb (k .0) (k .0) refl) e
       put (inr n) = rw (ne-eqb j (k .0) n) refl
 
-      sent : (b : Bool) → g (cond b (posted (v .message) (cond (eqb j (k .0)) (v .lane) (laneAt s j))) (cond (eqb j (k .0)) (v .lane) (laneAt s j))) ≡ g (laneAt s j)
+      sent : (b : Bool) → g (cond b (posted capacity (v .message) (cond (eqb j (k .0)) (v .lane) (laneAt s j))) (cond (eqb j (k .0)) (v .lane) (laneAt s j))) ≡ g (laneAt s j)
       sent true = p (v .message) _ ∙ put (same? j (k .0))
       sent false = put (same? j (k .0))
 
@@ -74,5 +75,5 @@ module _ (s : Store) (f : List ℕ) (i : Consistent s f) (k : LaneNo) (h : k .0 
   unfolding commitMove
   commit-consistent =
       rw (w .answer)
-      (pick (StaysConsistent s f) (someFull (v .to) (set (s .lanes) (k .0) (v .lane))) _ _ (λ _. refused-consistent s f QueueFull i)
+      (pick (StaysConsistent s f) (someFull capacity (v .to) (set (s .lanes) (k .0) (v .lane))) _ _ (λ _. refused-consistent s f QueueFull i)
       (λ e. rw (w .answer) at (moved (record { sized = i .sized; lane-below = h; block-below = w .below; to = w .to; lane = w .lane; space = e; about = w .about }))))

@@ -16,7 +16,10 @@ use Rattle.lanes.specs.declared.Lane.{Lane}
 use Rattle.lanes.specs.declared.Waiting.the-variants.{Idle}
 use Rattle.answers.specs.declared.Answer.the-variants.{Opened}
 use Rattle.store.specs.declared.Block.{Block}
-use Rattle.store.specs.Opening.{badShape, blankLine, blankLane, blankBlock, freshOf, openOf}
+use Rattle.store.specs.declared.Lookup.the-variants.{Nothing}
+use Rattle.store.specs.Control.{free, isFor, serviceOf}
+use Rattle.store.specs.Opening.{badShape, badLimit, blankLine, blankLane, blankBlock, blankControl, freshOf, openOf}
+use Rattle.store.proofs.Services.{for-none, none-found}
 use Rattle.store.specs.Stores.{noLane, noBlock, laneAt, blockAt}
 use Rattle.machine.specs.Flat.{flatOf, flatBlock}
 use Rattle.machine.proofs.laws.Tests.{on}
@@ -97,6 +100,12 @@ no-flag k = go (below? k 8)
     go (inl h) = getD-replicate 8 k false false h
     go (inr h) = let p : length (replicate 8 false) ≤ k = h in List·getD-eq-default (replicate 8 false) false p
 
+-- no block has a service
+pub blank-service : (a : BlockNo) → serviceOf blankControl a ≡ Nothing
+blank-service a =
+    let e = for-none blankControl a (λ i h. ap (isFor a) (getD-replicate 8 i free free h)) in
+    none-found blankControl a (omega arith)
+
 fresh-inv : (shape : Shape) (a : ℕ) → a < shape .m → shape .m ≤ 64 → Inv (λ k. Invalid) (project (freshOf shape) a) (flatBlock (flatOf (shape .m)) a)
 unfolding freshOf blankBlock
 fresh-inv shape a h l =
@@ -107,29 +116,29 @@ fresh-inv shape a h l =
     (λ k. ap (λ (b : Block). getD (b .present) k false) e ∙ no-flag k)
     (ap (λ (b : Block). b .modified) e)
     (ap (λ (b : Block). b .words) e ∙ sym (flat-zeros (shape .m) a h))
-    refl
+    (blank-service (blockNo a))
 
-fresh-consistent : (shape : Shape) → badShape shape ≡ false → Consistent (freshOf shape) (flatOf (shape .m))
+fresh-consistent : (shape : Shape) → badShape shape ≡ false → badLimit shape ≡ false → Consistent (freshOf shape) (flatOf (shape .m))
 unfolding freshOf
-fresh-consistent shape e =
+fresh-consistent shape e f =
     record {
-      sound = open-keeps shape e;
+      sound = open-keeps shape e f;
       sized = open-sized shape;
       unique = each-lane (Unique (shape .c)) shape (none-unique (shape .c) blankLane blank-none) (none-unique (shape .c) noLane (λ i. refl));
       block = λ a h. ((λ k. Invalid), fresh-inv shape a h (shape-bounds shape e .5));
     }
 
 -- an opening that isn't refused
-pub opened-fresh : (shape : Shape) → openOf shape .answer ≡ Opened → (badShape shape ≡ false) × (openOf shape .store ≡ freshOf shape)
+pub opened-fresh : (shape : Shape) → openOf shape .answer ≡ Opened → (badShape shape ≡ false) × (badLimit shape ≡ false) × (openOf shape .store ≡ freshOf shape)
 unfolding openOf
-opened-fresh shape e = on (badShape shape) (λ b. clash (cc (rw b at e))) (λ b. (b, rw b))
+opened-fresh shape e = on (badShape shape) (λ b. clash (cc (rw b at e))) (λ b. on (badLimit shape) (λ l. clash (cc (rw (b, l) at e))) (λ l. (b, l, rw (b, l))))
 
 pub open-consistent : (shape : Shape) → openOf shape .answer ≡ Opened → Consistent (openOf shape .store) (flatOf (shape .m))
-open-consistent shape e = let p = opened-fresh shape e in rw (p .1) (fresh-consistent shape (p .0))
+open-consistent shape e = let p = opened-fresh shape e in rw (p .2) (fresh-consistent shape (p .0) (p .1))
 
 pub open-shape : (shape : Shape) → openOf shape .answer ≡ Opened → openOf shape .store .shape ≡ shape
 unfolding freshOf
-open-shape shape e = let p = opened-fresh shape e in rw (p .1) refl
+open-shape shape e = let p = opened-fresh shape e in rw (p .2) refl
 
 -- a lane that does not wait, whatever the test
 rests-either : (b : Bool) (l : Lane) → l .waiting ≡ Idle → cond b (pendingOf (l .waiting)) Rests ≡ Rests
@@ -145,4 +154,4 @@ unfolding pendingIn
 fresh-rests shape k = rests-either (ltb k (freshOf shape .shape .n)) (laneAt (freshOf shape) k) (each-lane (λ (l : Lane). l .waiting ≡ Idle) shape blank-idle refl k)
 
 pub open-rests : (shape : Shape) → openOf shape .answer ≡ Opened → pendingIn (openOf shape .store) ≡ nonePending
-open-rests shape e = let p = opened-fresh shape e in rw (p .1) (fun-ext (fresh-rests shape))
+open-rests shape e = let p = opened-fresh shape e in rw (p .2) (fun-ext (fresh-rests shape))

@@ -4,13 +4,13 @@ use mathlib.Core.Logic.{_≢_}
 use mathlib.Core.Path.{_≡_, refl, sym, ap, _∙_}
 use mathlib.Core.Bool.{true, false}
 use mathlib.Core.List.{List, _∷_}
-use lib.ListN.{length-set}
 use borrow.Author.Tests.{eq-eqb, ne-eqb}
 use native.Mathlib.Omega.{arith}
 use Rattle.words.specs.declared.LaneNo.{LaneNo}
 use Rattle.words.specs.declared.BlockNo.{BlockNo}
 use Rattle.queues.specs.declared.ReturnMessage.{ReturnMessage}
 use Rattle.queues.specs.Queues.{headReturn, takeReturn}
+use Rattle.queues.proofs.Shifts.{length-shifted}
 use Rattle.lanes.specs.declared.Lane.{Lane}
 use Rattle.lanes.specs.Lanes.{withReturns}
 use Rattle.answers.specs.declared.Refusal.the-variants.{Unexpected}
@@ -18,9 +18,9 @@ use Rattle.store.specs.declared.Store.{Store}
 use Rattle.store.specs.declared.Block.{Block}
 use Rattle.store.specs.declared.Service.{Service}
 use Rattle.store.specs.declared.Control.{Control}
-use Rattle.store.specs.declared.Control.the-variants.{Free, Busy}
-use Rattle.store.specs.declared.Lookup.the-variants.{Of}
-use Rattle.store.specs.Control.{serviceOf, lowered}
+use Rattle.store.specs.declared.Lookup.the-variants.{Of, Nothing}
+use Rattle.store.specs.Control.{serviceOf, lowered, withUpdated, withoutService}
+use Rattle.store.proofs.Services.{updated-own, updated-other, closed-own, closed-other}
 use Rattle.store.specs.Stores.{laneAt, blockAt}
 use Rattle.store.specs.LaneSets.{nobody}
 use Rattle.machine.specs.declared.Move.{Move}
@@ -86,7 +86,7 @@ module _ (s : Store) (f : List ℕ) (i : Consistent s f) (k : LaneNo) (h : k .0 
   l-sized = i .sized .lane (k .0) lane-below
 
   t-sized : LaneSized t
-  t-sized = record { lines = l-sized .lines; order = l-sized .order; returns = rw (ne-eqb _ _ filled) (length-set (l .returns .at) 0 _ ∙ l-sized .returns); downs = l-sized .downs }
+  t-sized = record { lines = l-sized .lines; order = l-sized .order; returns = rw (ne-eqb _ _ filled) (length-shifted (l .returns .at) ∙ l-sized .returns); downs = l-sized .downs }
 
   pub taken : queuedReturns (l .returns) ≡ x ∷ queuedReturns (takeReturn (l .returns) .queue)
   taken = take-returns (l .returns) (l-sized .returns) filled (sound s (i .sound) .lane (k .0) h .returns .short)
@@ -129,22 +129,26 @@ module _ (s : Store) (f : List ℕ) (i : Consistent s f) (k : LaneNo) (h : k .0 
         here = λ g. rw (project-here s k a _ g, seen-here, send-none nobody noMessage (upd (project s (a .0) .lane) (k .0) (takeSeen rest (project s (a .0) .lane (k .0)))) nobody-none) p;
       }
 
+  -- the block has no service once it is closed
+  pub gone : (v : Service) → Awaited (s .control) a v → serviceOf (withoutService v (s .control)) a ≡ Nothing
+  gone v z = ap (serviceOf (withoutService v (s .control))) (sym (z .block)) ∙ closed-own (s .control) v v (z .at) (sound s (i .sound) .control .distinct)
+
   -- the last answer
-  pub close-shows : (v : Service) → s .control ≡ Busy v → v .block .0 ≡ a .0 →
-      ((w : (ℕ → Status)) × Inv w (returnState k x rest (Of (lowered v)) (project s (a .0))) (flatBlock f (a .0))) → v .awaited ≡ 1 → Shows s f k a (close v t u Free)
+  pub close-shows : (v : Service) → Awaited (s .control) a v →
+      ((w : (ℕ → Status)) × Inv w (returnState k x rest (Of (lowered v)) (project s (a .0))) (flatBlock f (a .0))) → v .awaited ≡ 1 → Shows s f k a (close v t u (withoutService v (s .control)))
   unfolding close
-  close-shows v busy q p one =
+  close-shows v z p one =
       record {
         answer = refl;
         below = entry-below;
         to = only-length (v .lane);
         lane = t-sized;
-        about = λ j _. ap (λ (y : BlockNo). y .0) (grant-block u v) ∙ q;
+        about = λ j _. ap (λ (y : BlockNo). y .0) (grant-block u v ∙ z .block);
         lines = refl;
         pending = refl;
         unseen = seen-there;
-        control = λ c n. rw (busy, ne-eqb (v .block .0) c (λ e. n (sym e ∙ q)));
-        here = λ g. rw (project-here s k a _ g, seen-here) (close-keeps (p .0) (returnState k x rest (Of (lowered v)) (project s (a .0))) (flatBlock f (a .0)) (lowered v) (p .1) refl (omega arith));
+        control = λ c n. closed-other (s .control) v v (z .at) (blockNo c) (λ e. n (sym e ∙ ap (λ (y : BlockNo). y .0) (z .block)));
+        here = λ g. rw (project-here s k a _ g, seen-here, gone v z) (close-keeps (p .0) (returnState k x rest (Of (lowered v)) (project s (a .0))) (flatBlock f (a .0)) (lowered v) (p .1) refl (omega arith));
       }
 
   -- a message that is no answer
@@ -157,12 +161,16 @@ module _ (s : Store) (f : List ℕ) (i : Consistent s f) (k : LaneNo) (h : k .0 
     counted : (z : (ℕ → Status)) × Inv z (returnState k x rest (Of (lowered v)) (project s (a .0))) (flatBlock f (a .0))
     counted = answer-returns (before .0) (project s (a .0)) (flatBlock f (a .0)) k x rest v (before .1) lane-below has-head e (w .found) (w .some)
 
-    pub last-shows : v .awaited ≡ 1 → Shows s f k a (close v t u Free)
-    last-shows one = close-shows v (w .busy) (w .block) counted one
+    pub last-shows : v .awaited ≡ 1 → Shows s f k a (close v t u (withoutService v (s .control)))
+    last-shows one = close-shows v w counted one
 
-    pub more-shows : Shows s f k a (sendNothing t u (Busy (lowered v)))
+    pub own : serviceOf (withUpdated (lowered v) (s .control)) a ≡ Of (lowered v)
+    own = ap (serviceOf (withUpdated (lowered v) (s .control))) (sym (w .block)) ∙ updated-own (s .control) (lowered v) v (w .at)
+
+    pub more-shows : Shows s f k a (sendNothing t u (withUpdated (lowered v) (s .control)))
     more-shows =
-        quiet-shows (Busy (lowered v)) (λ j n. rw (w .busy, ne-eqb (v .block .0) j (λ r. n (sym r ∙ w .block)))) (rw (eq-eqb _ _ (w .block)) counted)
+        quiet-shows (withUpdated (lowered v) (s .control))
+        (λ j n. updated-other (s .control) (lowered v) v (w .at) (blockNo j) (λ r. n (sym r ∙ ap (λ (y : BlockNo). y .0) (w .block)))) (rw own counted)
 
   pub head-consistent : StaysConsistent s f (commitMove s k a (returnMove k x l b (s .control)))
   unfolding commitMove

@@ -22,10 +22,9 @@ use Rattle.answers.specs.declared.Answer.the-variants.{Step}
 use Rattle.store.specs.declared.Store.{Store}
 use Rattle.store.specs.declared.Block.{Block}
 use Rattle.store.specs.declared.Service.{Service}
-use Rattle.store.specs.declared.Control.{Control}
-use Rattle.store.specs.declared.Control.the-variants.{Free, Busy}
-use Rattle.store.specs.declared.Lookup.the-variants.{Nothing}
-use Rattle.store.specs.Control.{busyOf, serviceOf}
+use Rattle.store.specs.declared.Lookup.the-variants.{Of, Nothing}
+use Rattle.store.specs.Control.{slotOf, serviceOf, engagedOf, withService}
+use Rattle.store.proofs.Services.{Vacant, not-engaged, opened-own, opened-other}
 use Rattle.store.specs.Stores.{laneAt, blockAt}
 use Rattle.store.specs.LaneSets.{nobody, only, goesTo, countOf}
 use Rattle.machine.specs.Change.{commitMove}
@@ -41,7 +40,7 @@ use Rattle.machine.proofs.protocol.Moves.{waitSeen, sendAll, serveState
 use Rattle.machine.proofs.protocol.MemoryClose.{close-keeps}
 use Rattle.machine.proofs.protocol.MemoryServe.{serve-opens}
 use Rattle.machine.proofs.projection.Project.{project-here}
-use Rattle.machine.proofs.store.ServeBounds.{served-lane, served-block, served-entry, served-to, served-sized}
+use Rattle.machine.proofs.store.ServeBounds.{served-lane, served-block, served-entry, served-to, served-sized, served-room, served-none}
 use Rattle.machine.proofs.store.Consistent.{Consistent, StaysConsistent, refused-consistent}
 use Rattle.machine.proofs.store.ConsistentMove.{Shows, commit-consistent}
 use Rattle.machine.proofs.rules.Rules.{serve-rule}
@@ -74,13 +73,8 @@ grant-block b v = by-cond (λ (x : DownMessage). x .block ≡ v .block) (v .bare
 pub only-length : (k : LaneNo) → length (only k) ≡ 8
 only-length k = length-set nobody (k .0) true
 
--- no service
-pub not-busy : (x : Control) → busyOf x ≡ false → x ≡ Free
-not-busy Free e = refl
-not-busy (Busy v) e = clash (cc)
-
 module _ (s : Store) (f : List ℕ) (i : Consistent s f) (k : LaneNo) (h : k .0 < s .shape .n) (o : Operation) (e : laneAt s (k .0) .waiting ≡ Unserved o)
-    (free : s .control ≡ Free) (clear : laneAt s (k .0) .returns .len ≡ 0) where
+    (free : engagedOf (s .shape .limit) (s .control) (blockOf (o .word)) ≡ false) (clear : laneAt s (k .0) .returns .len ≡ 0) where
   -- the block of the operation, its entry, the lanes that orders go to, the service
   abbrev x : BlockNo
   x = blockOf (o .word)
@@ -128,8 +122,17 @@ module _ (s : Store) (f : List ℕ) (i : Consistent s f) (k : LaneNo) (h : k .0 
   unfolding seen
   returned = rw clear
 
+  none : slotOf (s .control) x ≡ 8
+  none = not-engaged (s .shape .limit) (s .control) x free .0
+
   no-service : serviceOf (s .control) x ≡ Nothing
-  no-service = rw free
+  no-service = served-none s x free
+
+  room : Vacant (s .control)
+  room = served-room s x (i .sound) free
+
+  pub own : serviceOf (withService v (s .control)) x ≡ Of v
+  own = opened-own (s .control) v (i .sized .slots) room none
 
   -- the service is open, be it that it awaits none
   opened : (u : (ℕ → Status)) × Inv u (serveState k o (project s (x .0))) (flatBlock f (x .0))
@@ -137,7 +140,7 @@ module _ (s : Store) (f : List ℕ) (i : Consistent s f) (k : LaneNo) (h : k .0 
       let p = i .block (x .0) block-below in
       (p .0, serve-opens (p .0) (project s (x .0)) (flatBlock f (x .0)) k o (p .1) lane-below waits returned no-service)
 
-  pub open-shows : Shows s f k x (record { answer = Step; lane = t; block = b; control = Busy v; to = to; message = bareDown (orderOf (o .command)) x })
+  pub open-shows : Shows s f k x (record { answer = Step; lane = t; block = b; control = withService v (s .control); to = to; message = bareDown (orderOf (o .command)) x })
   open-shows =
       record {
         answer = refl;
@@ -148,8 +151,8 @@ module _ (s : Store) (f : List ℕ) (i : Consistent s f) (k : LaneNo) (h : k .0 
         lines = refl;
         pending = rw e;
         unseen = seen-there;
-        control = λ a n. rw (free, ne-eqb (x .0) a (λ q. n (sym q)));
-        here = λ g. rw (project-here s k x _ g, seen-here, eq-eqb (x .0) (x .0) refl) opened;
+        control = λ a n. opened-other (s .control) v (i .sized .slots) room (blockNo a) (λ q. n (sym q));
+        here = λ g. rw (project-here s k x _ g, seen-here, own) opened;
       }
 
   -- a service that awaits none: its orders change no lane
@@ -187,4 +190,4 @@ module _ (s : Store) (f : List ℕ) (i : Consistent s f) (k : LaneNo) (h : k .0 
 pub serve-consistent : (s : Store) (f : List ℕ) (k : LaneNo) → Consistent s f → StaysConsistent s f (serveOf s k)
 serve-consistent s f k i =
     serve-rule (StaysConsistent s f) s k (λ x. refused-consistent s f x i)
-    (λ o r. ready-consistent s f i k (r .lane) o (r .unserved) (not-busy (s .control) (r .free)) (r .clear))
+    (λ o r. ready-consistent s f i k (r .lane) o (r .unserved) (r .free) (r .clear))

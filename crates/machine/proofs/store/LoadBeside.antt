@@ -17,6 +17,7 @@ use Rattle.words.specs.declared.Shape.{Shape}
 use Rattle.words.specs.Units.{blockOf, placeOf}
 use Rattle.words.specs.Lines.{noLine, withWords}
 use Rattle.words.specs.Operations.{isLoad, performOf}
+use Rattle.queues.specs.Queues.{capacity}
 use Rattle.lanes.specs.declared.Lane.{Lane}
 use Rattle.lanes.specs.declared.Operation.{Operation}
 use Rattle.lanes.specs.declared.Waiting.{Waiting}
@@ -83,7 +84,7 @@ module _ (s : Store) (k : LaneNo) (w : WordNo) (sound : corruptOf s ≡ false) (
 
   -- the lane's part of a load that hits
   load-part : (i : LineNo) → searchOf l (s .shape .c) (blockOf w) ≡ At i →
-      beginLane (s .shape .c) Load w l ≡ record { answer = Value (getD (lineAt l i .words) (placeOf w) 0); lane = withOrder (usedOf (s .shape .c) i (l .order)) l }
+      beginLane capacity (s .shape .c) Load w l ≡ record { answer = Value (getD (lineAt l i .words) (placeOf w) 0); lane = withOrder (usedOf (s .shape .c) i (l .order)) l }
   unfolding beginLane hit completeWith
   load-part i e = rw (beginLane, e) (λ j. record { answer = Value (getD (lineAt l i .words) (placeOf w) 0); lane = load-lane (usedOf (s .shape .c) i (l .order)) i w l j })
 

@@ -6,6 +6,7 @@ use mathlib.Core.List.{List}
 use lib.ListN.{length, length-set}
 use native.Mathlib.Omega.{arith}
 use Rattle.words.specs.declared.LaneNo.{LaneNo}
+use Rattle.words.specs.declared.BlockNo.{BlockNo}
 use Rattle.words.specs.Units.{blockOf}
 use Rattle.words.proofs.Folds.{by-cond}
 use Rattle.lanes.specs.declared.Command.{Command}
@@ -13,6 +14,9 @@ use Rattle.lanes.specs.declared.Operation.{Operation}
 use Rattle.lanes.specs.declared.Waiting.the-variants.{Unserved, Served}
 use Rattle.lanes.specs.Lanes.{withWaiting}
 use Rattle.store.specs.declared.Store.{Store}
+use Rattle.store.specs.declared.Lookup.the-variants.{Nothing}
+use Rattle.store.specs.Control.{serviceOf, engagedOf}
+use Rattle.store.proofs.Services.{none-found, Vacant, vacant, not-engaged}
 use Rattle.store.specs.declared.Block.{Block}
 use Rattle.store.specs.Stores.{laneAt, blockAt}
 use Rattle.machine.specs.Corruption.{corruptOf}
@@ -39,3 +43,11 @@ module _ (s : Store) (k : LaneNo) (o : Operation) (c : corruptOf s ≡ false) (z
 
   pub served-sized : LaneSized (withWaiting (Served o) (laneAt s (k .0)))
   served-sized = let l = z .lane (k .0) served-lane in record { lines = l .lines; order = l .order; returns = l .returns; downs = l .downs }
+
+-- where 10 does not refuse, fewer than L services are open, so there is a free slot
+pub served-room : (s : Store) (a : BlockNo) → corruptOf s ≡ false → engagedOf (s .shape .limit) (s .control) a ≡ false → Vacant (s .control)
+served-room s a e free = let p = not-engaged (s .shape .limit) (s .control) a free .1 in let q = sound s e .limit-high in vacant (s .control) (omega arith)
+
+-- .. and the block has no service
+pub served-none : (s : Store) (a : BlockNo) → engagedOf (s .shape .limit) (s .control) a ≡ false → serviceOf (s .control) a ≡ Nothing
+served-none s a free = let e = not-engaged (s .shape .limit) (s .control) a free .0 in none-found (s .control) a (omega arith)

@@ -7,12 +7,13 @@ use mathlib.Core.List.{List, [], _∷_, _++_, append-cancel-left, head-eq-of-con
 use lib.ListN.{length, set, length-append}
 use lib.Seq.{getD-set-same, getD-set-other}
 use lib.Dec.{eqb}
-use borrow.Author.Tests.{eq-eqb, eqb-true}
+use borrow.Author.Tests.{eqb-true}
 use native.Mathlib.Omega.{arith}
 use Rattle.words.specs.declared.LaneNo.{LaneNo}
 use Rattle.words.specs.declared.BlockNo.{BlockNo}
 use Rattle.words.specs.Units.{blockOf}
 use Rattle.words.proofs.Folds.{pick}
+use Rattle.queues.specs.Queues.{capacity}
 use Rattle.queues.specs.declared.DownQueue.{DownQueue}
 use Rattle.queues.specs.Messages.{bareDown}
 use Rattle.lanes.specs.declared.Lane.{Lane}
@@ -26,9 +27,8 @@ use Rattle.store.specs.declared.Store.{Store}
 use Rattle.store.specs.declared.Block.{Block}
 use Rattle.store.specs.declared.Service.{Service}
 use Rattle.store.specs.declared.Outcome.{Outcome}
-use Rattle.store.specs.declared.Control.{Control}
-use Rattle.store.specs.declared.Control.the-variants.{Busy}
-use Rattle.store.specs.Control.{serviceOf}
+use Rattle.store.specs.Control.{withService}
+use Rattle.store.proofs.Services.{not-engaged, opened-own}
 use Rattle.store.specs.Stores.{laneAt, blockAt}
 use Rattle.store.specs.LaneSets.{nobody, only, goesTo, countOf}
 use Rattle.machine.specs.declared.Move.{Move}
@@ -49,8 +49,8 @@ use Rattle.machine.proofs.protocol.MemoryClose.{grant-no-order}
 use Rattle.machine.proofs.protocol.MemoryServe.{order-order}
 use Rattle.machine.proofs.projection.Queued.{queuedDowns, push-downs}
 use Rattle.machine.proofs.projection.Project.{Moves, goes-below, lane-sent, was, was-sized, was-room}
-use Rattle.machine.proofs.store.ServeBounds.{ordered-length, served-lane, served-entry, served-to, served-sized}
-use Rattle.machine.proofs.store.ConsistentServe.{goes-none, grant-block, only-length, not-busy}
+use Rattle.machine.proofs.store.ServeBounds.{ordered-length, served-lane, served-entry, served-to, served-sized, served-room, served-none}
+use Rattle.machine.proofs.store.ConsistentServe.{goes-none, grant-block, only-length}
 
 -- ---- the byte of a serve's orders says what `ordered` says
 module _ (b : Block) (k : LaneNo) (x : Command) where
@@ -149,7 +149,7 @@ module _ (s : Store) (k : LaneNo) (o : Operation) (z : Sized s) (r : ServeReady 
   fits = byte-fits to
 
   -- what memory's part has to show, by where its message goes and what it is
-  shows : (y : Move) → y .lane ≡ t → length (y .to) ≡ 8 → y .message .block ≡ a → someFull (y .to) (set (s .lanes) (k .0) (y .lane)) ≡ false → Moves s k a y
+  shows : (y : Move) → y .lane ≡ t → length (y .to) ≡ 8 → y .message .block ≡ a → someFull capacity (y .to) (set (s .lanes) (k .0) (y .lane)) ≡ false → Moves s k a y
   shows y p n q space = record {
     sized = z;
     lane-below = lane-below;
@@ -162,15 +162,15 @@ module _ (s : Store) (k : LaneNo) (o : Operation) (z : Sized s) (r : ServeReady 
 
   -- orders go out
   abbrev sending : Move
-  sending = record { answer = Step; lane = t; block = b; control = Busy v; to = to; message = bareDown (orderOf (o .command)) a }
+  sending = record { answer = Step; lane = t; block = b; control = withService v (s .control); to = to; message = bareDown (orderOf (o .command)) a }
 
-  sends : countOf to ≢ 0 → someFull to (set (s .lanes) (k .0) t) ≡ false → GoesByByte s (movedStore s k a sending) k a x
+  sends : countOf to ≢ 0 → someFull capacity to (set (s .lanes) (k .0) t) ≡ false → GoesByByte s (movedStore s k a sending) k a x
   sends some space = record {
     fits = fits;
     set = λ j h e. (record { message = sending .message; behind = sent-downs s k a sending m refl j (sym (bit j h) ∙ e); kind = order-order (o .command) }, refl);
     gains = λ j h g. bit j h ∙ gained s k a sending m refl j g .0;
     others = λ j h e n. kept j (sym (bit j h) ∙ e);
-    awaits = λ n. (v, rw (eq-eqb (a .0) (a .0) refl) refl, refl, sym bits, kept (k .0) (order-self b k (o .command)));
+    awaits = λ n. (v, opened-own (s .control) v (z .slots) (served-room s a (r .sound) (r .free)) (not-engaged (s .shape .limit) (s .control) a (r .free) .0), refl, sym bits, kept (k .0) (order-self b k (o .command)));
     closed = λ e. absurd (some (sym bits ∙ e));
   }
     where
@@ -184,7 +184,7 @@ module _ (s : Store) (k : LaneNo) (o : Operation) (z : Sized s) (r : ServeReady 
   abbrev closing : Move
   closing = close v t b (s .control)
 
-  closes : countOf to ≡ 0 → someFull (only k) (set (s .lanes) (k .0) t) ≡ false → GoesByByte s (movedStore s k a closing) k a x
+  closes : countOf to ≡ 0 → someFull capacity (only k) (set (s .lanes) (k .0) t) ≡ false → GoesByByte s (movedStore s k a closing) k a x
   unfolding close
   closes none space = record {
     fits = fits;
@@ -193,7 +193,7 @@ module _ (s : Store) (k : LaneNo) (o : Operation) (z : Sized s) (r : ServeReady 
     others = λ j h e n. kept-downs s k a closing m refl j (only-other k j n);
     awaits = λ n. absurd (n (bits ∙ none));
     closed = λ e. (
-      ap (λ (y : Control). serviceOf y a) (not-busy (s .control) (r .free)),
+      served-none s a (r .free),
       record { message = grantOf b v; behind = sent-downs s k a closing m refl (k .0) (only-self k lane-below); kind = grant-no-order b v },
       grant-block b v,
     );
@@ -206,10 +206,10 @@ module _ (s : Store) (k : LaneNo) (o : Operation) (z : Sized s) (r : ServeReady 
   abbrev part : Move
   part = serveMove k o (laneAt s (k .0)) b (s .control)
 
-  by-part : someFull (part .to) (set (s .lanes) (k .0) (part .lane)) ≡ false → GoesByByte s (movedStore s k a part) k a x
+  by-part : someFull capacity (part .to) (set (s .lanes) (k .0) (part .lane)) ≡ false → GoesByByte s (movedStore s k a part) k a x
   unfolding close
   by-part =
-      serve-move-rule (λ (y : Move). someFull (y .to) (set (s .lanes) (k .0) (y .lane)) ≡ false → GoesByByte s (movedStore s k a y) k a x)
+      serve-move-rule (λ (y : Move). someFull capacity (y .to) (set (s .lanes) (k .0) (y .lane)) ≡ false → GoesByByte s (movedStore s k a y) k a x)
       k o (laneAt s (k .0)) b (s .control) closes sends
 
   by-byte : refusedOf (served s k o .answer) ≡ false → GoesByByte s (served s k o .store) k a x

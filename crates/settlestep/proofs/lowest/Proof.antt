@@ -6,7 +6,7 @@ use mathlib.Core.Path.{_≡_, sym, _∙_}
 use Rattle.words.specs.Folds.{lowestTo}
 use Rattle.store.specs.Stores.{laneAt}
 use Rattle.settlestep.specs.Kinds.{enabledOf}
-use Rattle.settlestep.proofs.Searches.{lowest-none, lowest-more, lowest-at}
+use Rattle.words.proofs.Folds.{lowest-none, lowest-more, lowest-at}
 use Rattle.settlestep.proofs.lowest.Statement.{statement}
 use Rattle.settlestep.proofs.lowest.Tie as tie
 

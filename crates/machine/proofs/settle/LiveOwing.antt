@@ -1,0 +1,411 @@
+-- OWED: what a lane owes over all blocks, orders to take and answers on their way, is no more than the services of other lanes. LANES: services
+-- are of different lanes, so it is at most 7. And a lane has at most one grant on its way. Assumes nothing.
+use Prim.Native.Nat.{ℕ, zero, suc, _+_, _<_, _≤_}
+use mathlib.Core.Logic.{_⊎_, inl, inr, _≢_}
+use mathlib.Core.Path.{_≡_, refl, sym, ap, _∙_, subst}
+use mathlib.Core.Bool.{Bool, true, false, cond, not, _&&_, true≢false}
+use mathlib.Core.List.{List, [], _∷_}
+use lib.Dec.{eqb}
+use lib.ListN.{length, getD}
+use borrow.Author.Tests.{eq-eqb, ne-eqb, eqb-true}
+use native.Mathlib.Omega.{arith}
+use Rattle.words.specs.declared.BlockNo.{BlockNo}
+use Rattle.words.specs.Folds.{countTo, sumTo}
+use Rattle.words.specs.Units.{blockOf}
+use Rattle.words.proofs.Folds.{by-cond}
+use Rattle.queues.specs.declared.ReturnMessage.{ReturnMessage}
+use Rattle.queues.specs.declared.DownMessage.{DownMessage}
+use Rattle.queues.specs.Queues.{messages, noReturn, noDown}
+use Rattle.lanes.specs.declared.Lane.{Lane}
+use Rattle.lanes.specs.declared.Operation.{Operation}
+use Rattle.lanes.specs.declared.Waiting.{Waiting}
+use Rattle.lanes.specs.declared.Waiting.the-variants.{Idle, Unserved, Served}
+use Rattle.store.specs.declared.Store.{Store}
+use Rattle.store.specs.declared.Service.{Service}
+use Rattle.store.specs.declared.Lookup.the-variants.{Of}
+use Rattle.store.specs.Control.{slotAt, slotOf, serviceOf, openServices}
+use Rattle.store.specs.Stores.{laneAt}
+use Rattle.store.proofs.Services.{found, busy-found, never}
+use Rattle.machine.specs.Return.{isAnswer}
+use Rattle.machine.specs.Settle.{isOrder}
+use Rattle.machine.proofs.laws.Sets.{same?}
+use Rattle.machine.proofs.laws.Counts.{count-less}
+use Rattle.machine.proofs.laws.Sums.{count-sum, count-zero}
+use Rattle.machine.proofs.bounds.Sound.{sound}
+use Rattle.machine.proofs.protocol.BlockState.{keepIf, returnAbout, downAbout, waitingOn, seen, blockNo, project}
+use Rattle.machine.proofs.protocol.Invariant.{answerCount, orderCount, grantCount, servedCount, owed, ServedWell, ServiceFits}
+use Rattle.machine.proofs.projection.Queued.{queuedReturns, queuedDowns}
+use Rattle.machine.proofs.store.Consistent.{Consistent}
+use Rattle.machine.proofs.settle.Live.{ejectCount, Live}
+use Rattle.machine.proofs.settle.LiveAwaited.{owed-awaited}
+
+-- ---- sums
+-- no term of two sums together is more than one of a third
+sums-up : (f g h : ℕ → ℕ) (n : ℕ) → ((j : ℕ) → j < n → f j + g j ≤ h j) → sumTo f n + sumTo g n ≤ sumTo h n
+unfolding sumTo
+sums-up f g h zero e = omega arith
+sums-up f g h (suc n) e = let a = sums-up f g h n (λ j l. e j (omega arith)) in let b = e n (omega arith) in omega arith
+
+sum-up : (f g : ℕ → ℕ) (n : ℕ) → ((j : ℕ) → j < n → f j ≤ g j) → sumTo f n ≤ sumTo g n
+unfolding sumTo
+sum-up f g zero e = omega arith
+sum-up f g (suc n) e = let a = sum-up f g n (λ j l. e j (omega arith)) in let b = e n (omega arith) in omega arith
+
+-- .. and one is less
+sum-less : (f g : ℕ → ℕ) (n k : ℕ) → k < n → ((j : ℕ) → f j ≤ g j) → f k + 1 ≤ g k → sumTo f n + 1 ≤ sumTo g n
+unfolding sumTo
+sum-less f g zero k l h e = absurd (omega arith)
+sum-less f g (suc n) k l h e = go (same? k n) (λ m. sum-less f g n k m h e)
+  where
+    go : (k ≡ n) ⊎ (k ≢ n) → (k < n → sumTo f n + 1 ≤ sumTo g n) → sumTo f n + f n + 1 ≤ sumTo g n + g n
+    go (inl q) r = let a = sum-up f g n (λ j _. h j) in let b : f n + 1 ≤ g n = rw (← q) e in omega arith
+    go (inr q) r = let a = r (omega (arith, q)) in let b = h n in omega arith
+
+-- those that pass a test, by a number that each has
+count-by : (p : ℕ → Bool) (f : ℕ → ℕ) (m n : ℕ) → ((i : ℕ) → i < n → p i ≡ true → f i < m) → countTo p n ≤ sumTo (λ j. countTo (λ i. p i && eqb (f i) j) n) m
+unfolding countTo
+count-by p f m zero h = omega arith
+count-by p f m (suc n) h = go (p n) refl (count-by p f m n (λ i l. h i (omega arith)))
+  where
+    more : (j : ℕ) → countTo (λ i. p i && eqb (f i) j) n ≤ countTo (λ i. p i && eqb (f i) j) n + cond (p n && eqb (f n) j) 1 0
+    more j = omega arith
+
+    go : (b : Bool) → p n ≡ b → countTo p n ≤ sumTo (λ j. countTo (λ i. p i && eqb (f i) j) n) m →
+        countTo p n + cond (p n) 1 0 ≤ sumTo (λ j. countTo (λ i. p i && eqb (f i) j) n + cond (p n && eqb (f n) j) 1 0) m
+    go false e r = let a = sum-up (λ j. countTo (λ i. p i && eqb (f i) j) n) (λ j. countTo (λ i. p i && eqb (f i) j) n + cond (p n && eqb (f n) j) 1 0) m (λ j _. more j) in
+        let z : _≡_ {A = ℕ} (cond (p n) 1 0) 0 = rw e in omega arith
+    go true e r =
+        let here : _≡_ {A = ℕ} (cond (p n && eqb (f n) (f n)) 1 0) 1 = rw (e, eq-eqb (f n) (f n) refl) in
+        let a = sum-less (λ j. countTo (λ i. p i && eqb (f i) j) n) (λ j. countTo (λ i. p i && eqb (f i) j) n + cond (p n && eqb (f n) j) 1 0) m (f n) (h n (omega arith) e) more (omega arith) in
+        let z : _≡_ {A = ℕ} (cond (p n) 1 0) 1 = rw e in
+        omega arith
+
+-- at most one passes
+count-unique : (p : ℕ → Bool) (n : ℕ) → ((i j : ℕ) → i < n → j < n → p i ≡ true → p j ≡ true → i ≡ j) → countTo p n ≤ 1
+unfolding countTo
+count-unique p zero h = omega arith
+count-unique p (suc n) h = go (p n) refl (count-unique p n (λ i j l m. h i j (omega arith) (omega arith)))
+  where
+    go : (b : Bool) → p n ≡ b → countTo p n ≤ 1 → countTo p n + cond (p n) 1 0 ≤ 1
+    go false e r = rw e (omega arith)
+    go true e r =
+        let z = count-zero p n (λ j l. never (p j) (λ q. let y = h j n (omega arith) (omega arith) q e in absurd (omega arith))) in
+        rw e (omega arith)
+
+-- ---- messages: those of a kind, by their blocks
+module _ {A : Type 0} (block : A → ℕ) (p : A → Bool) where
+  -- how many are of the kind, and how many of these are about block d
+  abbrev tally : List A → ℕ
+  tally [] = 0
+  tally (x ∷ xs) = cond (p x) 1 0 + tally xs
+
+  abbrev part : ℕ → List A → ℕ
+  part d xs = tally (keepIf (λ (x : A). eqb (block x) d) xs)
+
+  part-more : (d : ℕ) (x : A) (xs : List A) → part d xs ≤ part d (x ∷ xs)
+  part-more d x xs = by-cond (λ (r : List A). part d xs ≤ tally r) (eqb (block x) d) (x ∷ keepIf (λ (y : A). eqb (block y) d) xs) (keepIf (λ (y : A). eqb (block y) d) xs) (omega arith) (omega arith)
+
+  part-here : (x : A) (xs : List A) → p x ≡ true → part (block x) (x ∷ xs) ≡ part (block x) xs + 1
+  part-here x xs e = rw (eq-eqb (block x) (block x) refl, e) (omega arith)
+
+  -- blocks below m
+  abbrev Within : ℕ → List A → Type 0
+  Within m [] = Unit {0}
+  Within m (x ∷ xs) = (block x < m) × Within m xs
+
+  -- each block that they are about is that of one of n slots that count: they are no more than those about the slots' blocks
+  module _ (n m : ℕ) (slot : ℕ → ℕ) (counts : ℕ → Bool) where
+    abbrev At : ℕ → Type 0
+    At d = (i : ℕ) × (i < n) × (counts i ≡ true) × (slot i ≡ d)
+
+    abbrev share : List A → ℕ → ℕ
+    share xs i = cond (counts i) (part (slot i) xs) 0
+
+    share-more : (x : A) (xs : List A) (i : ℕ) → share xs i ≤ share (x ∷ xs) i
+    share-more x xs i = go (counts i)
+      where
+        go : (b : Bool) → cond b (part (slot i) xs) 0 ≤ cond b (part (slot i) (x ∷ xs)) 0
+        go true = part-more (slot i) x xs
+        go false = omega arith
+
+    pub tally-most : (xs : List A) → Within m xs → ((d : ℕ) → d < m → part d xs ≢ 0 → At d) → tally xs ≤ sumTo (share xs) n
+    tally-most [] w h = omega arith
+    tally-most (x ∷ xs) w h = go (p x) refl (tally-most xs (w .1) (λ d l z. h d l (λ q. let a = part-more d x xs in z (omega arith))))
+      where
+        go : (b : Bool) → p x ≡ b → tally xs ≤ sumTo (share xs) n → cond (p x) 1 0 + tally xs ≤ sumTo (share (x ∷ xs)) n
+        go false e r = let a = sum-up (share xs) (share (x ∷ xs)) n (λ i _. share-more x xs i) in rw e (omega arith)
+        go true e r =
+            let a = part-here x xs e in
+            let i = h (block x) (w .0) (λ q. absurd (omega arith)) in
+            let b = sum-less (share xs) (share (x ∷ xs)) n (i .0) (i .1) (share-more x xs) (rw (i .2, i .3) (omega arith)) in
+            rw e (omega arith)
+
+-- the blocks of a queue's messages
+pub within : {A : Type 0} (block : A → ℕ) (p : A → Bool) (none : A) (m len : ℕ) (xs : List A) → ((i : ℕ) → i < len → block (getD xs i none) < m) → Within block p m (messages len xs)
+within block p none m zero xs h = tt
+within block p none m (suc len) [] h = tt
+within block p none m (suc len) (x ∷ xs) h = (h 0 (omega arith), within block p none m len xs (λ i l. h (suc i) (omega arith)))
+
+-- as many messages as the queue says
+pub queue-length : {A : Type 0} (len : ℕ) (xs : List A) → len ≤ length xs → length (messages len xs) ≡ len
+queue-length zero xs h = refl
+queue-length (suc len) [] h = absurd (omega arith)
+queue-length (suc len) (x ∷ xs) h = ap suc (queue-length len xs (omega arith))
+
+-- return messages are answers or ejections, down messages orders or grants
+pub returns-split : (xs : List ReturnMessage) → answerCount xs + ejectCount xs ≡ length xs
+returns-split [] = refl
+returns-split (x ∷ xs) = go (isAnswer (x .kind)) (returns-split xs)
+  where
+    go : (b : Bool) → answerCount xs + ejectCount xs ≡ length xs → cond b 1 0 + answerCount xs + (cond b 0 1 + ejectCount xs) ≡ suc (length xs)
+    go true e = omega arith
+    go false e = omega arith
+
+pub downs-split : (xs : List DownMessage) → orderCount xs + grantCount xs ≡ length xs
+downs-split [] = refl
+downs-split (x ∷ xs) = go (isOrder (x .kind)) (downs-split xs)
+  where
+    go : (b : Bool) → orderCount xs + grantCount xs ≡ length xs → cond b 1 0 + orderCount xs + (cond b 0 1 + grantCount xs) ≡ suc (length xs)
+    go true e = omega arith
+    go false e = omega arith
+
+-- the kinds, as tests
+abbrev answering : ReturnMessage → Bool
+answering x = isAnswer (x .kind)
+
+abbrev ordering : DownMessage → Bool
+ordering x = isOrder (x .kind)
+
+abbrev granting : DownMessage → Bool
+granting x = not (isOrder (x .kind))
+
+abbrev returnBlock : ReturnMessage → ℕ
+returnBlock x = x .block .0
+
+abbrev downBlock : DownMessage → ℕ
+downBlock x = x .block .0
+
+tally-answers : (xs : List ReturnMessage) → tally returnBlock answering xs ≡ answerCount xs
+tally-answers [] = refl
+tally-answers (x ∷ xs) = let a = tally-answers xs in omega arith
+
+tally-orders : (xs : List DownMessage) → tally downBlock ordering xs ≡ orderCount xs
+tally-orders [] = refl
+tally-orders (x ∷ xs) = let a = tally-orders xs in omega arith
+
+tally-grants : (xs : List DownMessage) → tally downBlock granting xs ≡ grantCount xs
+tally-grants [] = refl
+tally-grants (x ∷ xs) = go (isOrder (x .kind)) (tally-grants xs)
+  where
+    go : (b : Bool) → tally downBlock granting xs ≡ grantCount xs → cond (not b) 1 0 + tally downBlock granting xs ≡ cond b 0 1 + grantCount xs
+    go true e = omega arith
+    go false e = omega arith
+
+-- what waits on block a, served
+served-on : (w : Waiting) (a : BlockNo) → servedCount (waitingOn a w) ≢ 0 → (o : Operation) × (w ≡ Served o) × (blockOf (o .word) .0 ≡ a .0)
+served-on Idle a n = absurd (n refl)
+served-on (Unserved o) a n = absurd (n (by-cond (λ (x : Waiting). servedCount x ≡ 0) (eqb (blockOf (o .word) .0) (a .0)) (Unserved o) Idle refl refl))
+served-on (Served o) a n = go (eqb (blockOf (o .word) .0) (a .0)) refl
+  where
+    go : (b : Bool) → eqb (blockOf (o .word) .0) (a .0) ≡ b → (u : Operation) × (Served o ≡ Served u) × (blockOf (u .word) .0 ≡ a .0)
+    go true e = (o, refl, eqb-true _ _ e)
+    go false e = absurd (n (rw e))
+
+served-most : (w : Waiting) (a : BlockNo) → servedCount (waitingOn a w) ≤ 1
+served-most Idle a = omega arith
+served-most (Unserved o) a = by-cond (λ (x : Waiting). servedCount x ≤ 1) (eqb (blockOf (o .word) .0) (a .0)) (Unserved o) Idle (omega arith) (omega arith)
+served-most (Served o) a = by-cond (λ (x : Waiting). servedCount x ≤ 1) (eqb (blockOf (o .word) .0) (a .0)) (Served o) Idle (omega arith) (omega arith)
+
+served-inj : (o u : Operation) → _≡_ {A = Waiting} (Served o) (Served u) → o ≡ u
+served-inj o u e = cc
+
+-- both tests pass
+and-first : (a b : Bool) → (a && b) ≡ true → a ≡ true
+and-first true b e = refl
+and-first false b e = e
+
+and-second : (a b : Bool) → (a && b) ≡ true → b ≡ true
+and-second true b e = e
+and-second false b e = absurd (true≢false (sym e))
+
+-- what a lane owes over all blocks
+abbrev pub owedAll : Lane → ℕ
+owedAll l = answerCount (queuedReturns (l .returns)) + orderCount (queuedDowns (l .downs))
+
+module _ (s : Store) (f : List ℕ) (i : Consistent s f) (live : Live s) where
+  abbrev serviceAt : ℕ → Service
+  serviceAt j = slotAt (s .control) j .service
+
+  -- what the invariant says of the service of block a
+  fits : (a : ℕ) (h : a < s .shape .m) (v : Service) → serviceOf (s .control) (blockNo a) ≡ Of v → ServiceFits (i .block a h .0) (project s a .lane) v
+  fits a h v e = subst (ServedWell (i .block a h .0) (project s a .lane)) e (i .block a h .1 .service)
+
+  -- the service in slot j: its block is one of the store's, and its lane waits for it
+  module _ (j : ℕ) (l : j < 8) (b : slotAt (s .control) j .busy ≡ true) where
+    slot-block : serviceAt j .block .0 < s .shape .m
+    slot-block = sound s (i .sound) .control .services j l b .block
+
+    slot-lane : serviceAt j .lane .0 < 8
+    slot-lane = let p = sound s (i .sound) .control .services j l b .lane in let q = sound s (i .sound) .n-high in omega arith
+
+    slot-served : servedCount (waitingOn (serviceAt j .block) (laneAt s (serviceAt j .lane .0) .waiting)) ≡ 1
+    unfolding seen
+    slot-served =
+        let g = fits (serviceAt j .block .0) slot-block (serviceAt j) (busy-found (s .control) j (sound s (i .sound) .control .distinct) l b) in
+        ap servedCount (g .waits)
+
+  -- LANES: two services of one lane are one
+  one-lane : (j d : ℕ) → j < 8 → d < 8 → slotAt (s .control) j .busy ≡ true → slotAt (s .control) d .busy ≡ true → serviceAt j .lane .0 ≡ serviceAt d .lane .0 → j ≡ d
+  one-lane j d l m b c e =
+      let p = slot-served j l b in
+      let q = slot-served d m c in
+      let u = served-on (laneAt s (serviceAt j .lane .0) .waiting) (serviceAt j .block) (λ z. absurd (omega arith)) in
+      let w = served-on (laneAt s (serviceAt d .lane .0) .waiting) (serviceAt d .block) (λ z. absurd (omega arith)) in
+      let same : _≡_ {A = Waiting} (Served (u .0)) (Served (w .0)) = sym (u .1) ∙ ap (λ (k : ℕ). laneAt s k .waiting) e ∙ w .1 in
+      let o : u .0 ≡ w .0 = served-inj (u .0) (w .0) same in
+      let block : serviceAt d .block .0 ≡ serviceAt j .block .0 = sym (w .2) ∙ ap (λ (x : Operation). blockOf (x .word) .0) (sym o) ∙ u .2 in
+      sym (sound s (i .sound) .control .distinct j d l m b (rw c (eq-eqb _ _ block)))
+
+  module _ (k : ℕ) (h : k < s .shape .n) where
+    k-below : k < 8
+    k-below = let q = sound s (i .sound) .n-high in omega arith
+
+    -- the services of other lanes
+    abbrev others : ℕ → Bool
+    others j = slotAt (s .control) j .busy && not (eqb (serviceAt j .lane .0) k)
+
+    other-busy : (j : ℕ) → others j ≡ true → slotAt (s .control) j .busy ≡ true
+    other-busy j e = and-first (slotAt (s .control) j .busy) (not (eqb (serviceAt j .lane .0) k)) e
+
+    -- they are at most 7
+    others-seven : countTo others 8 ≤ 7
+    others-seven =
+        let a = count-by others (λ j. serviceAt j .lane .0) 8 8 (λ j l e. slot-lane j l (other-busy j e)) in
+        let b = sum-up (λ d. countTo (λ j. others j && eqb (serviceAt j .lane .0) d) 8) (λ d. cond (not (eqb d k)) 1 0) 8 (λ d _. each d) in
+        let c = count-sum (λ d. not (eqb d k)) 8 in
+        let z = count-less (λ d. not (eqb d k)) 8 k k-below (ap not (eq-eqb k k refl)) in
+        omega arith
+      where
+        both : (j d : ℕ) → (others j && eqb (serviceAt j .lane .0) d) ≡ true → (others j ≡ true) × (serviceAt j .lane .0 ≡ d)
+        both j d e = (and-first (others j) (eqb (serviceAt j .lane .0) d) e, eqb-true _ _ (and-second (others j) (eqb (serviceAt j .lane .0) d) e))
+
+        each : (d : ℕ) → countTo (λ j. others j && eqb (serviceAt j .lane .0) d) 8 ≤ cond (not (eqb d k)) 1 0
+        each d = go (same? d k)
+          where
+            go : (d ≡ k) ⊎ (d ≢ k) → countTo (λ j. others j && eqb (serviceAt j .lane .0) d) 8 ≤ cond (not (eqb d k)) 1 0
+            go (inl q) =
+                let z = count-zero (λ j. others j && eqb (serviceAt j .lane .0) d) 8
+                (λ j _. never _ (λ e. let y = both j d e in absurd (true≢false (sym (and-second (slotAt (s .control) j .busy) (not (eqb (serviceAt j .lane .0) k)) (y .0)) ∙ ap not (eq-eqb _ _ (y .1 ∙ q)))))) in
+                omega arith
+            go (inr n) =
+                let z = count-unique (λ j. others j && eqb (serviceAt j .lane .0) d) 8
+                (λ p q l m e g. let y = both p d e in let w = both q d g in one-lane p q l m (other-busy p (y .0)) (other-busy q (w .0)) (y .1 ∙ sym (w .1))) in
+                rw (ne-eqb d k n) z
+
+    others-open : countTo others 8 ≤ openServices (s .control)
+    unfolding openServices
+    others-open =
+        let a = count-sum others 8 in
+        let b = count-sum (λ j. slotAt (s .control) j .busy) 8 in
+        let c = sum-up (λ j. cond (others j) 1 0) (λ j. cond (slotAt (s .control) j .busy) 1 0) 8 (λ j _. fewer (slotAt (s .control) j .busy) (not (eqb (serviceAt j .lane .0) k))) in
+        omega arith
+      where
+        fewer : (a b : Bool) → cond (a && b) 1 0 ≤ cond a 1 0
+        fewer true true = omega arith
+        fewer true false = omega arith
+        fewer false b = omega arith
+
+    -- what the lane owes a block has its service in a slot, and that is of another lane
+    owed-slot : (d : ℕ) → d < s .shape .m → owed (project s d .lane k) ≢ 0 → (j : ℕ) × (j < 8) × (others j ≡ true) × (serviceAt j .block .0 ≡ d)
+    unfolding owed
+    owed-slot d b n =
+        let w = owed-awaited s f i d b k k-below n in
+        let g = found (s .control) (blockNo d) (w .service) (w .found) in
+        let r = fits d b (w .service) (w .found) in
+        let lane : serviceAt (slotOf (s .control) (blockNo d)) .lane .0 ≢ k = λ q.
+        let z : w .service .lane .0 ≡ k = ap (λ (v : Service). v .lane .0) (sym (g .service)) ∙ q in
+        n (rw (← z) (rw (r .returns, r .downs) refl)) in
+        (slotOf (s .control) (blockNo d), g .below, rw (g .busy, ne-eqb _ _ lane) refl, ap (λ (v : Service). v .block .0) (g .service) ∙ g .block)
+
+    -- OWED
+    pub owed-others : owedAll (laneAt s k) ≤ countTo others 8
+    unfolding owed seen
+    owed-others =
+        let m = s .shape .m in
+        let l = laneAt s k in
+        let x = sound s (i .sound) .lane k h in
+        let a = tally-most returnBlock answering 8 m (λ j. serviceAt j .block .0) others (queuedReturns (l .returns))
+        (within returnBlock answering noReturn m (l .returns .len) (l .returns .at) (x .returns .inside))
+        (λ d b z. owed-slot d b (λ q. z (tally-answers (keepIf (returnAbout (blockNo d)) (queuedReturns (l .returns))) ∙ first-zero (answerCount (keepIf (returnAbout (blockNo d)) (queuedReturns (l .returns)))) (orderCount (keepIf (downAbout (blockNo d)) (queuedDowns (l .downs)))) q))) in
+        let c = tally-most downBlock ordering 8 m (λ j. serviceAt j .block .0) others (queuedDowns (l .downs))
+        (within downBlock ordering noDown m (l .downs .len) (l .downs .at) (x .downs .inside))
+        (λ d b z. owed-slot d b (λ q. z (tally-orders (keepIf (downAbout (blockNo d)) (queuedDowns (l .downs))) ∙ second-zero (answerCount (keepIf (returnAbout (blockNo d)) (queuedReturns (l .returns)))) (orderCount (keepIf (downAbout (blockNo d)) (queuedDowns (l .downs)))) q))) in
+        let e = sums-up (share returnBlock answering 8 m (λ j. serviceAt j .block .0) others (queuedReturns (l .returns)))
+        (share downBlock ordering 8 m (λ j. serviceAt j .block .0) others (queuedDowns (l .downs))) (λ j. cond (others j) 1 0) 8 each in
+        let p = tally-answers (queuedReturns (l .returns)) in
+        let q = tally-orders (queuedDowns (l .downs)) in
+        let r = count-sum others 8 in
+        omega arith
+      where
+        first-zero : (a b : ℕ) → a + b ≡ 0 → a ≡ 0
+        first-zero a b q = omega arith
+
+        second-zero : (a b : ℕ) → a + b ≡ 0 → b ≡ 0
+        second-zero a b q = omega arith
+
+        each : (j : ℕ) → j < 8 →
+            cond (others j) (part returnBlock answering (serviceAt j .block .0) (queuedReturns (laneAt s k .returns))) 0 +
+            cond (others j) (part downBlock ordering (serviceAt j .block .0) (queuedDowns (laneAt s k .downs))) 0 ≤ cond (others j) 1 0
+        each j t = go (others j) refl
+          where
+            go : (b : Bool) → others j ≡ b →
+                cond b (part returnBlock answering (serviceAt j .block .0) (queuedReturns (laneAt s k .returns))) 0 +
+                cond b (part downBlock ordering (serviceAt j .block .0) (queuedDowns (laneAt s k .downs))) 0 ≤ cond b 1 0
+            go false e = omega arith
+            go true e =
+                let y = live .one (serviceAt j .block .0) (slot-block j t (other-busy j e)) k in
+                let p = tally-answers (keepIf (returnAbout (serviceAt j .block)) (queuedReturns (laneAt s k .returns))) in
+                let q = tally-orders (keepIf (downAbout (serviceAt j .block)) (queuedDowns (laneAt s k .downs))) in
+                omega arith
+
+    pub owed-seven : owedAll (laneAt s k) ≤ 7
+    owed-seven = let a = owed-others in let b = others-seven in omega arith
+
+    pub owed-open : owedAll (laneAt s k) ≤ openServices (s .control)
+    owed-open = let a = owed-others in let b = others-open in omega arith
+
+    -- a grant is for the operation that is served
+    grant-on : (d : ℕ) → d < s .shape .m → grantCount (project s d .lane k .downs) ≢ 0 → servedCount (waitingOn (blockNo d) (laneAt s k .waiting)) ≢ 0
+    unfolding seen
+    grant-on d b n z = let g = i .block d b .1 .grant k in n (omega arith)
+
+    -- so there is at most one
+    pub grants-one : grantCount (queuedDowns (laneAt s k .downs)) ≤ 1
+    unfolding seen sumTo
+    grants-one = go (laneAt s k .waiting) refl
+      where
+        inside : Within downBlock granting (s .shape .m) (queuedDowns (laneAt s k .downs))
+        inside = within downBlock granting noDown (s .shape .m) (laneAt s k .downs .len) (laneAt s k .downs .at) (sound s (i .sound) .lane k h .downs .inside)
+
+        some : (d : ℕ) → d < s .shape .m → part downBlock granting d (queuedDowns (laneAt s k .downs)) ≢ 0 → servedCount (waitingOn (blockNo d) (laneAt s k .waiting)) ≢ 0
+        some d b z = grant-on d b (λ q. z (tally-grants (keepIf (downAbout (blockNo d)) (queuedDowns (laneAt s k .downs))) ∙ q))
+
+        none : (w : Waiting) → laneAt s k .waiting ≡ w → ((a : BlockNo) → servedCount (waitingOn a w) ≡ 0) → grantCount (queuedDowns (laneAt s k .downs)) ≤ 1
+        none w e z =
+            let a = tally-most downBlock granting 0 (s .shape .m) (λ j. 0) (λ j. true) (queuedDowns (laneAt s k .downs)) inside
+            (λ d b n. absurd (some d b n (ap (λ (x : Waiting). servedCount (waitingOn (blockNo d) x)) e ∙ z (blockNo d)))) in
+            let b = tally-grants (queuedDowns (laneAt s k .downs)) in
+            omega arith
+
+        go : (w : Waiting) → laneAt s k .waiting ≡ w → grantCount (queuedDowns (laneAt s k .downs)) ≤ 1
+        go Idle e = none Idle e (λ a. refl)
+        go (Unserved o) e = none (Unserved o) e (λ a. by-cond (λ (x : Waiting). servedCount x ≡ 0) (eqb (blockOf (o .word) .0) (a .0)) (Unserved o) Idle refl refl)
+        go (Served o) e =
+            let d = blockOf (o .word) .0 in
+            let a = tally-most downBlock granting 1 (s .shape .m) (λ j. d) (λ j. true) (queuedDowns (laneAt s k .downs)) inside
+            (λ c b n. let u = served-on (laneAt s k .waiting) (blockNo c) (some c b n) in (0, omega arith, refl, ap (λ (x : Operation). blockOf (x .word) .0) (served-inj o (u .0) (sym e ∙ u .1)) ∙ u .2)) in
+            let b = tally-grants (queuedDowns (laneAt s k .downs)) in
+            let g = i .block d (sound s (i .sound) .lane k h .served o e) .1 .grant k in
+            let p = tally-grants (keepIf (downAbout (blockNo d)) (queuedDowns (laneAt s k .downs))) in
+            let m = served-most (laneAt s k .waiting) (blockNo d) in
+            omega arith
