@@ -1,0 +1,17 @@
+pub mod Pairs
+pub mod Places
+pub mod Queues
+pub mod Lanes
+pub mod Controls
+pub mod Corruption
+pub mod Posts
+pub mod Commits
+pub mod Steps
+pub mod Settle
+pub mod Calls
+pub mod Refused
+pub mod Bounded
+pub mod Tape
+pub mod Stores
+pub mod Table
+pub mod Theorems
