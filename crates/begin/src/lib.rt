@@ -6,6 +6,7 @@ ghost use Prim.Native.Nat.{_≤_, _<_};
 ghost use Rattle.lanes.specs.UseOrder.{placeAt};
 ghost use Rattle.machine.specs.Change.{refuseLane, refusedIn};
 ghost use Rattle.machine.specs.Begin.{completeWith, complete, waits, hit, readOf, ejectOf, evict, miss, beginLane, admitsOf};
+ghost use Rattle.queues.specs.Queues.{capacity};
 use answers::Refusal;
 use lanes::Command;
 use lanes::Found;
@@ -128,7 +129,7 @@ fn eject(x: Line) -> ReturnMessage
 // The eviction of line i, after which the lane waits.
 fn evict(l: Lane, i: LineNo, op: Op, w: WordNo) -> LaneStep
     requires { ⌜ i .0 < 8 ⌝ }
-    ensures { λ r. ⌜ r ≡ evict i op w l ⌝ }
+    ensures { λ r. ⌜ r ≡ evict capacity i op w l ⌝ }
 {
     let j = i.0 as usize;
     let x = l.lines[j];
@@ -150,7 +151,7 @@ fn evict(l: Lane, i: LineNo, op: Op, w: WordNo) -> LaneStep
 // Begin on a block not held: a line must be free for the grant's words.
 fn miss(l: Lane, c: u8, op: Op, w: WordNo) -> LaneStep
     requires { ⌜ (c ≤ 8) × (placeAt (l .order) 0 .0 < 8) ⌝ }
-    ensures { λ r. ⌜ r ≡ miss c op w l ⌝ }
+    ensures { λ r. ⌜ r ≡ miss capacity c op w l ⌝ }
 {
     let Found::At(_) = l.vacant(c) else {
         let oldest = l.order[0];
@@ -179,7 +180,7 @@ pub fn admits(l: Lane, c: u8, op: Op, w: WordNo) -> bool
 // The lane's part of begin.
 pub fn begin_lane(l: Lane, c: u8, op: Op, w: WordNo) -> LaneStep
     requires { ⌜ (c ≤ 8) × (placeAt (l .order) 0 .0 < 8) ⌝ }
-    ensures { λ r. ⌜ r ≡ beginLane c op w l ⌝ }
+    ensures { λ r. ⌜ r ≡ beginLane capacity c op w l ⌝ }
 {
     let a = w.block();
     let Found::At(i) = l.search(c, a) else {

@@ -11,6 +11,7 @@ ghost use Rattle.store.specs.Stores.{laneAt};
 ghost use Rattle.machine.specs.Corruption.{corruptOf};
 ghost use Rattle.machine.specs.Settle.{isOrder, downsOf, returnsIn, servicesIn, unservedIn, boundOf};
 use lanes::Lane;
+use queues::CAPACITY;
 use queues::DownKind;
 use queues::DownQueue;
 use store::Store;
@@ -43,7 +44,7 @@ fn wanted(order: bool, x: DownKind) -> bool
 
 // Whether place i of a down queue has such a message.
 fn wanted_at(order: bool, q: DownQueue, i: u8) -> bool
-    requires { ⌜ i < 2 ⌝ }
+    requires { ⌜ i < 8 ⌝ }
     ensures { λ r. ⌜ r ≡ (ltb i (q .len) && cond order (isOrder (getD (q .at) i noDown .kind)) (not (isOrder (getD (q .at) i noDown .kind)))) ⌝ }
 {
     let j = i as usize;
@@ -64,11 +65,11 @@ fn one_if(b: bool) -> u16
 
 // The orders of a down queue, or its grants.
 fn downs(order: bool, q: DownQueue) -> u16
-    ensures { λ r. ⌜ (r ≡ downsOf order q) × (r ≤ 2) ⌝ }
+    ensures { λ r. ⌜ (r ≡ downsOf order q) × (r ≤ 8) ⌝ }
 {
     let mut sum: u16 = 0;
     let mut i: u8 = 0;
-    while i < 2 {
+    while i < CAPACITY {
         let b = wanted_at(order, q, i);
         sum += one_if(b);
         i += 1;
@@ -103,7 +104,7 @@ fn returns_in(s: Store) -> u16
 // Q: orders in down queues; or G: grants.
 fn downs_in(order: bool, s: Store) -> u16
     requires { ⌜ s .shape .n ≤ 8 ⌝ }
-    ensures { λ r. ⌜ (r ≡ sumTo (λ k. downsOf order (laneAt s k .downs)) (s .shape .n)) × (r ≤ 16) ⌝ }
+    ensures { λ r. ⌜ (r ≡ sumTo (λ k. downsOf order (laneAt s k .downs)) (s .shape .n)) × (r ≤ 64) ⌝ }
 {
     let n = s.shape.n;
     let mut sum: u16 = 0;
@@ -139,11 +140,10 @@ fn unserved_in(s: Store) -> u16
 
 // S: services.
 fn services_in(s: Store) -> u16
-    ensures { λ r. ⌜ (r ≡ servicesIn s) × (r ≤ 1) ⌝ }
+    ensures { λ r. ⌜ (r ≡ servicesIn s) × (r ≤ 255) ⌝ }
 {
     let x = s.control;
-    let b = x.busy();
-    one_if(b)
+    x.services() as u16
 }
 
 // The bound of a store of at most 8 lanes.

@@ -20,6 +20,8 @@ const MOST_RECORDS: u32 = 100000000;
 // The kinds of record that are no call of replybytes.
 const OPEN: u8 = 0;
 
+const OPEN_LIMITED: u8 = 8;
+
 const SETTLE: u8 = 17;
 
 const SHOW: u8 = 18;
@@ -59,9 +61,22 @@ fn settled(s: Store) -> Store {
 }
 
 fn show(s: Store) {
-    let mut out = [0u8; 3549];
+    let mut out = [0u8; 5320];
     storebytes::put_store(&mut out, 0, s);
     io::write_all(STDOUT_FILENO, &out);
+}
+
+// An opening of the shape in a record, with the limit L.
+fn opened(bytes: &[u8], limit: u8) -> Outcome
+    requires { ⌜ 8 ≤ length (now bytes) ⌝ }
+{
+    let shape = Shape {
+        n: bytes[1],
+        c: bytes[2],
+        m: bytes[3],
+        limit: limit,
+    };
+    opening::open(shape)
 }
 
 // A record on the store that the records before it left.
@@ -70,12 +85,11 @@ fn answer(s: Store, bytes: &[u8]) -> Store
 {
     let kind = bytes[0];
     if kind == OPEN {
-        let shape = Shape {
-            n: bytes[1],
-            c: bytes[2],
-            m: bytes[3],
-        };
-        let o = opening::open(shape);
+        let o = opened(bytes, 1);
+        return told(o);
+    }
+    if kind == OPEN_LIMITED {
+        let o = opened(bytes, bytes[4]);
         return told(o);
     }
     if kind == SETTLE {

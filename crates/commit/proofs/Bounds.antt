@@ -7,6 +7,7 @@ use mathlib.Core.Path.{_≡_}
 use Rattle.words.specs.declared.LaneNo.{LaneNo}
 use Rattle.words.specs.declared.WordNo.{WordNo}
 use Rattle.words.specs.declared.Op.{Op}
+use Rattle.queues.specs.Queues.{capacity}
 use Rattle.lanes.specs.UseOrder.{placeAt, LoadsOldest}
 use Rattle.store.specs.declared.Store.{Store}
 use Rattle.store.specs.Stores.{laneAt}
@@ -34,14 +35,14 @@ module _ (s : Store) (k : LaneNo) (e : corruptOf s ≡ false) (h : k .0 < s .sha
 
   -- a completion's place is no more than the last one
   pub begin-counted : (op : Op) (w : WordNo) → admitsOf (s .shape .c) op w (laneAt s (k .0)) ≡ true → exhaustedOf s ≡ false →
-      counted (beginLane (s .shape .c) op w (laneAt s (k .0)) .answer) (s .completions) ≤ lastPlace
+      counted (beginLane capacity (s .shape .c) op w (laneAt s (k .0)) .answer) (s .completions) ≤ lastPlace
   begin-counted op w admits left =
       let g = sound s e .begun in
-      let p = lane-counted 1 s k (beginLane (s .shape .c) op w (laneAt s (k .0))) h (begin-lane-begins (s .shape .c) op w (laneAt s (k .0)) (admitted (s .shape .c) op w (laneAt s (k .0)) admits)) in
+      let p = lane-counted 1 s k (beginLane capacity (s .shape .c) op w (laneAt s (k .0))) h (begin-lane-begins (s .shape .c) op w (laneAt s (k .0)) (admitted (s .shape .c) op w (laneAt s (k .0)) admits)) in
       omega (arith, eqb-false (begunIn s) lastPlace left)
 
-  pub deliver-counted : counted (deliverLane LoadsOldest (s .shape .c) (laneAt s (k .0)) .answer) (s .completions) ≤ lastPlace
+  pub deliver-counted : counted (deliverLane capacity LoadsOldest (s .shape .c) (laneAt s (k .0)) .answer) (s .completions) ≤ lastPlace
   deliver-counted =
       let g = sound s e .begun in
-      let p = lane-counted 0 s k (deliverLane LoadsOldest (s .shape .c) (laneAt s (k .0))) h (deliver-lane-begins LoadsOldest (s .shape .c) (laneAt s (k .0))) in
+      let p = lane-counted 0 s k (deliverLane capacity LoadsOldest (s .shape .c) (laneAt s (k .0))) h (deliver-lane-begins LoadsOldest (s .shape .c) (laneAt s (k .0))) in
       omega arith

@@ -10,7 +10,7 @@ use lib.ListN.{getD, set}
 use Rattle.words.specs.Folds.{upTo, anyTo}
 use Rattle.words.proofs.Folds.{below?, upTo-none, upTo-more, any-none, any-more, any-true, any-false, any-never}
 use Rattle.queues.specs.declared.DownMessage.{DownMessage}
-use Rattle.queues.specs.Queues.{fullAt}
+use Rattle.queues.specs.Queues.{capacity, fullAt}
 use Rattle.lanes.specs.declared.Lane.{Lane}
 use Rattle.store.specs.declared.Store.{Store}
 use Rattle.store.specs.LaneSets.{goesTo}
@@ -42,14 +42,14 @@ skip-tests p j n h e = any-never p n (λ i l. go i l (below? i j))
 
 -- a lane that the message goes to has no room for it
 abbrev full : ℕ → List Lane → ℕ → Bool
-full to ls i = goesTo (lanesOf to) i && fullAt (getD ls i noLane .downs .len)
+full to ls i = goesTo (lanesOf to) i && fullAt capacity (getD ls i noLane .downs .len)
 
 -- from s to t message x has been posted to the lanes below j that are in the byte, each of which had room; the byte left has the others
 pub record Posted (to : ℕ) (x : DownMessage) (s t : Store) (left j : ℕ) : Type 0 where
   pub below : j ≤ 8
   pub fits : left < 256
   pub rest : Left to left j
-  pub done : t ≡ withLanes s (upTo (postTo (lanesOf to) x) j (s .lanes))
+  pub done : t ≡ withLanes s (upTo (postTo capacity (lanesOf to) x) j (s .lanes))
   pub room : anyTo (full to (s .lanes)) j ≡ false
 
 module _ (to : ℕ) (x : DownMessage) (s : Store) where
@@ -59,24 +59,24 @@ module _ (to : ℕ) (x : DownMessage) (s : Store) where
     below = omega arith;
     fits = h;
     rest = left-all to;
-    done = ap (withLanes s) (upTo-none (postTo (lanesOf to) x) (s .lanes));
+    done = ap (withLanes s) (upTo-none (postTo capacity (lanesOf to) x) (s .lanes));
     room = any-none (full to (s .lanes));
   }
 
   not-full : (i : ℕ) → i < 8 → bitOf to i ≡ false → full to (s .lanes) i ≡ false
   not-full i h e = rw (lanes-bit to i h, e) refl
 
-  not-posted : (i : ℕ) (ls : List Lane) → i < 8 → bitOf to i ≡ false → postTo (lanesOf to) x i ls ≡ ls
+  not-posted : (i : ℕ) (ls : List Lane) → i < 8 → bitOf to i ≡ false → postTo capacity (lanesOf to) x i ls ≡ ls
   unfolding postTo
   not-posted i ls h e = rw (postTo, lanes-bit to i h, e) refl
 
   -- after the last one
   module _ (t : Store) (j : ℕ) (w : Posted to x s t 0 j) where
-    pub posted-all : t ≡ withLanes s (postAll (lanesOf to) x (s .lanes))
+    pub posted-all : t ≡ withLanes s (postAll capacity (lanesOf to) x (s .lanes))
     unfolding postAll
-    posted-all = w .done ∙ ap (withLanes s) (sym (skip-turns (postTo (lanesOf to) x) (s .lanes) j 8 (w .below) (λ i ls h g. not-posted i ls g (left-none to j (w .rest) i h g))))
+    posted-all = w .done ∙ ap (withLanes s) (sym (skip-turns (postTo capacity (lanesOf to) x) (s .lanes) j 8 (w .below) (λ i ls h g. not-posted i ls g (left-none to j (w .rest) i h g))))
 
-    pub room-all : someFull (lanesOf to) (s .lanes) ≡ false
+    pub room-all : someFull capacity (lanesOf to) (s .lanes) ≡ false
     unfolding someFull
     room-all = skip-tests (full to (s .lanes)) j 8 (w .room) (λ i h g. not-full i g (left-none to j (w .rest) i h g))
 
@@ -88,10 +88,10 @@ module _ (to : ℕ) (x : DownMessage) (s : Store) where
     pub turn-below : z < 8
     turn-below = lowest-below left (w .fits) h
 
-    reached : t ≡ withLanes s (upTo (postTo (lanesOf to) x) z (s .lanes))
+    reached : t ≡ withLanes s (upTo (postTo capacity (lanesOf to) x) z (s .lanes))
     reached =
         let b = turn-below in
-        w .done ∙ ap (withLanes s) (sym (skip-turns (postTo (lanesOf to) x) (s .lanes) j z (next-above to left j (w .rest) h (w .fits))
+        w .done ∙ ap (withLanes s) (sym (skip-turns (postTo capacity (lanesOf to) x) (s .lanes) j z (next-above to left j (w .rest) h (w .fits))
         (λ i ls g l. not-posted i ls (omega arith) (next-first to left j (w .rest) h (w .fits) i g l))))
 
     clear : anyTo (full to (s .lanes)) z ≡ false
@@ -99,19 +99,19 @@ module _ (to : ℕ) (x : DownMessage) (s : Store) where
 
     -- its queue is as it was
     same-lane : getD (t .lanes) z noLane ≡ getD (s .lanes) z noLane
-    same-lane = ap (λ (u : Store). getD (u .lanes) z noLane) reached ∙ posts-before (lanesOf to) x z z (s .lanes) (omega arith)
+    same-lane = ap (λ (u : Store). getD (u .lanes) z noLane) reached ∙ posts-before capacity (lanesOf to) x z z (s .lanes) (omega arith)
 
     goes : goesTo (lanesOf to) z ≡ true
     goes = lanes-bit to z turn-below ∙ next-set to left j (w .rest) h (w .fits)
 
-    full-here : full to (s .lanes) z ≡ fullAt (getD (t .lanes) z noLane .downs .len)
+    full-here : full to (s .lanes) z ≡ fullAt capacity (getD (t .lanes) z noLane .downs .len)
     full-here = rw (goes, same-lane) refl
 
-    pub turn-full : fullAt (getD (t .lanes) z noLane .downs .len) ≡ true → someFull (lanesOf to) (s .lanes) ≡ true
+    pub turn-full : fullAt capacity (getD (t .lanes) z noLane .downs .len) ≡ true → someFull capacity (lanesOf to) (s .lanes) ≡ true
     unfolding someFull
     turn-full e = any-true (full to (s .lanes)) 8 z (full-here ∙ e) turn-below
 
-    pub turn-posts : {l : Lane} → fullAt (getD (t .lanes) z noLane .downs .len) ≡ false → l ≡ posted x (getD (t .lanes) z noLane) →
+    pub turn-posts : {l : Lane} → fullAt capacity (getD (t .lanes) z noLane .downs .len) ≡ false → l ≡ posted capacity x (getD (t .lanes) z noLane) →
         Posted to x s (withLanes t (set (t .lanes) z l)) (withoutLowest left) (z + 1)
     unfolding postTo
     turn-posts {l} e q = record {
@@ -120,6 +120,6 @@ module _ (to : ℕ) (x : DownMessage) (s : Store) where
       rest = next-left to left j (w .rest) h (w .fits);
       done =
           ap (λ (u : Store). withLanes u (set (t .lanes) z l)) reached ∙
-          ap (withLanes s) (upTo-more (postTo (lanesOf to) x) (s .lanes) z (ap (λ (u : Store). u .lanes) reached) (rw (postTo, goes, q)));
+          ap (withLanes s) (upTo-more (postTo capacity (lanesOf to) x) (s .lanes) z (ap (λ (u : Store). u .lanes) reached) (rw (postTo, goes, q)));
       room = any-more (full to (s .lanes)) z clear (full-here ∙ e);
     }

@@ -6,6 +6,7 @@ ghost use Prim.Native.Nat.{_<_};
 ghost use Rattle.machine.specs.LaneBytes.{moveOf};
 ghost use Rattle.machine.specs.Change.{refuse, posted, commitMove};
 ghost use Rattle.commit.specs.Bits.{lowestBit, withoutLowest};
+ghost use Rattle.queues.specs.Queues.{capacity};
 use answers::Answer;
 use answers::Refusal;
 use lanes::Lane;
@@ -34,7 +35,7 @@ fn without_lowest(x: u8) -> u8
 
 // The message joins the lane's down queue.
 fn post(x: DownMessage, l: Lane) -> Lane
-    ensures { λ r. ⌜ r ≡ posted x l ⌝ }
+    ensures { λ r. ⌜ r ≡ posted capacity x l ⌝ }
 {
     let q = l.downs;
     let p = q.push(x);

@@ -6,6 +6,7 @@ ghost use Prim.Native.Nat.{_≤_};
 ghost use Rattle.lanes.specs.Search.{searchOf, vacantOf};
 ghost use Rattle.lanes.specs.UseOrder.{LoadsOldest};
 ghost use Rattle.machine.specs.Deliver.{reply, updateAt, purgedOf, purgeAt, claimed, fillAt, grantAt, bareAt, servedOn, grantTo, bareTo, deliverKind, deliverLane};
+ghost use Rattle.queues.specs.Queues.{capacity};
 use answers::Refusal;
 use lanes::Found;
 use lanes::Lane;
@@ -24,7 +25,7 @@ use words::Op;
 
 // An answer to an order joins the return queue.
 fn reply(l: Lane, m: ReturnMessage) -> LaneStep
-    ensures { λ r. ⌜ r ≡ reply m l ⌝ }
+    ensures { λ r. ⌜ r ≡ reply capacity m l ⌝ }
 {
     let returns = l.returns;
     let p = returns.push(m);
@@ -43,7 +44,7 @@ fn reply(l: Lane, m: ReturnMessage) -> LaneStep
 // UPDATE.
 fn update(l: Lane, c: u8, a: BlockNo) -> LaneStep
     requires { ⌜ c ≤ 8 ⌝ }
-    ensures { λ r. ⌜ r ≡ updateAt (searchOf l c a) a l ⌝ }
+    ensures { λ r. ⌜ r ≡ updateAt capacity (searchOf l c a) a l ⌝ }
 {
     let Found::At(i) = l.search(c, a) else {
         let gone = queues::bare_return(ReturnKind::Gone, a);
@@ -73,7 +74,7 @@ fn purged(a: BlockNo, x: Line) -> ReturnMessage
 // PURGE.
 fn purge(l: Lane, c: u8, a: BlockNo) -> LaneStep
     requires { ⌜ c ≤ 8 ⌝ }
-    ensures { λ r. ⌜ r ≡ purgeAt (searchOf l c a) a l ⌝ }
+    ensures { λ r. ⌜ r ≡ purgeAt capacity (searchOf l c a) a l ⌝ }
 {
     let Found::At(i) = l.search(c, a) else {
         let missing = queues::bare_return(ReturnKind::Gone, a);
@@ -202,7 +203,7 @@ fn bare_to(l: Lane, c: u8, m: DownMessage) -> LaneStep
 // What a message does in a lane that has taken it.
 fn receive(l: Lane, c: u8, m: DownMessage) -> LaneStep
     requires { ⌜ c ≤ 8 ⌝ }
-    ensures { λ r. ⌜ r ≡ deliverKind LoadsOldest (m .kind) c m l ⌝ }
+    ensures { λ r. ⌜ r ≡ deliverKind capacity LoadsOldest (m .kind) c m l ⌝ }
 {
     let kind = m.kind;
     let a = m.block;
@@ -217,7 +218,7 @@ fn receive(l: Lane, c: u8, m: DownMessage) -> LaneStep
 // The lane's part of deliver. A refused message stays in its queue.
 pub fn deliver_lane(l: Lane, c: u8) -> LaneStep
     requires { ⌜ c ≤ 8 ⌝ }
-    ensures { λ r. ⌜ r ≡ deliverLane LoadsOldest c l ⌝ }
+    ensures { λ r. ⌜ r ≡ deliverLane capacity LoadsOldest c l ⌝ }
 {
     let downs = l.downs;
     if downs.len == 0 {

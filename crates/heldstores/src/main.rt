@@ -11,7 +11,7 @@ use words::LaneNo;
 use words::WordNo;
 
 // A store and a call.
-const CASE_BYTES: usize = 3557;
+const CASE_BYTES: usize = 5328;
 
 // Picture's buffer: its bytes before the call, and how many there are; a call lends the first of them.
 const BUFFER_BYTES: usize = 1300;
@@ -35,13 +35,13 @@ fn picture_reply(p: Filled) -> Reply {
 
 // The answer and the store after.
 fn write_after(r: Reply, s: Store) {
-    let mut out = [0u8; 3561];
+    let mut out = [0u8; 5332];
     put_after(&mut out, r, s);
     io::write_all(STDOUT_FILENO, &out);
 }
 
 fn put_after(out: &mut [u8], r: Reply, s: Store)
-    requires { ⌜ 3561 ≤ length (now out) ⌝ }
+    requires { ⌜ 5332 ≤ length (now out) ⌝ }
 {
     replybytes::put_reply(out, r);
     storebytes::put_store(out, 12, s);
@@ -76,15 +76,15 @@ fn answer_settle(s: Store) {
     io::write_all(STDOUT_FILENO, &out);
 }
 
-// A case's answer: the call stands behind the store's 3,549 bytes.
+// A case's answer: the call stands behind the store's 5,320 bytes.
 fn answer(case: &[u8])
-    requires { ⌜ 3557 ≤ length (now case) ⌝ }
+    requires { ⌜ 5328 ≤ length (now case) ⌝ }
 {
     let s = storebytes::store_from(case);
-    let kind = case[3549];
-    let k = LaneNo(case[3550]);
-    let w = WordNo(case[3551]);
-    let v = storebytes::word_from(case, 3552);
+    let kind = case[5320];
+    let k = LaneNo(case[5321]);
+    let w = WordNo(case[5322]);
+    let v = storebytes::word_from(case, 5323);
     if kind == PICTURE {
         answer_picture(s, v as usize);
         return;

@@ -3,10 +3,12 @@
 ghost use mathlib.Core.Path.{_≡_};
 ghost use Prim.Native.Nat.{_<_, _≤_};
 ghost use Rattle.words.specs.Units.{blockOf};
+ghost use Rattle.queues.specs.Queues.{capacity};
 ghost use Rattle.machine.specs.Corruption.{badBlock, badLine, badLines, badPlace, badReturns, badDowns, badWaiting, badUse, badOrder, badLane};
 use lanes::Lane;
 use lanes::Operation;
 use lanes::Waiting;
+use queues::CAPACITY;
 use queues::DownQueue;
 use queues::ReturnQueue;
 use words::BlockNo;
@@ -44,40 +46,46 @@ fn bad_place(m: u8, len: u8, i: u8, a: BlockNo) -> bool
     i < len && m <= a.0
 }
 
-// Whether a return queue is longer than 2, or has a message with a block number out of range.
+// Whether a return queue is longer than its places, or has a message with a block number out of range.
 fn bad_returns(q: ReturnQueue, m: u8) -> bool
-    ensures { λ r. ⌜ r ≡ badReturns m q ⌝ }
+    ensures { λ r. ⌜ r ≡ badReturns capacity m q ⌝ }
 {
     let n = q.len;
-    if 2 < n {
+    if CAPACITY < n {
         return true;
     }
-    let x = q.at[0];
-    let a = x.block;
-    if bad_place(m, n, 0, a) {
-        return true;
+    let mut k: u8 = 0;
+    while k < CAPACITY {
+        let i = k as usize;
+        let x = q.at[i];
+        let a = x.block;
+        if bad_place(m, n, k, a) {
+            return true;
+        }
+        k += 1;
     }
-    let y = q.at[1];
-    let b = y.block;
-    bad_place(m, n, 1, b)
+    false
 }
 
 // The same of a down queue.
 fn bad_downs(q: DownQueue, m: u8) -> bool
-    ensures { λ r. ⌜ r ≡ badDowns m q ⌝ }
+    ensures { λ r. ⌜ r ≡ badDowns capacity m q ⌝ }
 {
     let len = q.len;
-    if 2 < len {
+    if CAPACITY < len {
         return true;
     }
-    let x = q.at[0];
-    let a = x.block;
-    if bad_place(m, len, 0, a) {
-        return true;
+    let mut k: u8 = 0;
+    while k < CAPACITY {
+        let i = k as usize;
+        let x = q.at[i];
+        let a = x.block;
+        if bad_place(m, len, k, a) {
+            return true;
+        }
+        k += 1;
     }
-    let y = q.at[1];
-    let b = y.block;
-    bad_place(m, len, 1, b)
+    false
 }
 
 // Whether an operation's word is out of range.
@@ -139,7 +147,7 @@ fn bad_order(order: [LineNo; 8], c: u8) -> bool
 // Whether a lane of c lines breaks a bound.
 pub fn bad_lane(l: Lane, c: u8, m: u8) -> bool
     requires { ⌜ c ≤ 8 ⌝ }
-    ensures { λ r. ⌜ r ≡ badLane c m l ⌝ }
+    ensures { λ r. ⌜ r ≡ badLane capacity c m l ⌝ }
 {
     let lines = l.lines;
     if bad_lines(lines, c, m) {

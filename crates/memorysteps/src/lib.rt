@@ -23,7 +23,7 @@ pub fn serve_sound(s: Store, k: LaneNo) -> Outcome
     let i = k.0 as usize;
     let l = s.lanes[i];
     let x = s.control;
-    match serving::check_ready(l, x) {
+    match serving::check_ready(l, s.shape.limit, x) {
         Ready::No(r) => commit::refused(r, s),
         Ready::Go(o) => {
             let a = o.word.block();

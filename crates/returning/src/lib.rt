@@ -77,8 +77,14 @@ fn count_answer(y: Control, a: BlockNo, l: Lane, b: Block, t: Lane, u: Block) ->
 {
     let n = y.answer(a);
     match n {
-        Counted::Awaits(z) => closing::send_nothing(t, u, z),
-        Counted::Closes(v, z) => closing::close_service(v, t, u, z),
+        Counted::Awaits(v) => {
+            let z = y.update(v);
+            closing::send_nothing(t, u, z)
+        }
+        Counted::Closes(v) => {
+            let z = y.close(v);
+            closing::close_service(v, t, u, z)
+        }
         Counted::NotAwaited => closing::refuse_move(Refusal::Unexpected, l, b, y),
     }
 }

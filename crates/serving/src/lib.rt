@@ -83,14 +83,15 @@ fn is_bare(x: Command, present: bool) -> bool
 }
 
 // Serve's own checks: 9, 10, 11.
-pub fn check_ready(l: Lane, x: Control) -> Ready
-    ensures { λ r. ⌜ r ≡ readyOf l x ⌝ }
+pub fn check_ready(l: Lane, limit: u8, x: Control) -> Ready
+    ensures { λ r. ⌜ r ≡ readyOf l limit x ⌝ }
 {
     let w = l.waiting;
     match w {
         Waiting::Idle => Ready::No(Refusal::NothingPending),
         Waiting::Unserved(o) => {
-            if x.busy() {
+            let a = o.word.block();
+            if x.engaged(limit, a) {
                 return Ready::No(Refusal::ControlBusy);
             }
             if 0 < l.returns.len {
@@ -139,11 +140,12 @@ pub fn serve_move(l: Lane, b: Block, x: Control, k: LaneNo, o: Operation) -> Byt
     let w = o.word;
     let a = w.block();
     let m = queues::bare_down(d, a);
+    let y = x.open(v);
     ByteMove {
         answer: Answer::Step,
         lane: t,
         block: b,
-        control: Control::Busy(v),
+        control: y,
         to: to,
         message: m,
     }

@@ -1,6 +1,6 @@
 -- A store of the program has arrays of their declared lengths: what the check knows of a store by value gives `Sized`. Where the
--- store s is a function's first parameter that is `arrays-sized s _ _ (c .good .0 .1 .1 .1 .1 .1 .0) (c .good .0 .1 .1 .1 .1 .1 .1 .0)`.
--- Assumes nothing.
+-- store s is a function's first parameter that is
+-- `arrays-sized s _ _ _ (c .good .0 .1 .1 .1 .0 .1 .1 .0) (c .good .0 .1 .1 .1 .1 .1 .0) (c .good .0 .1 .1 .1 .1 .1 .1 .0)`. Assumes nothing.
 use Prim.Native.Nat.{ℕ, zero, suc, _<_}
 use native.Mathlib.Omega.{arith}
 use mathlib.Core.Path.{_≡_}
@@ -14,6 +14,7 @@ use denote.Struct.Struct.{Struct}
 use denote.Struct.Declared.{shape}
 use Rattle.lanes.proofs.Lane as L
 use Rattle.store.proofs.Block as B
+use Rattle.store.proofs.Slot as S
 use Rattle.store.specs.declared.Store.{Store}
 use Rattle.store.specs.Stores.{noLane, noBlock, laneAt, blockAt}
 use Rattle.machine.specs.Sized.{LaneSized, Sized}
@@ -26,7 +27,8 @@ each-at d own (x ∷ xs) [] i z h p = absurd p
 each-at d own (x ∷ xs) (u ∷ us) zero z h p = (u, p .0)
 each-at d own (x ∷ xs) (u ∷ us) (suc i) z h p = each-at d own xs us i z (omega arith) (p .1)
 
-module _ (s : Store) (vs ws : List Val)
+module _ (s : Store) (us vs ws : List Val)
+    (ss : shadow (inArray (S.the-field .row .Denot) (Struct (shape S.the-type) .own) 8 (map (S.the-type .to) (s .control .slots)) us))
     (ls : shadow (inArray (L.the-field .row .Denot) (Struct (shape L.the-type) .own) 8 (map (L.the-type .to) (s .lanes)) vs))
     (bs : shadow (inArray (B.the-field .row .Denot) (Struct (shape B.the-type) .own) 64 (map (B.the-type .to) (s .blocks)) ws)) where
   lane-sized : (k : ℕ) → k < 8 → LaneSized (laneAt s k)
@@ -51,4 +53,10 @@ module _ (s : Store) (vs ws : List Val)
       simp length-map at (r .1 .1 .1 .0 .1 .0 .1)
 
   pub arrays-sized : Sized s
-  arrays-sized = record { lanes = simp length-map at (ls .1 .0 .1); blocks = simp length-map at (bs .1 .0 .1); lane = lane-sized; present = present-sized }
+  arrays-sized = record {
+    lanes = simp length-map at (ls .1 .0 .1);
+    slots = simp length-map at (ss .1 .0 .1);
+    blocks = simp length-map at (bs .1 .0 .1);
+    lane = lane-sized;
+    present = present-sized;
+  }

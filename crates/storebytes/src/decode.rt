@@ -15,6 +15,7 @@ use queues::ReturnQueue;
 use store::Block;
 use store::Control;
 use store::Service;
+use store::Slot;
 use store::Store;
 use words::BlockNo;
 use words::LaneNo;
@@ -160,15 +161,28 @@ fn return_message_from(bytes: &[u8], at: usize) -> ReturnMessage
     }
 }
 
+fn return_messages_from(bytes: &[u8], at: usize) -> [ReturnMessage; 8]
+    requires { ⌜ at + 144 ≤ length (now bytes) ⌝ }
+{
+    let first = return_message_from(bytes, at);
+    let mut messages = [first; 8];
+    let mut i: usize = 1;
+    while i < 8 {
+        let x = return_message_from(bytes, at + 18 * i);
+        messages[i] = x;
+        i += 1;
+    }
+    messages
+}
+
 fn return_queue_from(bytes: &[u8], at: usize) -> ReturnQueue
-    requires { ⌜ at + 37 ≤ length (now bytes) ⌝ }
+    requires { ⌜ at + 145 ≤ length (now bytes) ⌝ }
 {
     let len = bytes[at];
-    let first = return_message_from(bytes, at + 1);
-    let second = return_message_from(bytes, at + 19);
+    let messages = return_messages_from(bytes, at + 1);
     ReturnQueue {
         len: len,
-        at: [first, second],
+        at: messages,
     }
 }
 
@@ -185,15 +199,28 @@ fn down_message_from(bytes: &[u8], at: usize) -> DownMessage
     }
 }
 
+fn down_messages_from(bytes: &[u8], at: usize) -> [DownMessage; 8]
+    requires { ⌜ at + 144 ≤ length (now bytes) ⌝ }
+{
+    let first = down_message_from(bytes, at);
+    let mut messages = [first; 8];
+    let mut i: usize = 1;
+    while i < 8 {
+        let x = down_message_from(bytes, at + 18 * i);
+        messages[i] = x;
+        i += 1;
+    }
+    messages
+}
+
 fn down_queue_from(bytes: &[u8], at: usize) -> DownQueue
-    requires { ⌜ at + 37 ≤ length (now bytes) ⌝ }
+    requires { ⌜ at + 145 ≤ length (now bytes) ⌝ }
 {
     let len = bytes[at];
-    let first = down_message_from(bytes, at + 1);
-    let second = down_message_from(bytes, at + 19);
+    let messages = down_messages_from(bytes, at + 1);
     DownQueue {
         len: len,
-        at: [first, second],
+        at: messages,
     }
 }
 
@@ -218,13 +245,13 @@ fn waiting_from(bytes: &[u8], at: usize) -> Waiting
 }
 
 fn lane_from(bytes: &[u8], at: usize) -> Lane
-    requires { ⌜ at + 242 ≤ length (now bytes) ⌝ }
+    requires { ⌜ at + 458 ≤ length (now bytes) ⌝ }
 {
     let lines = lines_from(bytes, at);
     let order = order_from(bytes, at + 152);
     let returns = return_queue_from(bytes, at + 160);
-    let downs = down_queue_from(bytes, at + 197);
-    let waiting = waiting_from(bytes, at + 234);
+    let downs = down_queue_from(bytes, at + 305);
+    let waiting = waiting_from(bytes, at + 450);
     Lane {
         lines: lines,
         order: order,
@@ -235,13 +262,13 @@ fn lane_from(bytes: &[u8], at: usize) -> Lane
 }
 
 fn lanes_from(bytes: &[u8], at: usize) -> [Lane; 8]
-    requires { ⌜ at + 1936 ≤ length (now bytes) ⌝ }
+    requires { ⌜ at + 3664 ≤ length (now bytes) ⌝ }
 {
     let first = lane_from(bytes, at);
     let mut lanes = [first; 8];
     let mut i: usize = 1;
     while i < 8 {
-        let x = lane_from(bytes, at + 242 * i);
+        let x = lane_from(bytes, at + 458 * i);
         lanes[i] = x;
         i += 1;
     }
@@ -275,39 +302,57 @@ fn blocks_from(bytes: &[u8], at: usize) -> [Block; 64]
     blocks
 }
 
-fn control_from(bytes: &[u8], at: usize) -> Control
+fn slot_from(bytes: &[u8], at: usize) -> Slot
     requires { ⌜ at + 6 ≤ length (now bytes) ⌝ }
 {
     if bytes[at] == 0 {
-        return Control::Free;
+        return store::free_slot();
     }
     let lane = bytes[at + 1];
     let block = bytes[at + 2];
     let x = command(bytes[at + 3]);
     let awaited = bytes[at + 4];
     let bare = flag(bytes[at + 5]);
-    Control::Busy(Service {
-        lane: LaneNo(lane),
-        block: BlockNo(block),
-        command: x,
-        awaited: awaited,
-        bare: bare,
-    })
+    Slot {
+        busy: true,
+        service: Service {
+            lane: LaneNo(lane),
+            block: BlockNo(block),
+            command: x,
+            awaited: awaited,
+            bare: bare,
+        },
+    }
 }
 
-// The store in the first 3,549 bytes.
+fn control_from(bytes: &[u8], at: usize) -> Control
+    requires { ⌜ at + 48 ≤ length (now bytes) ⌝ }
+{
+    let first = slot_from(bytes, at);
+    let mut slots = [first; 8];
+    let mut i: usize = 1;
+    while i < 8 {
+        let x = slot_from(bytes, at + 6 * i);
+        slots[i] = x;
+        i += 1;
+    }
+    Control { slots: slots }
+}
+
+// The store in the first 5,320 bytes.
 pub fn store_from(bytes: &[u8]) -> Store
-    requires { ⌜ 3549 ≤ length (now bytes) ⌝ }
+    requires { ⌜ 5320 ≤ length (now bytes) ⌝ }
 {
     let shape = Shape {
         n: bytes[0],
         c: bytes[1],
         m: bytes[2],
+        limit: bytes[3],
     };
-    let completions = word_from(bytes, 3);
-    let control = control_from(bytes, 7);
-    let lanes = lanes_from(bytes, 13);
-    let blocks = blocks_from(bytes, 1949);
+    let completions = word_from(bytes, 4);
+    let control = control_from(bytes, 8);
+    let lanes = lanes_from(bytes, 56);
+    let blocks = blocks_from(bytes, 3720);
     Store {
         shape: shape,
         control: control,

@@ -12,8 +12,8 @@ use queues::ReturnKind;
 use queues::ReturnMessage;
 use queues::ReturnQueue;
 use store::Block;
-use store::Control;
 use store::Service;
+use store::Slot;
 use store::Store;
 use words::Line;
 use words::LineNo;
@@ -136,14 +136,23 @@ fn put_return_message(out: &mut [u8], at: usize, x: ReturnMessage)
     put_words(out, at + 2, words);
 }
 
-fn put_return_queue(out: &mut [u8], at: usize, q: ReturnQueue)
-    requires { ⌜ at + 37 ≤ length (now out) ⌝ }
+fn put_return_messages(out: &mut [u8], at: usize, messages: [ReturnMessage; 8])
+    requires { ⌜ at + 144 ≤ length (now out) ⌝ }
 {
-    let first = q.at[0];
-    let second = q.at[1];
+    let mut i: usize = 0;
+    while i < 8 {
+        let x = messages[i];
+        put_return_message(out, at + 18 * i, x);
+        i += 1;
+    }
+}
+
+fn put_return_queue(out: &mut [u8], at: usize, q: ReturnQueue)
+    requires { ⌜ at + 145 ≤ length (now out) ⌝ }
+{
+    let messages = q.at;
     put(out, at, q.len);
-    put_return_message(out, at + 1, first);
-    put_return_message(out, at + 19, second);
+    put_return_messages(out, at + 1, messages);
 }
 
 fn put_down_message(out: &mut [u8], at: usize, x: DownMessage)
@@ -157,14 +166,23 @@ fn put_down_message(out: &mut [u8], at: usize, x: DownMessage)
     put_words(out, at + 2, words);
 }
 
-fn put_down_queue(out: &mut [u8], at: usize, q: DownQueue)
-    requires { ⌜ at + 37 ≤ length (now out) ⌝ }
+fn put_down_messages(out: &mut [u8], at: usize, messages: [DownMessage; 8])
+    requires { ⌜ at + 144 ≤ length (now out) ⌝ }
 {
-    let first = q.at[0];
-    let second = q.at[1];
+    let mut i: usize = 0;
+    while i < 8 {
+        let x = messages[i];
+        put_down_message(out, at + 18 * i, x);
+        i += 1;
+    }
+}
+
+fn put_down_queue(out: &mut [u8], at: usize, q: DownQueue)
+    requires { ⌜ at + 145 ≤ length (now out) ⌝ }
+{
+    let messages = q.at;
     put(out, at, q.len);
-    put_down_message(out, at + 1, first);
-    put_down_message(out, at + 19, second);
+    put_down_messages(out, at + 1, messages);
 }
 
 // The operation's number, and its v.
@@ -210,7 +228,7 @@ fn put_waiting(out: &mut [u8], at: usize, w: Waiting)
 }
 
 fn put_lane(out: &mut [u8], at: usize, l: Lane)
-    requires { ⌜ at + 242 ≤ length (now out) ⌝ }
+    requires { ⌜ at + 458 ≤ length (now out) ⌝ }
 {
     let lines = l.lines;
     let order = l.order;
@@ -220,17 +238,17 @@ fn put_lane(out: &mut [u8], at: usize, l: Lane)
     put_lines(out, at, lines);
     put_order(out, at + 152, order);
     put_return_queue(out, at + 160, returns);
-    put_down_queue(out, at + 197, downs);
-    put_waiting(out, at + 234, waiting);
+    put_down_queue(out, at + 305, downs);
+    put_waiting(out, at + 450, waiting);
 }
 
 fn put_lanes(out: &mut [u8], at: usize, lanes: [Lane; 8])
-    requires { ⌜ at + 1936 ≤ length (now out) ⌝ }
+    requires { ⌜ at + 3664 ≤ length (now out) ⌝ }
 {
     let mut i: usize = 0;
     while i < 8 {
         let l = lanes[i];
-        put_lane(out, at + 242 * i, l);
+        put_lane(out, at + 458 * i, l);
         i += 1;
     }
 }
@@ -271,31 +289,44 @@ fn put_service(out: &mut [u8], at: usize, v: Service)
     put(out, at + 5, bare);
 }
 
-fn put_control(out: &mut [u8], at: usize, x: Control)
+// The service in a free slot is not shown.
+fn put_slot(out: &mut [u8], at: usize, y: Slot)
     requires { ⌜ at + 6 ≤ length (now out) ⌝ }
 {
-    match x {
-        Control::Free => {
-            put_word(out, at, 0);
-            put(out, at + 4, 0);
-            put(out, at + 5, 0);
-        }
-        Control::Busy(v) => put_service(out, at, v),
+    if y.busy {
+        let v = y.service;
+        put_service(out, at, v);
+    } else {
+        put_word(out, at, 0);
+        put(out, at + 4, 0);
+        put(out, at + 5, 0);
     }
 }
 
-// The store's 3,549 bytes.
-pub fn put_store(out: &mut [u8], at: usize, s: Store)
-    requires { ⌜ at + 3549 ≤ length (now out) ⌝ }
+fn put_slots(out: &mut [u8], at: usize, slots: [Slot; 8])
+    requires { ⌜ at + 48 ≤ length (now out) ⌝ }
 {
-    let control = s.control;
+    let mut i: usize = 0;
+    while i < 8 {
+        let y = slots[i];
+        put_slot(out, at + 6 * i, y);
+        i += 1;
+    }
+}
+
+// The store's 5,320 bytes.
+pub fn put_store(out: &mut [u8], at: usize, s: Store)
+    requires { ⌜ at + 5320 ≤ length (now out) ⌝ }
+{
+    let slots = s.control.slots;
     let lanes = s.lanes;
     let blocks = s.blocks;
     put(out, at, s.shape.n);
     put(out, at + 1, s.shape.c);
     put(out, at + 2, s.shape.m);
-    put_word(out, at + 3, s.completions);
-    put_control(out, at + 7, control);
-    put_lanes(out, at + 13, lanes);
-    put_blocks(out, at + 1949, blocks);
+    put(out, at + 3, s.shape.limit);
+    put_word(out, at + 4, s.completions);
+    put_slots(out, at + 8, slots);
+    put_lanes(out, at + 56, lanes);
+    put_blocks(out, at + 3720, blocks);
 }

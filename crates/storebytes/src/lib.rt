@@ -1,4 +1,4 @@
-// A store as 3,549 bytes and back, in the format of tests/reference/README.md. Nothing here is proved of the bytes but that the functions
+// A store as 5,320 bytes and back, in the format of tests/reference/README.md. Nothing here is proved of the bytes but that the functions
 // are safe and end; tests/held-stores and tests/call-lists compare the bytes with the reference's.
 mod decode;
 mod encode;

@@ -10,7 +10,7 @@ use Rattle.records.specs.declared.Record.the-variants as Record
 use Rattle.lanes.specs.UseOrder.{LoadsOldest}
 use Rattle.store.specs.declared.Store.{Store}
 use Rattle.store.specs.declared.Outcome.{Outcome}
-use Rattle.store.specs.Opening.{badShape, freshOf, blankStore}
+use Rattle.store.specs.Opening.{badShape, badLimit, freshOf, blankStore}
 use Rattle.machine.specs.Corruption.{corruptOf}
 use Rattle.machine.specs.Tape.{isOpen, openRecord, whenOpen, recordOf}
 use Rattle.machine.proofs.bounds.Keeps.{Whole, open-keeps, open-whole, begin-keeps, serve-keeps, return-keeps, deliver-keeps, begin-whole, serve-whole, return-whole, deliver-whole}
@@ -39,7 +39,8 @@ open-after : (s : Store) (shape : Shape) → Tapes s → After (openRecord s sha
 unfolding openRecord
 open-after s shape g =
     pick After (isOpen s) _ _ (λ _. g)
-    (λ _. pick After (badShape shape) _ _ (λ _. g) (λ e. record { steady = inr (open-keeps shape e); whole = open-whole shape e }))
+    (λ _. pick After (badShape shape) _ _ (λ _. g)
+    (λ e. pick After (badLimit shape) _ _ (λ _. g) (λ f. record { steady = inr (open-keeps shape e f); whole = open-whole shape e f })))
 
 -- a call on an open store
 module _ (s : Store) (g : Tapes s) where

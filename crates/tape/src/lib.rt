@@ -12,13 +12,16 @@ use store::Outcome;
 use store::Store;
 use words::Shape;
 
-// A record of kind 00: 4, 5, then the store of the opening.
+// A record of kind 00 or 08: 4, 5, 18, then the store of the opening.
 fn open_record(s: Store, shape: Shape) -> Outcome
     ensures { λ r. ⌜ r ≡ openRecord s shape ⌝ }
 {
     if s.shape.n == 0 {
         if opening::bad_shape(shape) {
             return commit::refused(Refusal::InvalidShape, s);
+        }
+        if opening::bad_limit(shape) {
+            return commit::refused(Refusal::InvalidLimit, s);
         }
         let t = opening::fresh(shape);
         return Outcome {

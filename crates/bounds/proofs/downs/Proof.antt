@@ -19,10 +19,10 @@ abbrev wantedAt : Bool → DownQueue → ℕ → Bool
 wantedAt order q j = ltb j (q .len) && cond order (isOrder (getD (q .at) j noDown .kind)) (not (isOrder (getD (q .at) j noDown .kind)))
 
 abbrev Inv-loop : tie.InvT-loop
-Inv-loop order q sum₀ i₀ sum i = (i ≤ 2) × (sum ≡ countTo (wantedAt order q) i) × (sum ≤ i)
+Inv-loop order q sum₀ i₀ sum i = (i ≤ 8) × (sum ≡ countTo (wantedAt order q) i) × (sum ≤ i)
 
 abbrev μ-loop : tie.MeasureT-loop
-μ-loop order q sum₀ i₀ sum i = 2 - i
+μ-loop order q sum₀ i₀ sum i = 8 - i
 
 loop-holds : tie.Need-loop-holds Inv-loop μ-loop
 loop-holds c = (omega arith, count-start _, omega arith)
@@ -51,7 +51,7 @@ loop-again c = (
 
 returns : tie.Need-returns Inv-loop μ-loop
 returns c =
-    let e : c .before .loop .i ≡ 2 = omega arith in
+    let e : c .before .loop .i ≡ 8 = omega arith in
     (c .before .loop .inv .1 ∙ rw e, omega (arith, c .before .loop .inv .2))
 
 pub downs-spec : {M : Type 1} → statement M

@@ -11,7 +11,7 @@ use Rattle.bounds.proofs.downs_in.Statement.{statement}
 use Rattle.bounds.proofs.downs_in.Tie as tie
 
 abbrev Inv-loop : tie.InvT-loop
-Inv-loop order s n sum₀ k₀ sum k = (k ≤ n) × (sum ≡ sumTo (λ j. downsOf order (laneAt s j .downs)) k) × (sum ≤ 2 * k)
+Inv-loop order s n sum₀ k₀ sum k = (k ≤ n) × (sum ≡ sumTo (λ j. downsOf order (laneAt s j .downs)) k) × (sum ≤ 8 * k)
 
 abbrev μ-loop : tie.MeasureT-loop
 μ-loop order s n sum₀ k₀ sum k = n - k

@@ -15,6 +15,7 @@ use Rattle.commit.proofs.Walks.{fewer}
 use Rattle.commit.proofs.Posting.{Posted, posted-none, posted-all, room-all, turn-below, turn-full, turn-posts}
 use Rattle.commit.proofs.commit_move.Statement.{statement}
 use Rattle.commit.proofs.commit_move.Tie as tie
+use Rattle.queues.specs.Queues.{capacity}
 
 abbrev Inv-loop : tie.InvT-loop
 Inv-loop s v e t₀ i j m left₀ t left = (n : ℕ) × Posted (v .to) m t₀ t left n
@@ -69,7 +70,7 @@ returns-2 c =
     let at-loop = at-lowest .before .before in
     let at-if1 = at-loop .before .before .before .before .before .before in
     let args = at-if1 .before .before .args in
-    let f : someFull (lanesOf (args .v .to)) (set (args .s .lanes) (args .k .0) (args .v .lane)) ≡ true =
+    let f : someFull capacity (lanesOf (args .v .to)) (set (args .s .lanes) (args .k .0) (args .v .lane)) ≡ true =
     turn-full (args .v .to) (args .v .message) _ (at-loop .loop .t) (at-loop .loop .left) _ (at-loop .loop .inv .1) (at-lowest .before .loop-test .taken)
     (rw (← at-lowest .lowest .ensures) (le-leb _ _ (c .before .if2 .taken))) in
     rw (commitMove, sym (at-if1 .before .refused .ensures) ∙ at-if1 .if1 .left, f, c .refused2 .ensures)
@@ -110,7 +111,7 @@ loop-again c =
 returns-3 : tie.Need-returns-3 Inv-loop μ-loop
 unfolding commitMove
 returns-3 c =
-    let at-loop = c .before .before .before .before in
+    let at-loop = c .before .before .before .before .before in
     let at-if1 = at-loop .before .before .before .before .before .before in
     let args = at-if1 .before .before .args in
     let none : at-loop .loop .left ≡ 0 = omega arith in

@@ -6,13 +6,14 @@ use mathlib.Core.Bool.{false}
 use mathlib.Core.Path.{_≡_, sym, _∙_}
 use Rattle.words.specs.Folds.{anyTo}
 use Rattle.words.proofs.Folds.{any-none, any-more, any-true}
+use Rattle.queues.specs.Queues.{capacity}
 use Rattle.store.specs.Stores.{laneAt}
 use Rattle.machine.specs.Corruption.{badLane}
 use Rattle.corruption.proofs.bad_lanes.Statement.{statement}
 use Rattle.corruption.proofs.bad_lanes.Tie as tie
 
 abbrev Inv-loop : tie.InvT-loop
-Inv-loop s n c m k₀ k = (k ≤ n) × (anyTo (λ i. badLane c m (laneAt s i)) k ≡ false)
+Inv-loop s n c m k₀ k = (k ≤ n) × (anyTo (λ i. badLane capacity c m (laneAt s i)) k ≡ false)
 
 abbrev μ-loop : tie.MeasureT-loop
 μ-loop s n c m k₀ k = n - k

@@ -51,14 +51,14 @@ element-copy-out-b c =
 
 return-move-requires : tie.Need-return-move-requires
 return-move-requires c κs =
-    let at-if2 = c .before .before .before .before in
+    let at-if2 = c .before .before .before .before .before in
     let at-if1 = at-if2 .before .before .before .before in
     let start = at-if1 .before .before in
     (lane-bound _ _ (start .pre) (at-if1 .if1 .left), service-bound _ _ (start .pre) (at-if1 .if1 .left))
 
 commit-move-requires : tie.Need-commit-move-requires
 commit-move-requires c κs =
-    let at-if2 = c .before .before .before .before .before in
+    let at-if2 = c .before .before .before .before .before .before in
     let at-if1 = at-if2 .before .before .before .before in
     let start = at-if1 .before .before in
     (lane-bound _ _ (start .pre) (at-if1 .if1 .left), head-bound _ _ (start .pre) (at-if1 .if1 .left) (at-if2 .if2 .left))
@@ -67,7 +67,7 @@ returns-3 : tie.Need-returns-3
 unfolding returnOf
 returns-3 c =
     let at-return-move = c .before in
-    let at-if2 = at-return-move .before .before .before .before .before in
+    let at-if2 = at-return-move .before .before .before .before .before .before in
     let at-if1 = at-if2 .before .before .before .before in
     let start = at-if1 .before .before in
     rw (

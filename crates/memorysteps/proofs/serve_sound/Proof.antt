@@ -51,7 +51,7 @@ element-copy-out-b : tie.Need-element-copy-out-b
 element-copy-out-b c =
     let at-o = c .before .before .before in
     let at-check-ready = at-o .before .before in
-    let at-if1 = at-check-ready .before .before .before in
+    let at-if1 = at-check-ready .before .before .before .before in
     let start = at-if1 .before .before in
     let ready = ready-bound _ _ (start .pre) (at-if1 .if1 .left) _ (sym (at-check-ready .check-ready .ensures) ∙ at-o .o .given .1) in
     omega (arith, ready, ap (λ (x : BlockNo). x .0) (c .before .block .ensures))
@@ -59,7 +59,7 @@ element-copy-out-b c =
 serve-move-requires : tie.Need-serve-move-requires
 serve-move-requires c κs =
     let at-o = c .before .before .before .before in
-    let at-if1 = at-o .before .before .before .before .before in
+    let at-if1 = at-o .before .before .before .before .before .before in
     let start = at-if1 .before .before in
     lane-bound _ _ (start .pre) (at-if1 .if1 .left)
 
@@ -68,7 +68,7 @@ commit-move-requires c κs =
     let at-block = c .before .before .before in
     let at-o = at-block .before .before in
     let at-check-ready = at-o .before .before in
-    let at-if1 = at-check-ready .before .before .before in
+    let at-if1 = at-check-ready .before .before .before .before in
     let start = at-if1 .before .before in
     let ready = ready-bound _ _ (start .pre) (at-if1 .if1 .left) _ (sym (at-check-ready .check-ready .ensures) ∙ at-o .o .given .1) in
     (lane-bound _ _ (start .pre) (at-if1 .if1 .left), omega (arith, ready, ap (λ (x : BlockNo). x .0) (at-block .block .ensures)))
@@ -77,7 +77,7 @@ returns-2 : tie.Need-returns-2
 unfolding serveOf
 returns-2 c =
     let at-check-ready = c .before .before .before .before in
-    let at-if1 = at-check-ready .before .before .before in
+    let at-if1 = at-check-ready .before .before .before .before in
     let start = at-if1 .before .before in
     rw (
       serveOf,
@@ -94,7 +94,7 @@ returns-3 c =
     let at-block = c .before .before .before .before in
     let at-o = at-block .before .before in
     let at-check-ready = at-o .before .before in
-    let at-if1 = at-check-ready .before .before .before in
+    let at-if1 = at-check-ready .before .before .before .before in
     let start = at-if1 .before .before in
     rw (
       serveOf,

@@ -11,16 +11,19 @@ enum-told c = search needs
 enum-known-w : tie.Need-enum-known-w
 enum-known-w c = search needs
 
-busy-requires : tie.Need-busy-requires
-busy-requires c κs = search needs
+block-requires : tie.Need-block-requires
+block-requires c κs = search needs
+
+engaged-requires : tie.Need-engaged-requires
+engaged-requires c κs = search needs
 
 returns : tie.Need-returns
 unfolding readyOf
-returns c = rw (readyOf, c .before .before .before .w .given .1, ← c .before .busy .ensures, c .if1 .taken)
+returns c = rw (readyOf, c .before .before .before .before .w .given .1, ← c .before .before .block .ensures, ← c .before .engaged .ensures, c .if1 .taken)
 
 returns-2 : tie.Need-returns-2
 unfolding readyOf
-returns-2 c = rw (readyOf, c .before .before .before .before .before .w .given .1, ← c .before .before .before .busy .ensures, c .before .before .if1 .left, lt-ltb _ _ (c .if2 .taken))
+returns-2 c = rw (readyOf, c .before .before .before .before .before .before .w .given .1, ← c .before .before .before .before .block .ensures, ← c .before .before .before .engaged .ensures, c .before .before .if1 .left, lt-ltb _ _ (c .if2 .taken))
 
 enum-told-2 : tie.Need-enum-told-2
 enum-told-2 c = search needs
@@ -31,7 +34,7 @@ returns-3 c = rw (readyOf, c .enum-told .given .1)
 
 returns-4 : tie.Need-returns-4
 unfolding readyOf
-returns-4 c = rw (readyOf, c .before .before .before .before .before .w .given .1, ← c .before .before .before .busy .ensures, c .before .before .if1 .left, le-ltb _ _ (c .if2 .left))
+returns-4 c = rw (readyOf, c .before .before .before .before .before .before .w .given .1, ← c .before .before .before .before .block .ensures, ← c .before .before .before .engaged .ensures, c .before .before .if1 .left, le-ltb _ _ (c .if2 .left))
 
 returns-5 : tie.Need-returns-5
 unfolding readyOf
@@ -43,7 +46,8 @@ check-ready-spec =
     (tie.spec
     enum-told
     enum-known-w
-    busy-requires
+    block-requires
+    engaged-requires
     returns
     returns-2
     enum-told-2

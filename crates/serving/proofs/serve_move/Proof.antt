@@ -43,10 +43,14 @@ block-requires c κs = search needs
 bare-down-requires : tie.Need-bare-down-requires
 bare-down-requires c κs = search needs
 
+open-requires : tie.Need-open-requires
+open-requires c κs = search needs
+
 returns-2 : tie.Need-returns-2
 unfolding serveMove
 returns-2 c =
-    let at-order-kind = c .before .before .before in
+    let at-bare-down = c .before in
+    let at-order-kind = at-bare-down .before .before .before in
     let at-if1 = at-order-kind .before in
     let at-with-waiting = at-if1 .before in
     let at-service-for = at-with-waiting .before in
@@ -60,8 +64,9 @@ returns-2 c =
       ne-eqb _ _ (at-if1 .if1 .left),
       at-count .before .orders-byte .ensures,
       orders-lanes (args .b) (args .k) (args .o .command) flags,
-      c .bare-down .ensures,
-      c .before .block .ensures,
+      c .«open» .ensures,
+      at-bare-down .bare-down .ensures,
+      at-bare-down .before .block .ensures,
       at-order-kind .order-kind .ensures,
       at-with-waiting .with-waiting .ensures,
       at-service-for .service-for .ensures,
@@ -80,4 +85,5 @@ serve-move-spec =
     order-kind-requires
     block-requires
     bare-down-requires
+    open-requires
     returns-2)

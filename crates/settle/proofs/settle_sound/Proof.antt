@@ -23,7 +23,9 @@ none-requires : tie.Need-none-requires Inv-loop μ-loop
 none-requires c κs = search needs
 
 loop-holds : tie.Need-loop-holds Inv-loop μ-loop
-loop-holds c = rw (c .none .ensures) (going-start _ (c .before .pre) (arrays-sized _ _ _ (c .before .good .0 .1 .1 .1 .1 .1 .0) (c .before .good .0 .1 .1 .1 .1 .1 .1 .0)))
+loop-holds c =
+    let known = c .before .good .0 .1 .1 .1 in
+    rw (c .none .ensures) (going-start _ (c .before .pre) (arrays-sized _ _ _ _ (known .0 .1 .1 .0) (known .1 .1 .0) (known .1 .1 .1 .0)))
 
 quiet-requires : tie.Need-quiet-requires Inv-loop μ-loop
 quiet-requires c κs = search needs
