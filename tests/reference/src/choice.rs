@@ -1,122 +1,108 @@
-//! Chooses few held cases that meet much: each case chosen meets something
-//! that none before it has met. A case for W3's rule comes last; cases for W5 stand
-//! in the places of such as the others make needless.
+//! Chooses few held cases that meet much, in two sets: without any one of them
+//! something would be met too seldom.
 
-use crate::beside::{self, Beside};
+use crate::beside;
 use crate::conditions;
 use crate::held::{self, HeldAnswer, HeldCall};
-use crate::machine::{self, LANE_BUSY};
+use crate::machine;
 use crate::orders;
 use crate::parts::*;
 use crate::pictures;
 use crate::places;
+use crate::service_faults;
+use crate::services;
 use crate::settle;
 use crate::situations;
-use crate::stores::{self, Case, BESIDE_A_WAIT, FOR_THE_ORDER};
+use crate::stores::{self, Case};
 use crate::summary::kind_name;
 use std::collections::{BTreeMap, BTreeSet};
 
-/// The answers to the cases chosen have at most so many bytes.
+/// The answers to the cases of a set have at most so many bytes.
 pub const MOST_BYTES: usize = 1 << 20;
 
-/// The cases chosen, of the first so many of a seed.
-pub fn choose(seed: u64, from: usize) -> Vec<Case> {
-    let mut chosen = choose_before_w5(seed, from);
-    let mut texts: Vec<BTreeSet<String>> = chosen.iter().map(all_texts).collect();
-    let mut counts = BTreeMap::new();
-    texts.iter().for_each(|texts| count(&mut counts, texts));
+/// So many bytes are left free in the second set.
+pub const FREE_BYTES: usize = 60_000;
+
+/// The cases chosen, of the first so many of a seed, in two sets: each meets something
+/// that would be met too seldom without it.
+pub fn choose(seed: u64, from: usize) -> [Vec<Case>; 2] {
+    let (mut chosen, mut counts) = (Vec::new(), BTreeMap::new());
     for case in (0..from).map(|index| stores::make(seed, index)) {
-        let new = all_texts(&case);
-        if new.iter().all(|text| counts.contains_key(text)) {
-            continue;
-        }
-        let fits = |old: &Case| held::given_length(case.call) <= held::given_length(old.call);
-        let needless = |i: &usize| texts[*i].iter().all(|text| counts[text] > 1);
-        let at = (0..chosen.len()).rev().filter(needless).find(|&i| fits(&chosen[i]));
-        if let Some(at) = at {
-            texts[at].iter().for_each(|text| *counts.entry(text.clone()).or_default() -= 1);
-            count(&mut counts, &new);
-            (chosen[at], texts[at]) = (case, new);
+        let texts = all_texts(&case);
+        let lacks = |text: &String| counts.get(text).map_or(true, |&count| count < wanted(text));
+        if texts.iter().any(lacks) {
+            count(&mut counts, &texts);
+            chosen.push((case, texts));
         }
     }
-    chosen
+    in_two_sets(without_needless(chosen, counts))
 }
 
-fn count(counts: &mut BTreeMap<String, usize>, texts: &BTreeSet<String>) {
+/// How many cases are to meet it: several, where it is W6's.
+fn wanted(text: &str) -> usize {
+    let of_w6 = text.starts_with(FAULT) || services::names().contains(&text);
+    if of_w6 {
+        3
+    } else {
+        1
+    }
+}
+
+/// Before the name of a wrong machine that a case tells.
+const FAULT: &str = "not: ";
+
+type Counts = BTreeMap<String, usize>;
+
+fn count(counts: &mut Counts, texts: &BTreeSet<String>) {
     texts.iter().for_each(|text| *counts.entry(text.clone()).or_default() += 1);
 }
 
+/// Leaves out the cases whose texts others meet too, one after another; pictures
+/// first, whose answers are longest.
+fn without_needless(chosen: Vec<(Case, BTreeSet<String>)>, mut counts: Counts) -> Vec<Case> {
+    let mut kept: Vec<Option<(Case, BTreeSet<String>)>> = chosen.into_iter().map(Some).collect();
+    for pictures in [true, false] {
+        for place in &mut kept {
+            let needless = |(case, texts): &(Case, BTreeSet<String>)| {
+                let of_kind = matches!(case.call, HeldCall::Picture(_)) == pictures;
+                of_kind && texts.iter().all(|text| counts[text] > wanted(text))
+            };
+            if place.as_ref().map_or(false, needless) {
+                let (_, texts) = place.take().expect("a case");
+                texts.iter().for_each(|text| *counts.entry(text.clone()).or_default() -= 1);
+            }
+        }
+    }
+    kept.into_iter().flatten().map(|(case, _)| case).collect()
+}
+
+/// The first set is as long as it may be.
+fn in_two_sets(mut cases: Vec<Case>) -> [Vec<Case>; 2] {
+    let fits = |count: &usize| answers_length(&cases[..*count]) <= MOST_BYTES;
+    let first = (0..=cases.len()).take_while(fits).last().unwrap_or(0);
+    let second = cases.split_off(first);
+    [cases, second]
+}
+
 /// All that a case meets or tells.
-fn all_texts(case: &Case) -> BTreeSet<String> {
+pub fn all_texts(case: &Case) -> BTreeSet<String> {
     let (s, call) = (&case.store, case.call);
     let answer = held::run(s, call).answer;
     let mut names = orders::told(s, call, &answer);
     names.extend(pictures::met(s, &answer));
     names.extend(beside::met(s, call, &answer));
     names.extend(beside::told(s, call));
-    let names = names.into_iter().map(str::to_string);
+    names.extend(services::met(s, call, &answer));
+    let faults = service_faults::told(s, call).into_iter().map(|name| format!("{FAULT}{name}"));
+    let alone = orders::met(s, call, &answer).into_iter().map(|name| format!("alone: {name}"));
+    let names = names.into_iter().map(str::to_string).chain(faults).chain(alone);
     let texts = names.chain(meets(case, &answer, &conditions::all(s, call)));
     texts.chain(finds(case)).collect()
 }
 
-/// The same before W5. The last of them are for the names of `orders` that no case
-/// before tells, so far as there is room.
-fn choose_before_w5(seed: u64, from: usize) -> Vec<Case> {
-    let mut chosen = choose_any(seed, from);
-    for name in orders::NAMES {
-        if chosen.iter().any(|case| of_case(orders::told, case).contains(&name)) {
-            continue;
-        }
-        let room = MOST_BYTES.saturating_sub(answers_length(&chosen));
-        let meets = |case: &Case| {
-            held::given_length(case.call) <= room && of_case(orders::met, case).contains(&name)
-        };
-        chosen.extend((0..from).map(|index| stores::make(seed, index)).find(meets));
-    }
-    chosen
-}
-
-/// The bytes of the answers to cases.
+/// The bytes of the answers to cases, which are more than those of the cases.
 pub fn answers_length(cases: &[Case]) -> usize {
     cases.iter().map(|case| held::given_length(case.call)).sum()
-}
-
-type Names = fn(&Store, HeldCall, &HeldAnswer) -> Vec<&'static str>;
-
-fn of_case(names: Names, case: &Case) -> Vec<&'static str> {
-    names(&case.store, case.call, &held::run(&case.store, case.call).answer)
-}
-
-/// By what each case meets before W5, and settles by what they find too; all but
-/// those made for the use order and for W5.
-fn choose_any(seed: u64, from: usize) -> Vec<Case> {
-    let mut seen = BTreeSet::new();
-    let mut is_new = |case: &Case| {
-        let (answer, holds) = before_w5(case);
-        let before = seen.len();
-        seen.extend(meets(case, &answer, &holds));
-        seen.extend(finds(case));
-        seen.len() > before
-    };
-    let cases = (0..from).map(|index| stores::make(seed, index));
-    let made = [FOR_THE_ORDER, BESIDE_A_WAIT];
-    cases.filter(|case| !made.contains(&case.source) && is_new(case)).collect()
-}
-
-/// The answer before W5, and the conditions that held: 8 for every begin on a lane
-/// that waits.
-fn before_w5(case: &Case) -> (HeldAnswer, Vec<u8>) {
-    let (s, call) = (&case.store, case.call);
-    let mut holds = conditions::all(s, call);
-    if let HeldCall::Machine(Call::Begin { lane, .. }) = call {
-        let lane = s.lanes.get(usize::from(lane));
-        holds.extend(lane.and_then(|lane| lane.waiting).map(|_| LANE_BUSY));
-    }
-    let answer = match Beside::of(s, call) {
-        Some(it) if it.load_hits() => HeldAnswer::Refused(LANE_BUSY),
-        _ => held::run(s, call).answer,
-    };
-    (answer, holds)
 }
 
 /// Which parts keep the store from being quiet, for a settle not refused.
@@ -129,7 +115,7 @@ fn finds(case: &Case) -> Vec<String> {
     let waits = some(|lane| lane.waiting.is_some());
     let returns = some(|lane| !lane.returns.is_empty());
     let downs = some(|lane| !lane.down.is_empty());
-    vec![format!("{:?}", [s.service.is_some(), waits, returns, downs])]
+    vec![format!("{:?}", [s.open_services() > 0, waits, returns, downs])]
 }
 
 /// What a case meets with an answer and the conditions that hold, each thing a text.
@@ -192,8 +178,9 @@ fn taken(s: &Store, call: HeldCall) -> String {
             format!("{:?} {}", waiting.command, block.present[usize::from(k)])
         }
         HeldCall::Machine(Call::Return(k)) => {
-            let awaited = s.service.map(|service| service.awaited.min(2));
-            format!("{:?} {awaited:?}", s.lanes[usize::from(k)].returns.places[0].kind)
+            let head = s.lanes[usize::from(k)].returns.places[0];
+            let awaited = s.service_of(head.block).map(|service| service.awaited.min(2));
+            format!("{:?} {awaited:?}", head.kind)
         }
         HeldCall::Machine(Call::Deliver(k)) => {
             let lane = &s.lanes[usize::from(k)];

@@ -82,7 +82,7 @@ fn first_step(s: &Store) -> Option<Call> {
 /// With queues empty and nothing unserved: a service, a served operation.
 fn stuck_reasons(s: &Store) -> [bool; 2] {
     let served = s.lanes.iter().take(usize::from(s.n)).any(|lane| lane.waiting.is_some());
-    [s.service.is_some(), served]
+    [s.slots.iter().any(Option::is_some), served]
 }
 
 /// The places that are left for operations to begin; below 0 where an
@@ -124,7 +124,7 @@ fn call_condition(s: &Store, lane: &Lane, call: Call, number: u8) -> bool {
             miss && all_lines_valid(s, lane) && lane.returns.is_full()
         }
         (Call::Serve(_), 9) => !matches!(lane.waiting, Some(Waiting { served: false, .. })),
-        (Call::Serve(_), 10) => s.service.is_some(),
+        (Call::Serve(_), 10) => serve_meets_busy(s, lane),
         (Call::Serve(_), 11) => lane.returns.length > 0,
         (Call::Serve(k), 12) => serve_meets_full(s, usize::from(k)),
         (Call::Return(_), 9) => lane.returns.length == 0,
@@ -137,6 +137,13 @@ fn call_condition(s: &Store, lane: &Lane, call: Call, number: u8) -> bool {
         }
         _ => false,
     }
+}
+
+/// The block of the operation has a service, or as many as L are open.
+fn serve_meets_busy(s: &Store, lane: &Lane) -> bool {
+    let open: Vec<Service> = s.slots.iter().filter_map(|slot| *slot).collect();
+    let same = |w: Waiting| open.iter().any(|service| service.block == w.word / 4);
+    open.len() >= usize::from(s.limit) || lane.waiting.map_or(false, same)
 }
 
 /// An ordered lane's down queue is full; with nobody ordered, k's own is.
@@ -204,9 +211,11 @@ fn message_reasons(s: &Store, call: Call) -> Vec<&'static str> {
     let (mut holds, answer, grant) = ([false; 9], head_answer(lane), head_grant(lane));
     match (call, answer, grant) {
         (Call::Return(_), Some(answer), _) => {
-            holds[0] = s.service.is_none();
-            holds[1] = s.service.map_or(false, |v| v.block != answer.block);
-            holds[2] = s.service.map_or(false, |v| v.awaited == 0);
+            let own = own_service(s, answer.block);
+            let none = s.slots.iter().all(Option::is_none);
+            holds[0] = none;
+            holds[1] = !none && own.is_none();
+            holds[2] = own.map_or(false, |v| v.awaited == 0);
         }
         (Call::Deliver(_), _, Some(grant)) => {
             let (bare, held) =
@@ -227,38 +236,53 @@ fn head_grant(lane: &Lane) -> Option<Message<DownKind>> {
     lane.down.head().filter(|m| !m.kind.is_order())
 }
 
+/// The service that an answer for the block belongs to.
+fn own_service(s: &Store, block: u8) -> Option<Service> {
+    let mut open = s.slots.iter().filter_map(|slot| *slot);
+    open.find(|service| service.block == block)
+}
+
 /// The head would be the last answer, and the service's lane has no room.
 fn close_meets_full(s: &Store, lane: &Lane) -> bool {
-    let service = match (head_answer(lane), s.service) {
-        (Some(_), Some(service)) => service,
-        _ => return false,
+    let answer = head_answer(lane);
+    let service = match answer.and_then(|answer| own_service(s, answer.block)) {
+        Some(service) => service,
+        None => return false,
     };
     let target = s.lanes.get(usize::from(service.lane));
     service.awaited <= 1 && target.map_or(false, |l| l.down.is_full())
 }
 
 /// All the reasons that 14 can have.
-pub const REASONS: [&str; 22] = [
+pub const REASONS: [&str; 30] = [
     "n below 2",
     "n above 8",
     "c below 1",
     "c above 8",
     "m below 1",
     "m above 64",
+    "L below 1",
+    "L above 8",
     "block of a valid line",
     "block of return message 0",
     "block of return message 1",
+    "block of return message 2 to 6",
+    "block of return message 7",
     "block of down message 0",
     "block of down message 1",
+    "block of down message 2 to 6",
+    "block of down message 7",
     "word of an unserved operation",
     "word of a served operation",
     "return queue length",
     "down queue length",
     "use order repeats",
     "use order exceeds",
-    "lane of the service",
-    "block of the service",
+    "lane of a service",
+    "block of a service",
     "awaited",
+    "services exceed L",
+    "two services of one block",
     "PRESENT for lane n or above",
     SUM_REASON,
 ];
@@ -268,18 +292,16 @@ pub const SUM_REASON: &str = "completions plus operations waiting";
 
 /// The reasons for which the store is corrupt; none if it is not.
 pub fn corrupt_reasons(s: &Store) -> Vec<&'static str> {
-    let outside = [s.n < 2, s.n > 8, s.c < 1, s.c > 8, s.m < 1, s.m > 64];
+    let (n, c, m, limit) = (s.n, s.c, s.m, s.limit);
+    let outside = [n < 2, n > 8, c < 1, c > 8, m < 1, m > 64, limit < 1, limit > 8];
     if outside.contains(&true) {
         return reasons_from(0, &outside);
     }
     let lanes = s.lanes.iter().take(usize::from(s.n));
     let mut found: Vec<&str> =
-        lanes.flat_map(|lane| reasons_from(6, &lane_reasons(s, lane))).collect();
-    if let Some(service) = s.service {
-        let holds = [service.lane >= s.n, service.block >= s.m, service.awaited >= s.n];
-        found.extend(reasons_from(17, &holds));
-    }
-    found.extend(reasons_from(20, &[present_beyond(s), places_left(s) < 0]));
+        lanes.flat_map(|lane| reasons_from(8, &lane_reasons(s, lane))).collect();
+    found.extend(reasons_from(23, &service_reasons(s)));
+    found.extend(reasons_from(28, &[present_beyond(s), places_left(s) < 0]));
     found.sort_unstable();
     found.dedup();
     found
@@ -296,7 +318,26 @@ fn present_beyond(s: &Store) -> bool {
     blocks.any(|block| block.present[usize::from(s.n)..].contains(&true))
 }
 
-fn lane_reasons(s: &Store, lane: &Lane) -> [bool; 11] {
+/// Every slot counts, whatever L is.
+fn service_reasons(s: &Store) -> [bool; 5] {
+    let open: Vec<Service> = s.slots.iter().filter_map(|slot| *slot).collect();
+    let same = |a: usize, b: usize| open[a].block == open[b].block;
+    [
+        open.iter().any(|service| service.lane >= s.n),
+        open.iter().any(|service| service.block >= s.m),
+        open.iter().any(|service| service.awaited >= s.n),
+        open.len() > usize::from(s.limit),
+        (0..open.len()).any(|a| (0..a).any(|b| same(a, b))),
+    ]
+}
+
+/// Whether a message in one of these places is queued and has a block outside.
+fn block_outside<K: Copy>(s: &Store, queue: &Queue<K>, places: std::ops::Range<usize>) -> bool {
+    let queued = |place: &usize| *place < usize::from(queue.length);
+    places.into_iter().filter(queued).any(|place| queue.places[place].block >= s.m)
+}
+
+fn lane_reasons(s: &Store, lane: &Lane) -> [bool; 15] {
     let word_outside = |served| {
         let waiting = lane.waiting.filter(|w| w.served == served);
         waiting.map_or(false, |w| usize::from(w.word) / 4 >= usize::from(s.m))
@@ -306,14 +347,18 @@ fn lane_reasons(s: &Store, lane: &Lane) -> [bool; 11] {
     let repeats = (0..named.len()).any(|i| named[..i].contains(&named[i]));
     [
         own_lines(s, lane).any(|line| line.valid && line.block >= s.m),
-        r.length >= 1 && r.places[0].block >= s.m,
-        r.length >= 2 && r.places[1].block >= s.m,
-        d.length >= 1 && d.places[0].block >= s.m,
-        d.length >= 2 && d.places[1].block >= s.m,
+        block_outside(s, r, 0..1),
+        block_outside(s, r, 1..2),
+        block_outside(s, r, 2..7),
+        block_outside(s, r, 7..8),
+        block_outside(s, d, 0..1),
+        block_outside(s, d, 1..2),
+        block_outside(s, d, 2..7),
+        block_outside(s, d, 7..8),
         word_outside(false),
         word_outside(true),
-        r.length > 2,
-        d.length > 2,
+        r.length > 8,
+        d.length > 8,
         repeats,
         named.iter().any(|&name| name >= s.c),
     ]

@@ -5,7 +5,8 @@ use crate::events::{Events, EVENTS};
 use crate::fills::{Fills, FILLS};
 use crate::held::{self, HeldAnswer, HeldCall, SETTLE_KIND};
 use crate::list_loads::{Loads, LOADS};
-use crate::lists::{self, Given, Record, OPEN_KIND};
+use crate::list_services::{Services, SERVICES};
+use crate::lists::{self, Given, Record, OPEN_KIND, OPEN_LIMIT_KIND};
 use crate::parts::*;
 use crate::settle::{self, Settled};
 use crate::summary::{fmt_counts, kind_name};
@@ -31,8 +32,9 @@ const SETTLES: [&str; 13] = [
 
 /// The answers that each kind of call must have met; on lists that begin
 /// with an opening nothing else is possible, short of 2^32 begins.
-const ANSWERS: [(u8, &[&str]); 9] = [
+const ANSWERS: [(u8, &[&str]); 10] = [
     (OPEN_KIND, &["opened", "refused 5"]),
+    (OPEN_LIMIT_KIND, &["opened", "refused 5", "refused 18"]),
     (1, &["done", "wait", "refused 6", "refused 7", "refused 8", "refused 14"]),
     (2, &["done", "wait", "refused 6", "refused 7", "refused 8", "refused 14"]),
     (3, &["done", "wait", "refused 6", "refused 7", "refused 8", "refused 14"]),
@@ -70,23 +72,33 @@ pub struct Cover {
     /// The same for the machine before W5, at all.
     pub other_before_w5: usize,
     other_before_w5_so_far: bool,
+    pub services: Services,
+    /// The same for the machine before W6, of lists with L above 1.
+    pub other_before_w6: usize,
+    other_before_w6_so_far: bool,
+    /// Of lists with L = 1: there must be none.
+    pub other_at_one: usize,
     shapes: BTreeSet<(u8, u8, u8)>,
 }
 
 /// The counts over the records of whole lists.
 pub fn cover(records: &[Record]) -> Cover {
     let mut cover = Cover::default();
-    let [mut store, mut former, mut before_w5] = [(); 3].map(|_| lists::blank());
+    let [mut store, mut former, mut before_w5, mut before_w6] = [(); 4].map(|_| lists::blank());
     for &record in records {
         let before = store.clone();
         let bounds = [&store, &former, &before_w5].map(held::bound_bytes);
         let given = lists::run(&mut store, record);
         let formerly = lists::run_under(&mut former, record, Rule::FillsNewest);
         let without_w5 = beside::wrong_run(&mut before_w5, record, beside::BEFORE_W5);
+        let bound_w6 = held::bound_bytes_under(&before_w6, Rule::BeforeW6);
+        let without_w6 = lists::run_under(&mut before_w6, record, Rule::BeforeW6);
         cover.see(record, &given, &before, &store);
         let bytes = lists::answer_bytes(record, &given, bounds[0]);
         cover.compare(record, bytes == lists::answer_bytes(record, &formerly, bounds[1]));
         cover.compare_w5(bytes == lists::answer_bytes(record, &without_w5, bounds[2]));
+        let same = bytes == lists::answer_bytes(record, &without_w6, bound_w6);
+        cover.compare_w6(same, store.limit);
     }
     cover
 }
@@ -95,13 +107,16 @@ impl Cover {
     fn see(&mut self, record: Record, given: &Given, before: &Store, after: &Store) {
         match record {
             Record::Show => self.shown += 1,
-            Record::Open { n, c, m } => {
+            Record::Open { n, c, m } | Record::OpenLimit { n, c, m, .. } => {
                 self.this_list = 0;
                 self.fills.open();
                 self.loads.clear();
                 (self.other_so_far, self.other_before_w5_so_far) = ([false; 2], false);
-                self.answer(OPEN_KIND, given);
+                self.other_before_w6_so_far = false;
+                let kind = record.bytes()[0];
+                self.answer(kind, given);
                 if *given == Given::Opened {
+                    self.services.open(kind, after);
                     self.lists += 1;
                     self.shapes.insert((n, c, m));
                 }
@@ -135,6 +150,17 @@ impl Cover {
         }
     }
 
+    /// Whether the machine before W6 does, in a list with this L.
+    fn compare_w6(&mut self, same: bool, limit: u8) {
+        if !same && !self.other_before_w6_so_far {
+            self.other_before_w6_so_far = true;
+            match limit {
+                1 => self.other_at_one += 1,
+                _ => self.other_before_w6 += 1,
+            }
+        }
+    }
+
     fn answer(&mut self, kind: u8, given: &Given) {
         let name = match given {
             Given::Opened => "opened".to_string(),
@@ -151,6 +177,7 @@ impl Cover {
     fn see_call(&mut self, call: HeldCall, given: &Given, before: &Store, after: &Store) {
         if let (HeldCall::Machine(call), Given::Answer(answer)) = (call, given) {
             self.loads.see(call, answer, before);
+            self.services.see(call, answer, before, after);
         }
         match (call, given) {
             (HeldCall::Machine(call), Given::Answer(HeldAnswer::Machine(_))) => {
@@ -159,6 +186,7 @@ impl Cover {
             }
             (HeldCall::Settle, Given::Answer(HeldAnswer::Settled(settled))) => {
                 self.see_settle(before, settled);
+                self.services.see_settle(before);
                 self.loads.clear();
             }
             _ => {}
@@ -187,6 +215,7 @@ impl Cover {
             let after = crate::machine::call(&now, step).expect("settle was not refused").0;
             self.inside.see(step, &now, &after);
             self.fills.see(step, &now, &after);
+            self.services.see_step(&after);
             now = after;
         }
     }
@@ -218,6 +247,10 @@ impl Cover {
         if self.other_before_w5 == 0 {
             never.push("the machine before W5 gives other bytes".to_string());
         }
+        never.extend(self.services.never_met());
+        if self.other_before_w6 == 0 {
+            never.push("the machine before W6 gives other bytes".to_string());
+        }
         if self.highest_place <= u32::from(u8::MAX) {
             never.push(format!("places: only up to {}", self.highest_place));
         }
@@ -233,7 +266,9 @@ impl Cover {
             ANSWERS.iter().any(|(k, names)| *k == kind && names.contains(&name))
         };
         let odd = self.answers.keys().filter(|(kind, name)| !known(*kind, name));
-        odd.map(|(kind, name)| format!("{} {name}", kind_name(*kind))).collect()
+        let odd = odd.map(|(kind, name)| format!("{} {name}", kind_name(*kind)));
+        let at_one = (self.other_at_one > 0).then(|| "L = 1 shows another than before".to_string());
+        odd.chain(at_one).collect()
     }
 }
 
@@ -250,7 +285,7 @@ fn found_by_settle(s: &Store) -> [bool; 9] {
     };
     [
         s.quiet(),
-        s.service.is_some(),
+        s.open_services() > 0,
         down(|kind| !kind.is_order()),
         down(DownKind::is_order),
         returns(ReturnKind::is_answer),
@@ -303,7 +338,18 @@ impl Display for Cover {
             writeln!(f, "{name}: {}", self.loads.counts.get(name).unwrap_or(&0))?;
         }
         let lists = self.other_before_w5;
-        writeln!(f, "lists to which the machine before W5 gives other bytes: {lists}")
+        writeln!(f, "lists to which the machine before W5 gives other bytes: {lists}")?;
+        for name in SERVICES {
+            writeln!(f, "{name}: {}", self.services.counts.get(name).unwrap_or(&0))?;
+        }
+        let (returns, down) = self.services.longest;
+        writeln!(f, "longest return queue {returns}, longest down queue {down}")?;
+        writeln!(f, "n with L: {} of 56", self.services.limits.len())?;
+        let lists = self.other_before_w6;
+        writeln!(
+            f,
+            "lists with L above 1 to which the machine before W6 gives other bytes: {lists}"
+        )
     }
 }
 

@@ -27,13 +27,15 @@ macro_rules! fair {
     };
 }
 
-pub const CORRUPTING: [Damage; 22] = [
+pub const CORRUPTING: [Damage; 30] = [
     bad!("n below 2", |s, r| set(&mut s.n, r.pick(&[0, 1]))),
     bad!("n above 8", |s, r| set(&mut s.n, r.pick(&[9, 10, 16, 128, 255]))),
     bad!("c below 1", |s, _| set(&mut s.c, 0)),
     bad!("c above 8", |s, r| set(&mut s.c, r.pick(&[9, 10, 16, 128, 255]))),
     bad!("m below 1", |s, _| set(&mut s.m, 0)),
     bad!("m above 64", |s, r| set(&mut s.m, r.pick(&[65, 66, 128, 255]))),
+    bad!("L below 1", |s, _| set(&mut s.limit, 0)),
+    bad!("L above 8", |s, r| set(&mut s.limit, r.pick(&[9, 9, 10, 16, 128, 255]))),
     bad!("block of a valid line", |s, r| {
         let block = from(s.m, r);
         let line = any_line(s, r);
@@ -42,8 +44,18 @@ pub const CORRUPTING: [Damage; 22] = [
     }),
     bad!("block of return message 0", |s, r| message_block(s, r, true, 0)),
     bad!("block of return message 1", |s, r| message_block(s, r, true, 1)),
+    bad!("block of return message 2 to 6", |s, r| {
+        let place = r.between(2, 6);
+        message_block(s, r, true, place)
+    }),
+    bad!("block of return message 7", |s, r| message_block(s, r, true, 7)),
     bad!("block of down message 0", |s, r| message_block(s, r, false, 0)),
     bad!("block of down message 1", |s, r| message_block(s, r, false, 1)),
+    bad!("block of down message 2 to 6", |s, r| {
+        let place = r.between(2, 6);
+        message_block(s, r, false, place)
+    }),
+    bad!("block of down message 7", |s, r| message_block(s, r, false, 7)),
     bad!("word of an unserved operation", |s, r| waiting_word(s, r, false)),
     bad!("word of a served operation", |s, r| waiting_word(s, r, true)),
     bad!("return queue length", |s, r| set(&mut any_lane(s, r).returns.length, over(r))),
@@ -53,11 +65,11 @@ pub const CORRUPTING: [Damage; 22] = [
         let (place, line) = (usize::from(r.byte_below(s.c)), from(s.c, r));
         set(&mut any_lane(s, r).order[place], line)
     }),
-    bad!("lane of the service", |s, r| {
+    bad!("lane of a service", |s, r| {
         let lane = from(s.n, r);
         set(&mut any_service(s, r).lane, lane)
     }),
-    bad!("block of the service", |s, r| {
+    bad!("block of a service", |s, r| {
         let block = from(s.m, r);
         set(&mut any_service(s, r).block, block)
     }),
@@ -65,6 +77,8 @@ pub const CORRUPTING: [Damage; 22] = [
         let awaited = from(s.n, r);
         set(&mut any_service(s, r).awaited, awaited)
     }),
+    bad!("services exceed L", exceed_limit),
+    bad!("two services of one block", repeat_block),
     bad!("PRESENT for lane n or above", |s, r| {
         let n = usize::from(s.n);
         if n == LANES {
@@ -82,7 +96,7 @@ pub const CORRUPTING: [Damage; 22] = [
     }),
 ];
 
-pub const FAIR: [Damage; 18] = [
+pub const FAIR: [Damage; 22] = [
     fair!("block of an invalid line", |s, r| {
         let block = from(s.m, r);
         let line = any_line(s, r);
@@ -97,7 +111,7 @@ pub const FAIR: [Damage; 18] = [
     fair!("bare grant of a READ", bare_grant_of_read),
     fair!("two valid lines of one block", two_lines),
     fair!("served operation without a service", |s, r| {
-        s.service = None;
+        s.slots = [None; SLOTS];
         any_waiting(s, r).served = true;
         true
     }),
@@ -118,12 +132,12 @@ pub const FAIR: [Damage; 18] = [
     fair!("MODIFIED turned", |s, r| turn(&mut any_block(s, r).modified)),
     fair!("return queue filled", |s, r| {
         let places = scramble::return_places(s.m, r);
-        any_lane(s, r).returns = Queue { length: 2, places };
+        any_lane(s, r).returns = Queue { length: PLACES as u8, places };
         true
     }),
     fair!("down queue filled", |s, r| {
         let places = scramble::down_places(s.m, r);
-        any_lane(s, r).down = Queue { length: 2, places };
+        any_lane(s, r).down = Queue { length: PLACES as u8, places };
         true
     }),
     fair!("use order permuted", |s, r| {
@@ -132,11 +146,35 @@ pub const FAIR: [Damage; 18] = [
         true
     }),
     fair!("service of another block", |s, r| {
-        let block = r.byte_below(s.m);
-        set(&mut any_service(s, r).block, block)
+        let fresh = scramble::block_not_in_service(s, r);
+        let block = &mut any_service(s, r).block;
+        *block = fresh.unwrap_or(*block);
+        true
     }),
-    fair!("service dropped", |s, _| {
-        s.service = None;
+    fair!("services dropped", |s, r| {
+        let left = r.pick(&[0, 0, 1, s.open_services().saturating_sub(1)]);
+        scramble::drop_services(s, left, r);
+        true
+    }),
+    fair!("services of one lane", |s, r| {
+        let lane = r.byte_below(s.n);
+        any_service(s, r);
+        s.slots.iter_mut().flatten().for_each(|service| service.lane = lane);
+        true
+    }),
+    fair!("as many services as L", |s, r| {
+        scramble::open_services(s, usize::from(s.limit), r);
+        true
+    }),
+    fair!("another L", |s, r| {
+        let limit = r.between(s.open_services().max(1), SLOTS);
+        set(&mut s.limit, limit as u8)
+    }),
+    fair!("services in other slots", |s, r| {
+        let mut slots: Vec<u8> = (0..SLOTS as u8).collect();
+        scramble::permute(&mut slots, r);
+        let before = s.slots;
+        s.slots = std::array::from_fn(|slot| before[usize::from(slots[slot])]);
         true
     }),
     fair!("waiting operation dropped", |s, r| {
@@ -170,7 +208,7 @@ fn from(limit: u8, rng: &mut Rng) -> u8 {
 }
 
 fn over(rng: &mut Rng) -> u8 {
-    rng.pick(&[3, 3, 4, 127, 255])
+    rng.pick(&[9, 9, 10, 127, 255])
 }
 
 fn any_lane<'a>(s: &'a mut Store, rng: &mut Rng) -> &'a mut Lane {
@@ -186,10 +224,42 @@ fn any_block<'a>(s: &'a mut Store, rng: &mut Rng) -> &'a mut Block {
     &mut s.blocks[usize::from(rng.byte_below(s.m))]
 }
 
-/// The open service; opens one if there is none.
-fn any_service<'a>(s: &'a mut Store, rng: &mut Rng) -> &'a mut Service {
-    let fresh = scramble::service(s.n, s.m, rng);
-    s.service.get_or_insert(fresh)
+/// An open service; opens one if there is none.
+pub fn any_service<'a>(s: &'a mut Store, rng: &mut Rng) -> &'a mut Service {
+    scramble::open_services(s, 1, rng);
+    let slot = scramble::busy_slot(s, rng).expect("an open service");
+    s.slots[slot].as_mut().expect("an open service")
+}
+
+/// Impossible with one block.
+fn exceed_limit(s: &mut Store, rng: &mut Rng) -> bool {
+    if s.m < 2 {
+        return false;
+    }
+    let most = SLOTS.min(usize::from(s.m));
+    let any = rng.between(2, most);
+    let open = rng.pick(&[any, usize::from(s.limit) + 1]).clamp(2, most);
+    scramble::open_services(s, open, rng);
+    let fewer = s.open_services() - 1;
+    let any = rng.between(1, fewer);
+    let limit = rng.pick(&[usize::from(s.limit).min(fewer), fewer, any]);
+    set(&mut s.limit, limit as u8)
+}
+
+/// Two services of one block, not more than L in all.
+fn repeat_block(s: &mut Store, rng: &mut Rng) -> bool {
+    let of = any_service(s, rng).block;
+    if let (Some(slot), true) = (scramble::free_slot(s, rng), rng.chance(60)) {
+        s.slots[slot] = Some(Service { block: of, ..scramble::service(s.n, s.m, rng) });
+    } else {
+        scramble::open_services(s, 2, rng);
+        s.slots.iter_mut().flatten().last().expect("an open service").block = of;
+        let first = s.slots.iter_mut().flatten().next();
+        first.expect("an open service").block = of;
+    }
+    let open = s.open_services();
+    s.limit = s.limit.max(open as u8);
+    open > 1
 }
 
 /// The waiting operation of some lane; makes one if there is none.

@@ -70,7 +70,7 @@ impl Events {
             Call::Begin { .. } => self.see_wait(was, is),
             Call::Serve(_) => self.see_serve(was, before, after),
             Call::Return(_) => {
-                let closed = before.service.is_some() && after.service.is_none();
+                let closed = before.open_services() > after.open_services();
                 self.count("services closed by a return", closed);
             }
             Call::Deliver(_) => self.see_deliver(was, is),
@@ -90,16 +90,17 @@ impl Events {
     }
 
     fn see_serve(&mut self, was: &Lane, before: &Store, after: &Store) {
-        let orders = after.service.map_or(0, |service| service.awaited);
+        let orders = was.waiting.and_then(|w| after.service_of(w.block())).map_or(0, |v| v.awaited);
         self.orders[usize::from(orders)] += 1;
         let command = was.waiting.map(|w| w.command);
         self.count("serves of a READ shared", command == Some(Command::ReadShared));
         self.count("serves of a READ exclusive", command == Some(Command::ReadExclusive));
         self.count("serves of an EXCLUDE", command == Some(Command::Exclude));
         for (lane, former) in after.lanes.iter().zip(&before.lanes) {
-            let grew = lane.down.length == 2 && former.down.length == 1;
-            let [first, second] = lane.down.places.map(|m| m.kind.is_order());
-            self.count("orders joined behind a grant", grew && !first && second);
+            let grew = lane.down.length > former.down.length && former.down.length > 0;
+            let last = lane.down.messages().last().map_or(false, |m| m.kind.is_order());
+            let behind = former.down.messages().iter().any(|m| !m.kind.is_order());
+            self.count("orders joined behind a grant", grew && behind && last);
         }
     }
 
@@ -120,7 +121,7 @@ impl Events {
             let words = head == DownKind::Grant;
             self.count("grants with words delivered to an EXCLUDE", exclude && words);
             self.count("bare grants delivered", !words);
-            let behind = was.down.length == 2 && next.is_order();
+            let behind = was.down.length >= 2 && next.is_order();
             self.count("grants delivered with an order behind", behind);
         }
     }

@@ -4,7 +4,8 @@ use crate::machine;
 use crate::parts::*;
 use crate::settle::{self, Settled};
 
-pub const STORE_BYTES: usize = 3_549;
+pub const STORE_BYTES: usize = 5_320;
+pub const SLOT_BYTES: usize = 6;
 pub const CALL_BYTES: usize = 8;
 pub const CASE_BYTES: usize = STORE_BYTES + CALL_BYTES;
 pub const ANSWER_BYTES: usize = 12;
@@ -62,7 +63,7 @@ pub fn run(store: &Store, call: HeldCall) -> Given {
     run_under(store, call, Rule::LoadFillsOldest)
 }
 
-/// The same under either rule.
+/// The same under any rule.
 pub fn run_under(store: &Store, call: HeldCall, rule: Rule) -> Given {
     match call {
         HeldCall::Machine(call) => {
@@ -74,14 +75,14 @@ pub fn run_under(store: &Store, call: HeldCall, rule: Rule) -> Given {
         }
         HeldCall::Picture(lent) => {
             let mut buffer = vec![BUFFER_FILL; BUFFER_BYTES];
-            let answer = match machine::picture(store, &mut buffer[..lent as usize]) {
+            let answer = match machine::picture_under(store, &mut buffer[..lent as usize], rule) {
                 Ok(length) => HeldAnswer::Picture(length as u32),
                 Err(number) => HeldAnswer::Refused(number),
             };
             Given { answer, store: store.clone(), after: buffer }
         }
         HeldCall::Settle => {
-            let bound = bound_bytes(store);
+            let bound = bound_bytes_under(store, rule);
             let (answer, store) = match settle::settle_under(store, rule) {
                 Ok((after, given)) => (HeldAnswer::Settled(given), after),
                 Err(number) => (HeldAnswer::Refused(number), store.clone()),
@@ -132,7 +133,12 @@ pub fn number_at(bytes: &[u8], at: usize) -> u32 {
 
 /// 01's bound on the steps of a settle of a store; 0 where that is corrupt.
 pub fn bound_bytes(before: &Store) -> [u8; BOUND_BYTES] {
-    let bound = match machine::corrupt(before) {
+    bound_bytes_under(before, Rule::LoadFillsOldest)
+}
+
+/// The same under any rule.
+pub fn bound_bytes_under(before: &Store, rule: Rule) -> [u8; BOUND_BYTES] {
+    let bound = match machine::corrupt_under(before, rule) {
         true => 0,
         false => settle::bound(before),
     };
@@ -244,15 +250,9 @@ fn index_of<T: PartialEq>(table: &[T], item: T) -> u8 {
 }
 
 pub fn encode_store(s: &Store) -> Vec<u8> {
-    let mut out = vec![s.n, s.c, s.m];
+    let mut out = vec![s.n, s.c, s.m, s.limit];
     out.extend(s.completed.to_le_bytes());
-    out.extend(match s.service {
-        None => [0; 6],
-        Some(v) => {
-            let command = index_of(&COMMANDS, v.command);
-            [1, v.lane, v.block, command, v.awaited, u8::from(v.bare)]
-        }
-    });
+    s.slots.iter().for_each(|slot| out.extend(slot_bytes(slot)));
     s.lanes.iter().for_each(|lane| encode_lane(lane, &mut out));
     for block in &s.blocks {
         encode_words(&block.words, &mut out);
@@ -261,6 +261,17 @@ pub fn encode_store(s: &Store) -> Vec<u8> {
     }
     assert_eq!(out.len(), STORE_BYTES);
     out
+}
+
+/// A free slot has all bytes 0.
+fn slot_bytes(slot: &Option<Service>) -> [u8; SLOT_BYTES] {
+    match slot {
+        None => [0; SLOT_BYTES],
+        Some(v) => {
+            let command = index_of(&COMMANDS, v.command);
+            [1, v.lane, v.block, command, v.awaited, u8::from(v.bare)]
+        }
+    }
 }
 
 fn encode_words(words: &Words, out: &mut Vec<u8>) {
@@ -328,11 +339,9 @@ impl Reader<'_> {
 
 pub fn decode_store(bytes: &[u8]) -> Result<Store, String> {
     let mut r = Reader { bytes, at: 0 };
-    let mut s = Store::fresh(r.byte(), r.byte(), r.byte());
+    let mut s = Store::with_limit(r.byte(), r.byte(), r.byte(), r.byte());
     s.completed = r.word();
-    let (busy, lane, block) = (r.flag()?, r.byte(), r.byte());
-    let (command, awaited, bare) = (r.entry(&COMMANDS)?, r.byte(), r.flag()?);
-    s.service = busy.then_some(Service { lane, block, command, awaited, bare });
+    s.slots.iter_mut().try_for_each(|slot| decode_slot(&mut r, slot))?;
     s.lanes.iter_mut().try_for_each(|lane| decode_lane(&mut r, lane))?;
     s.blocks.iter_mut().try_for_each(|block| decode_block(&mut r, block))?;
     // Free and idle have no other content; a load has no v.
@@ -340,6 +349,13 @@ pub fn decode_store(bytes: &[u8]) -> Result<Store, String> {
         true => Ok(s),
         false => Err("bytes under a free, idle or load tag are not 0".to_string()),
     }
+}
+
+fn decode_slot(r: &mut Reader, slot: &mut Option<Service>) -> Result<(), String> {
+    let (busy, lane, block) = (r.flag()?, r.byte(), r.byte());
+    let (command, awaited, bare) = (r.entry(&COMMANDS)?, r.byte(), r.flag()?);
+    *slot = busy.then_some(Service { lane, block, command, awaited, bare });
+    Ok(())
 }
 
 fn decode_block(r: &mut Reader, block: &mut Block) -> Result<(), String> {
@@ -379,18 +395,18 @@ fn decode_queue<K: Copy>(r: &mut Reader, kinds: &[K], queue: &mut Queue<K>) -> R
 pub fn part_name(offset: usize) -> String {
     let words = |at: usize| format!("word {} byte {}", at / 4, at % 4);
     match offset {
-        0..=2 => ["n", "c", "m"][offset].to_string(),
-        3..=6 => format!("completions byte {}", offset - 3),
-        7..=12 => {
+        0..=3 => ["n", "c", "m", "L"][offset].to_string(),
+        4..=7 => format!("completions byte {}", offset - 4),
+        8..=55 => {
             let names = ["tag", "lane", "block", "command", "awaited", "bare"];
-            format!("control {}", names[offset - 7])
+            format!("slot {} {}", (offset - 8) / SLOT_BYTES, names[(offset - 8) % SLOT_BYTES])
         }
-        13..=1948 => {
-            let (lane, at) = ((offset - 13) / 242, (offset - 13) % 242);
+        56..=3719 => {
+            let (lane, at) = ((offset - 56) / 458, (offset - 56) % 458);
             format!("lane {lane} {}", lane_part_name(at))
         }
         _ => {
-            let (block, at) = ((offset - 1949) / 25, (offset - 1949) % 25);
+            let (block, at) = ((offset - 3720) / 25, (offset - 3720) % 25);
             let part = match at {
                 0..=15 => words(at),
                 16..=23 => format!("PRESENT {}", at - 16),
@@ -417,9 +433,9 @@ fn lane_part_name(at: usize) -> String {
     match at {
         0..=151 => format!("line {} {}", at / 19, fields(at % 19, &["VALID", "PRIVATE", "block"])),
         152..=159 => format!("use order {}", at - 152),
-        160..=196 => queue("return", at - 160),
-        197..=233 => queue("down", at - 197),
-        _ => format!("waiting byte {}", at - 234),
+        160..=304 => queue("return", at - 160),
+        305..=449 => queue("down", at - 305),
+        _ => format!("waiting byte {}", at - 450),
     }
 }
 

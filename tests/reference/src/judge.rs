@@ -62,7 +62,7 @@ impl Judge {
         let was_quiet = self.quiet;
         self.quiet = false;
         match (record, given) {
-            (Record::Open { m, .. }, Given::Opened) => {
+            (Record::Open { m, .. } | Record::OpenLimit { m, .. }, Given::Opened) => {
                 (self.flat, self.last_place) = (Flat::new(m), 0);
                 (self.waited, self.quiet) = ([None; 256], true);
                 Ok(())

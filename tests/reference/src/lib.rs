@@ -1,4 +1,4 @@
-//! A reference of the lane store of document 01 with W1, W2, W3 and W5 of document
+//! A reference of the lane store of document 01 with W1, W2, W3, W5 and W6 of document
 //! 02, written from the documents and their readings only, with generators of
 //! tapes, of lists of calls and of held stores. W4 changes no answer; answers are
 //! held to it.
@@ -16,6 +16,7 @@ pub mod held;
 pub mod judge;
 pub mod list_loads;
 pub mod list_maker;
+pub mod list_services;
 pub mod lists;
 pub mod load_maker;
 pub mod loads;
@@ -30,6 +31,9 @@ pub mod scramble;
 pub mod serve_byte;
 pub mod serve_maker;
 pub mod serves;
+pub mod service_faults;
+pub mod service_maker;
+pub mod services;
 pub mod settle;
 pub mod situations;
 pub mod stores;

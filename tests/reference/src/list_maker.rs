@@ -22,6 +22,20 @@ pub fn shape(index: usize) -> (u8, u8, u8) {
     (2 + n as u8, 1 + c as u8, 1 + m as u8)
 }
 
+/// L of a list, by its index: each n with each L.
+pub fn limit(index: usize) -> u8 {
+    1 + ((index / 7 + index / 56) % SLOTS) as u8
+}
+
+/// The opening of a list; half of those with L = 1 are of kind 00.
+pub fn opening(index: usize) -> Record {
+    let ((n, c, m), limit) = (shape(index), limit(index));
+    match limit == 1 && index / 56 % 2 == 0 {
+        true => Record::Open { n, c, m },
+        false => Record::OpenLimit { n, c, m, limit },
+    }
+}
+
 /// The long lists have other shapes in each round of all shapes.
 pub fn is_long(index: usize) -> bool {
     (index + index / SHAPES) % LONG_EVERY == 0
@@ -34,7 +48,6 @@ pub fn drawn_index(seed: u64, place: usize) -> usize {
 
 pub fn make(seed: u64, index: usize) -> Vec<Record> {
     let mut rng = Rng::stream(seed ^ 0x6c69_7374, index as u64);
-    let (n, c, m) = shape(index);
     let mut beside = Rng::stream(seed ^ 0x6265_7369, index as u64);
     let share = beside.pick(&[0, 10, 25, 50]);
     let (store, records) = (lists::blank(), Vec::new());
@@ -42,15 +55,17 @@ pub fn make(seed: u64, index: usize) -> Vec<Record> {
     if rng.chance(2) {
         maker.refused_opening();
     }
-    maker.push(Record::Open { n, c, m });
+    maker.push(opening(index));
     let length = match is_long(index) {
         true => rng.between(400, 1_000),
         false => rng.between(24, 64),
     };
-    match rng.weighted(&[4, 5, 3]) {
+    match rng.weighted(&[4, 4, 2, 4]) {
+        _ if maker.is_widest() => maker.several(length),
         0 => maker.mixed(length),
         1 => maker.bursts(length),
-        _ => maker.sharing(length),
+        2 => maker.sharing(length),
+        _ => maker.several(length),
     }
     if rng.chance(80) {
         maker.call(HeldCall::Settle);
@@ -90,6 +105,11 @@ impl Maker {
         }
     }
 
+    /// Every lane can have a service of its own, of blocks that all lanes have.
+    fn is_widest(&self) -> bool {
+        [self.store.n, self.store.c, self.store.limit, self.store.m.min(8)] == [8; 4]
+    }
+
     /// Settle; at times the store is shown then.
     fn settle(&mut self) {
         self.call(HeldCall::Settle);
@@ -102,7 +122,14 @@ impl Maker {
     fn refused_opening(&mut self) {
         let shapes = [(1, 1, 1), (9, 1, 1), (2, 0, 1), (2, 9, 1), (2, 1, 0), (2, 1, 65)];
         let (n, c, m) = self.rng.pick(&shapes);
-        self.push(Record::Open { n, c, m });
+        let (bad, any) = (self.rng.pick(&[0, 9, 9, 255]), self.rng.between(1, SLOTS) as u8);
+        let limit = self.rng.pick(&[bad, any]);
+        let opening = match self.rng.below(3) {
+            0 => Record::Open { n, c, m },
+            1 => Record::OpenLimit { n, c, m, limit },
+            _ => Record::OpenLimit { n: 8, c: 8, m: 64, limit: bad },
+        };
+        self.push(opening);
         let fair = Store::fresh(8, 8, 64);
         for _ in 0..3 {
             let call = walk::odd_call(&fair, &mut self.rng);
@@ -184,6 +211,35 @@ impl Maker {
             }
             self.settle();
         }
+    }
+
+    /// Lanes share blocks, then each writes to one of them and all are served in any
+    /// order, as far as 10 lets; then steps in any order.
+    fn several(&mut self, length: usize) {
+        let end = self.records.len() + length;
+        while self.records.len() < end {
+            let first = self.rng.byte_below(self.store.m);
+            let most = usize::from(self.store.c.min(self.store.m));
+            let any = self.rng.between(1, most);
+            let few = self.rng.chance(50) && !self.is_widest();
+            let blocks = if few { any } else { most } as u8;
+            self.all_load(first, blocks);
+            let op = walk::write_op(&mut self.rng);
+            self.all_begin(|lane| (first + lane % blocks, op));
+            for lane in self.lanes() {
+                self.call(HeldCall::Machine(Call::Serve(lane)));
+            }
+            self.steps();
+            self.settle();
+        }
+    }
+
+    /// Returns, delivers and serves of lanes that have them, in any order.
+    fn steps(&mut self) {
+        let style = Style::steps(&self.store);
+        let any = self.rng.below(60);
+        let calls = self.rng.pick(&[0, any, any]);
+        self.walk_on(calls, &style);
     }
 
     /// All lanes load so many blocks, one after another.

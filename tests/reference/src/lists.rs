@@ -8,14 +8,22 @@ use crate::settle::Settled;
 
 pub const RECORD_BYTES: usize = held::CALL_BYTES;
 pub const OPEN_KIND: u8 = 0x00;
+pub const OPEN_LIMIT_KIND: u8 = 0x08;
 pub const SHOW_KIND: u8 = 0x12;
 
 #[derive(Clone, Copy, PartialEq, Eq, Debug)]
 pub enum Record {
+    /// L is 1.
     Open {
         n: u8,
         c: u8,
         m: u8,
+    },
+    OpenLimit {
+        n: u8,
+        c: u8,
+        m: u8,
+        limit: u8,
     },
     /// Any call but picture.
     Call(HeldCall),
@@ -27,15 +35,25 @@ impl Record {
     pub fn bytes(self) -> [u8; RECORD_BYTES] {
         match self {
             Record::Open { n, c, m } => [OPEN_KIND, n, c, m, 0, 0, 0, 0],
+            Record::OpenLimit { n, c, m, limit } => [OPEN_LIMIT_KIND, n, c, m, limit, 0, 0, 0],
             Record::Call(call) => held::encode_call(call),
             Record::Show => [SHOW_KIND, 0, 0, 0, 0, 0, 0, 0],
+        }
+    }
+
+    /// n, c, m and L of an opening.
+    pub fn opens(self) -> Option<(u8, u8, u8, u8)> {
+        match self {
+            Record::Open { n, c, m } => Some((n, c, m, 1)),
+            Record::OpenLimit { n, c, m, limit } => Some((n, c, m, limit)),
+            Record::Call(_) | Record::Show => None,
         }
     }
 
     /// The bytes of its answer, which has a fixed length.
     pub fn answer_length(self) -> usize {
         match self {
-            Record::Open { .. } => held::ANSWER_BYTES,
+            Record::Open { .. } | Record::OpenLimit { .. } => held::ANSWER_BYTES,
             Record::Call(HeldCall::Settle) => held::ANSWER_BYTES + held::SETTLED_BYTES,
             Record::Call(_) => held::ANSWER_BYTES,
             Record::Show => held::STORE_BYTES,
@@ -57,6 +75,9 @@ fn record(bytes: &[u8]) -> Result<Record, String> {
     }
     Ok(match bytes[0] {
         OPEN_KIND => Record::Open { n: bytes[1], c: bytes[2], m: bytes[3] },
+        OPEN_LIMIT_KIND => {
+            Record::OpenLimit { n: bytes[1], c: bytes[2], m: bytes[3], limit: bytes[4] }
+        }
         SHOW_KIND => Record::Show,
         PICTURE_KIND => return Err("picture in a list".to_string()),
         _ => Record::Call(held::decode_call(bytes)?),
@@ -77,19 +98,13 @@ pub fn run(store: &mut Store, record: Record) -> Given {
     run_under(store, record, Rule::LoadFillsOldest)
 }
 
-/// The same under either rule.
+/// The same under any rule.
 pub fn run_under(store: &mut Store, record: Record, rule: Rule) -> Given {
     match record {
-        Record::Open { n, c, m } => match machine::open(n, c, m) {
-            Ok(opened) => {
-                *store = opened;
-                Given::Opened
-            }
-            Err(number) => {
-                *store = blank();
-                Given::Answer(HeldAnswer::Refused(number))
-            }
-        },
+        Record::Open { n, c, m } => opened(store, machine::open(n, c, m)),
+        Record::OpenLimit { n, c, m, limit } => {
+            opened(store, machine::open_with_limit(n, c, m, limit))
+        }
         Record::Call(call) => {
             let given = held::run_under(store, call, rule);
             *store = given.store;
@@ -99,8 +114,22 @@ pub fn run_under(store: &mut Store, record: Record, rule: Rule) -> Given {
     }
 }
 
+/// A refused opening leaves the blank store.
+fn opened(store: &mut Store, result: Result<Store, u8>) -> Given {
+    match result {
+        Ok(opened) => {
+            *store = opened;
+            Given::Opened
+        }
+        Err(number) => {
+            *store = blank();
+            Given::Answer(HeldAnswer::Refused(number))
+        }
+    }
+}
+
 pub fn blank() -> Store {
-    Store::fresh(0, 0, 0)
+    Store::with_limit(0, 0, 0, 0)
 }
 
 /// The bytes that a record's answer has; the bound is that of the store before,
@@ -136,7 +165,7 @@ pub fn read_answer(record: Record, bytes: &[u8]) -> Result<Given, String> {
     }
     let value = held::number_at(bytes, 2);
     let given = match (record, bytes[0]) {
-        (Record::Open { .. }, 0) => Given::Opened,
+        (Record::Open { .. } | Record::OpenLimit { .. }, 0) => Given::Opened,
         (_, 1) => {
             let done = Completion { lane: bytes[1], value, place: held::number_at(bytes, 8) };
             Given::Answer(HeldAnswer::Machine(Answer::Done(done)))
@@ -184,7 +213,7 @@ pub fn read(input: &[u8], answers: &[u8]) -> Result<Vec<(Record, Given)>, String
 pub fn differences(input: &[u8], other: &[u8], most: usize) -> Result<Vec<String>, String> {
     let (mut store, mut at, mut list, mut found) = (blank(), 0, 0, Vec::new());
     for (index, record) in records(input)?.into_iter().enumerate() {
-        list += usize::from(matches!(record, Record::Open { .. }));
+        list += usize::from(record.opens().is_some());
         let bound = held::bound_bytes(&store);
         let given = run(&mut store, record);
         let own = answer_bytes(record, &given, bound);

@@ -129,7 +129,7 @@ pub fn make(seed: u64, index: usize) -> (Store, Call) {
 /// PRIVATE above all.
 pub fn make_any(rng: &mut Rng) -> (Store, Call) {
     let [hit, private, any] = [rng.below(15), rng.between(21, 23), rng.below(ROLES - 4)];
-    let role = [hit, private, any][rng.weighted(&[50, 20, 30])];
+    let role = [hit, private, any][rng.weighted(&[45, 30, 25])];
     of_role(ROLE[role], rng)
 }
 
@@ -240,7 +240,7 @@ fn find(lane: &mut Lane, (c, m): (u8, u8), block: u8, finds: Finds, rng: &mut Rn
         }
     }
     if finds == Finds::NoRoom || finds == Finds::LineAmongFull {
-        lane.returns = Queue { length: 2, places: scramble::return_places(m, rng) };
+        lane.returns = Queue { length: PLACES as u8, places: scramble::return_places(m, rng) };
     }
 }
 

@@ -29,7 +29,7 @@ pub const DONE: [(&str, Test); 17] = [
     }),
     ("done, one place left", |it| it.store.begun() + 1 == u64::from(LAST_PLACE)),
     ("done, other lanes wait too", |it| it.store.waiting() > 1),
-    ("done, a service open", |it| it.store.service.is_some()),
+    ("done, a service open", |it| it.store.open_services() > 0),
     ("done, messages in the lane's queues", |it| {
         !it.lane.returns.is_empty() && !it.lane.down.is_empty()
     }),

@@ -20,6 +20,13 @@ pub const CORRUPT: u8 = 14;
 pub const BUFFER_SHORT: u8 = 15;
 pub const UNEXPECTED: u8 = 16;
 pub const NO_PLACE_LEFT: u8 = 17;
+pub const INVALID_LIMIT: u8 = 18;
+
+/// The highest kind of a tape's records.
+pub const HIGHEST_KIND: u8 = 0x08;
+
+/// The same before W6.
+pub const HIGHEST_KIND_BEFORE_W6: u8 = 0x07;
 
 pub const PICTURE_RECORD: usize = 19;
 
@@ -27,11 +34,22 @@ fn shape_in_range(n: u8, c: u8, m: u8) -> bool {
     (2..=8).contains(&n) && (1..=8).contains(&c) && (1..=64).contains(&m)
 }
 
+fn limit_in_range(limit: u8) -> bool {
+    (1..=SLOTS).contains(&usize::from(limit))
+}
+
+/// With L = 1.
 pub fn open(n: u8, c: u8, m: u8) -> Result<Store, u8> {
-    if shape_in_range(n, c, m) {
-        Ok(Store::fresh(n, c, m))
-    } else {
+    open_with_limit(n, c, m, 1)
+}
+
+pub fn open_with_limit(n: u8, c: u8, m: u8, limit: u8) -> Result<Store, u8> {
+    if !shape_in_range(n, c, m) {
         Err(INVALID_SHAPE)
+    } else if !limit_in_range(limit) {
+        Err(INVALID_LIMIT)
+    } else {
+        Ok(Store::with_limit(n, c, m, limit))
     }
 }
 
@@ -40,9 +58,9 @@ pub fn call(store: &Store, call: Call) -> Result<(Store, Answer), u8> {
     call_under(store, call, Rule::LoadFillsOldest)
 }
 
-/// The same under either rule.
+/// The same under any rule.
 pub fn call_under(store: &Store, call: Call, rule: Rule) -> Result<(Store, Answer), u8> {
-    if corrupt(store) {
+    if corrupt_under(store, rule) {
         return Err(CORRUPT);
     }
     if call.lane() >= store.n {
@@ -57,16 +75,21 @@ pub fn call_under(store: &Store, call: Call, rule: Rule) -> Result<(Store, Answe
 /// that is half changed: the caller drops it.
 pub fn step(s: &mut Store, call: Call, rule: Rule) -> Result<Answer, u8> {
     match call {
-        Call::Begin { lane, op, word } => begin(s, lane, op, word),
-        Call::Serve(lane) => serve(s, lane),
-        Call::Return(lane) => take_return(s, lane),
+        Call::Begin { lane, op, word } => begin(s, lane, op, word, rule),
+        Call::Serve(lane) => serve(s, lane, rule),
+        Call::Return(lane) => take_return(s, lane, rule),
         Call::Deliver(lane) => deliver(s, lane, rule),
     }
 }
 
 /// Writes the picture into the lent buffer and gives its length.
 pub fn picture(store: &Store, buffer: &mut [u8]) -> Result<usize, u8> {
-    if corrupt(store) {
+    picture_under(store, buffer, Rule::LoadFillsOldest)
+}
+
+/// The same under any rule.
+pub fn picture_under(store: &Store, buffer: &mut [u8], rule: Rule) -> Result<usize, u8> {
+    if corrupt_under(store, rule) {
         return Err(CORRUPT);
     }
     let lines = picture_lines(store).into_iter();
@@ -98,30 +121,44 @@ fn picture_record(k: u8, line: &Line) -> Vec<u8> {
 
 /// Condition 14.
 pub fn corrupt(s: &Store) -> bool {
-    if !shape_in_range(s.n, s.c, s.m) {
+    corrupt_under(s, Rule::LoadFillsOldest)
+}
+
+/// The same under any rule.
+pub fn corrupt_under(s: &Store, rule: Rule) -> bool {
+    if !shape_in_range(s.n, s.c, s.m) || !limit_in_range(s.limit) {
         return true;
     }
     let (n, m) = (usize::from(s.n), usize::from(s.m));
-    let service =
-        s.service.map_or(false, |v| v.lane >= s.n || v.block >= s.m || v.awaited > s.n - 1);
-    let lane = s.lanes[..n].iter().any(|l| corrupt_lane(l, s.c, s.m));
+    let lane = s.lanes[..n].iter().any(|l| corrupt_lane(l, s.c, s.m, rule));
     let present = s.blocks[..m].iter().any(|b| b.present[n..].contains(&true));
-    service || lane || present || s.begun() > u64::from(LAST_PLACE)
+    corrupt_services(s) || lane || present || s.begun() > u64::from(LAST_PLACE)
 }
 
-fn corrupt_lane(lane: &Lane, c: u8, m: u8) -> bool {
+/// A number of some service out of range, two of one block, or more than L.
+fn corrupt_services(s: &Store) -> bool {
+    let outside = |v: &Service| v.lane >= s.n || v.block >= s.m || v.awaited > s.n - 1;
+    let mut blocks: Vec<u8> = s.services().map(|v| v.block).collect();
+    let open = blocks.len();
+    blocks.sort_unstable();
+    blocks.dedup();
+    s.services().any(outside) || blocks.len() < open || open > usize::from(s.limit)
+}
+
+fn corrupt_lane(lane: &Lane, c: u8, m: u8, rule: Rule) -> bool {
     let c = usize::from(c);
     let lines = lane.lines[..c].iter().any(|l| l.valid && l.block >= m);
     let mut named = lane.order[..c].to_vec();
     named.sort_unstable();
     let order = named.iter().enumerate().any(|(i, &name)| i != usize::from(name));
     let waiting = lane.waiting.map_or(false, |w| u16::from(w.word) >= 4 * u16::from(m));
-    lines || order || waiting || corrupt_queue(&lane.returns, m) || corrupt_queue(&lane.down, m)
+    let queues = corrupt_queue(&lane.returns, m, rule) || corrupt_queue(&lane.down, m, rule);
+    lines || order || waiting || queues
 }
 
-fn corrupt_queue<K>(queue: &Queue<K>, m: u8) -> bool {
-    let length = usize::from(queue.length);
-    length > PLACES || queue.places[..length].iter().any(|message| message.block >= m)
+fn corrupt_queue<K: Copy>(queue: &Queue<K>, m: u8, rule: Rule) -> bool {
+    let too_long = usize::from(queue.length) > rule.places();
+    too_long || queue.messages().iter().any(|message| message.block >= m)
 }
 
 /// The lowest-numbered valid line with the block.
@@ -158,7 +195,7 @@ fn complete(s: &mut Store, k: u8, i: usize, op: Op, word: u8) -> Answer {
     Answer::Done(Completion { lane: k, value, place: s.completed })
 }
 
-fn begin(s: &mut Store, k: u8, op: Op, word: u8) -> Result<Answer, u8> {
+fn begin(s: &mut Store, k: u8, op: Op, word: u8, rule: Rule) -> Result<Answer, u8> {
     if u16::from(word) >= 4 * u16::from(s.m) {
         return Err(NO_SUCH_WORD);
     }
@@ -179,7 +216,7 @@ fn begin(s: &mut Store, k: u8, op: Op, word: u8) -> Result<Answer, u8> {
         }
         Some(_) => Command::Exclude,
         None => {
-            make_room(lane, s.c)?;
+            make_room(lane, s.c, rule)?;
             if op.is_load() {
                 Command::ReadShared
             } else {
@@ -192,7 +229,7 @@ fn begin(s: &mut Store, k: u8, op: Op, word: u8) -> Result<Answer, u8> {
 }
 
 /// Evicts the oldest line when all lines are valid.
-fn make_room(lane: &mut Lane, c: u8) -> Result<(), u8> {
+fn make_room(lane: &mut Lane, c: u8, rule: Rule) -> Result<(), u8> {
     if !lane.lines[..usize::from(c)].iter().all(|l| l.valid) {
         return Ok(());
     }
@@ -203,42 +240,56 @@ fn make_room(lane: &mut Lane, c: u8) -> Result<(), u8> {
     } else {
         Message { kind: ReturnKind::Eject, block: line.block, words: [0; 4] }
     };
-    push(&mut lane.returns, message)
+    push(&mut lane.returns, message, rule)
 }
 
-fn push<K: Copy>(queue: &mut Queue<K>, message: Message<K>) -> Result<(), u8> {
-    if queue.push(message) {
+fn push<K: Copy>(queue: &mut Queue<K>, message: Message<K>, rule: Rule) -> Result<(), u8> {
+    if queue.push_at(message, rule.places()) {
         Ok(())
     } else {
         Err(FULL)
     }
 }
 
-fn serve(s: &mut Store, k: u8) -> Result<Answer, u8> {
-    let lane = &mut s.lanes[usize::from(k)];
-    let waiting = match &mut lane.waiting {
+fn serve(s: &mut Store, k: u8, rule: Rule) -> Result<Answer, u8> {
+    let waiting = match s.lanes[usize::from(k)].waiting {
         Some(waiting) if !waiting.served => waiting,
         _ => return Err(NOTHING_PENDING),
     };
-    if s.service.is_some() {
-        return Err(CONTROL_BUSY);
-    }
+    let slot = slot_for(s, waiting.block(), rule).ok_or(CONTROL_BUSY)?;
+    serve_in(s, k, slot, rule)
+}
+
+/// The lowest-numbered free slot, unless the block is in service or L services are
+/// open. Before W6 any service is one too many.
+fn slot_for(s: &Store, block: u8, rule: Rule) -> Option<usize> {
+    let busy = match rule {
+        Rule::BeforeW6 => s.open_services() > 0,
+        _ => s.slot_of(block).is_some() || s.open_services() >= usize::from(s.limit),
+    };
+    s.slots.iter().position(Option::is_none).filter(|_| !busy)
+}
+
+/// Serves lane k, which has an unserved operation, in a free slot.
+pub(crate) fn serve_in(s: &mut Store, k: u8, slot: usize, rule: Rule) -> Result<Answer, u8> {
+    let lane = &mut s.lanes[usize::from(k)];
     if !lane.returns.is_empty() {
         return Err(RETURNS_PENDING);
     }
+    let waiting = lane.waiting.as_mut().expect("an operation");
     waiting.served = true;
     let (block, command) = (waiting.block(), waiting.command);
     let bare = command == Command::Exclude && s.blocks[usize::from(block)].present[usize::from(k)];
-    let awaited = send_orders(s, k, block, command)?;
-    s.service = Some(Service { lane: k, block, command, awaited, bare });
+    let awaited = send_orders(s, k, block, command, rule)?;
+    s.slots[slot] = Some(Service { lane: k, block, command, awaited, bare });
     if awaited == 0 {
-        close(s)?;
+        close(s, slot, rule)?;
     }
     Ok(Answer::Step)
 }
 
 /// Sends the orders of a service and gives their count.
-fn send_orders(s: &mut Store, k: u8, block: u8, command: Command) -> Result<u8, u8> {
+fn send_orders(s: &mut Store, k: u8, block: u8, command: Command, rule: Rule) -> Result<u8, u8> {
     let directory = s.blocks[usize::from(block)];
     let kind = match command {
         Command::ReadShared if !directory.modified => return Ok(0),
@@ -248,15 +299,15 @@ fn send_orders(s: &mut Store, k: u8, block: u8, command: Command) -> Result<u8, 
     let mut sent = 0;
     for other in (0..s.n).filter(|&j| j != k && directory.present[usize::from(j)]) {
         let order = Message { kind, block, words: [0; 4] };
-        push(&mut s.lanes[usize::from(other)].down, order)?;
+        push(&mut s.lanes[usize::from(other)].down, order, rule)?;
         sent += 1;
     }
     Ok(sent)
 }
 
-/// Closes the open service: directory flags, grant, control free.
-fn close(s: &mut Store) -> Result<(), u8> {
-    let service = s.service.take().expect("open service");
+/// Closes the service in a slot: directory flags, grant, slot free.
+fn close(s: &mut Store, slot: usize, rule: Rule) -> Result<(), u8> {
+    let service = s.slots[slot].take().expect("open service");
     let k = usize::from(service.lane);
     let entry = &mut s.blocks[usize::from(service.block)];
     if service.command != Command::ReadShared {
@@ -268,14 +319,14 @@ fn close(s: &mut Store) -> Result<(), u8> {
         true => (DownKind::BareGrant, [0; 4]),
         false => (DownKind::Grant, entry.words),
     };
-    push(&mut s.lanes[k].down, Message { kind, block: service.block, words })
+    push(&mut s.lanes[k].down, Message { kind, block: service.block, words }, rule)
 }
 
-fn take_return(s: &mut Store, k: u8) -> Result<Answer, u8> {
+fn take_return(s: &mut Store, k: u8, rule: Rule) -> Result<Answer, u8> {
     let message = s.lanes[usize::from(k)].returns.take().ok_or(NOTHING_PENDING)?;
     let kind = message.kind;
-    let expected = s.service.map_or(false, |v| v.block == message.block && v.awaited > 0);
-    if kind.is_answer() && !expected {
+    let slot = awaiting_slot(s, message.block, rule);
+    if kind.is_answer() && slot.is_none() {
         return Err(UNEXPECTED);
     }
     let entry = &mut s.blocks[usize::from(message.block)];
@@ -286,17 +337,28 @@ fn take_return(s: &mut Store, k: u8) -> Result<Answer, u8> {
         entry.words = message.words;
         entry.modified = false;
     }
-    if kind.is_answer() {
-        lower_awaited(s)?;
+    match slot {
+        Some(slot) if kind.is_answer() => lower_awaited(s, slot, rule)?,
+        _ => {}
     }
     Ok(Answer::Step)
 }
 
-fn lower_awaited(s: &mut Store) -> Result<(), u8> {
-    let service = s.service.as_mut().expect("open service");
+/// The slot of the service that an answer for the block belongs to, if it awaits
+/// one. Before W6 there is one service at most, and the block must be its own.
+fn awaiting_slot(s: &Store, block: u8, rule: Rule) -> Option<usize> {
+    let slot = match rule {
+        Rule::BeforeW6 => s.slots.iter().position(Option::is_some),
+        _ => s.slot_of(block),
+    };
+    slot.filter(|&slot| s.slots[slot].map_or(false, |v| v.block == block && v.awaited > 0))
+}
+
+fn lower_awaited(s: &mut Store, slot: usize, rule: Rule) -> Result<(), u8> {
+    let service = s.slots[slot].as_mut().expect("open service");
     service.awaited -= 1;
     if service.awaited == 0 {
-        close(s)?;
+        close(s, slot, rule)?;
     }
     Ok(())
 }
@@ -305,7 +367,7 @@ fn deliver(s: &mut Store, k: u8, rule: Rule) -> Result<Answer, u8> {
     let (c, lane) = (s.c, &mut s.lanes[usize::from(k)]);
     let message = lane.down.take().ok_or(NOTHING_PENDING)?;
     if message.kind.is_order() {
-        obey(lane, c, message)?;
+        obey(lane, c, message, rule)?;
         Ok(Answer::Step)
     } else {
         let (i, waiting) = accept_grant(lane, c, message)?;
@@ -320,7 +382,7 @@ fn deliver(s: &mut Store, k: u8, rule: Rule) -> Result<Answer, u8> {
 }
 
 /// UPDATE or PURGE: the answer joins the return queue.
-fn obey(lane: &mut Lane, c: u8, order: Message<DownKind>) -> Result<(), u8> {
+fn obey(lane: &mut Lane, c: u8, order: Message<DownKind>, rule: Rule) -> Result<(), u8> {
     let (kind, words) = match search(lane, c, order.block) {
         None => (ReturnKind::Gone, [0; 4]),
         Some(i) => {
@@ -337,7 +399,7 @@ fn obey(lane: &mut Lane, c: u8, order: Message<DownKind>) -> Result<(), u8> {
             }
         }
     };
-    push(&mut lane.returns, Message { kind, block: order.block, words })
+    push(&mut lane.returns, Message { kind, block: order.block, words }, rule)
 }
 
 /// A grant, bare or with words: gives the line that it is for, and the served

@@ -5,9 +5,11 @@ use reference::held::HeldCall;
 use reference::loads::Loads;
 use reference::parts::Rule;
 use reference::serves::Serves;
+use reference::services::Services;
+use reference::stores::Case;
 use reference::summary::{Cases, Tapes};
 use reference::{bounds, choice, held, judge, list_maker, lists, stores, tape, tapes};
-use reference::{load_maker, serve_byte, serve_maker};
+use reference::{load_maker, serve_byte, serve_maker, service_maker};
 use std::fs;
 use std::io::{self, BufWriter, Read, Write};
 use std::path::{Path, PathBuf};
@@ -16,6 +18,7 @@ use std::process::ExitCode;
 const USAGE: &str = "usage:
   reference tape < TAPE
   reference tape-before-w3 < TAPE
+  reference tape-before-w6 < TAPE
   reference held < CASES
   reference make-tapes SEED COUNT DIR
   reference draw-tapes SEED COUNT DIR
@@ -24,6 +27,7 @@ const USAGE: &str = "usage:
   reference choose-held SEED COUNT FILE
   reference make-serves SEED COUNT FILE
   reference make-loads SEED COUNT FILE
+  reference make-services SEED COUNT FILE
   reference differ-held CASES ANSWERS
   reference bound-held CASES ANSWERS
   reference byte-held CASES ANSWERS
@@ -63,6 +67,7 @@ fn run(args: &[&str]) -> Outcome {
     match args[..] {
         ["tape"] => run_tape(Rule::LoadFillsOldest),
         ["tape-before-w3"] => run_tape(Rule::FillsNewest),
+        ["tape-before-w6"] => run_tape(Rule::BeforeW6),
         ["held"] => run_held(),
         ["make-tapes", seed, count, dir] => make_tapes(seed, count, dir, in_turn),
         ["draw-tapes", seed, count, dir] => make_tapes(seed, count, dir, tapes::drawn_index),
@@ -71,6 +76,7 @@ fn run(args: &[&str]) -> Outcome {
         ["choose-held", seed, count, file] => choose_held(seed, count, Path::new(file)),
         ["make-serves", seed, count, file] => make_serves(seed, count, Path::new(file)),
         ["make-loads", seed, count, file] => make_loads(seed, count, Path::new(file)),
+        ["make-services", seed, count, file] => make_services(seed, count, Path::new(file)),
         ["differ-held", cases, answers] => differ_held(cases, answers),
         ["bound-held", cases, answers] => bound_held(cases, answers),
         ["lists"] => run_lists(),
@@ -163,14 +169,31 @@ fn make_held(seed: &str, count: &str, file: &Path) -> Outcome {
 }
 
 fn choose_held(seed: &str, count: &str, file: &Path) -> Outcome {
-    let cases = choice::choose(number(seed)?, number(count)?);
+    let sets = choice::choose(number(seed)?, number(count)?);
+    let mut second = file.as_os_str().to_owned();
+    second.push(".second");
+    let mut summary = Cases::default();
+    for (cases, file) in sets.iter().zip([file, Path::new(&second)]) {
+        write_chosen(cases, file)?;
+        cases.iter().for_each(|case| summary.add(case, &held::run(&case.store, case.call).answer));
+    }
+    print!("{summary}");
+    let room = choice::MOST_BYTES - choice::FREE_BYTES;
+    match choice::answers_length(&sets[1]) <= room {
+        true => Ok(()),
+        false => Err(format!("the second set has more than {room} bytes of answers")),
+    }
+}
+
+fn write_chosen(cases: &[Case], file: &Path) -> Outcome {
     let bytes = cases.iter().flat_map(|case| held::encode_case(&case.store, case.call));
     fs::write(file, bytes.collect::<Vec<u8>>()).map_err(text)?;
-    println!("{} cases chosen", cases.len());
-    println!("{} bytes of answers, at most {}", choice::answers_length(&cases), choice::MOST_BYTES);
-    let mut summary = Cases::default();
-    cases.iter().for_each(|case| summary.add(case, &held::run(&case.store, case.call).answer));
-    print!("{summary}");
+    let (length, most) = (choice::answers_length(cases), choice::MOST_BYTES);
+    println!(
+        "{}: {} cases, {length} bytes of answers, at most {most}",
+        file.display(),
+        cases.len()
+    );
     Ok(())
 }
 
@@ -188,7 +211,7 @@ fn make_serves(seed: &str, count: &str, file: &Path) -> Outcome {
     Ok(())
 }
 
-/// So many begins must meet all that there is to meet.
+/// So many cases must meet all that there is to meet.
 const ALL_MET_FROM: usize = 400;
 
 fn make_loads(seed: &str, count: &str, file: &Path) -> Outcome {
@@ -202,12 +225,29 @@ fn make_loads(seed: &str, count: &str, file: &Path) -> Outcome {
     }
     out.flush().map_err(text)?;
     print!("{summary}");
-    match summary.never_met() {
-        never if count >= ALL_MET_FROM && !never.is_empty() => {
-            Err(format!("never met: {}", never.join("; ")))
-        }
-        _ => Ok(()),
+    all_met(count, &summary.never_met())
+}
+
+/// Fails if something was never met by so many cases.
+fn all_met(count: usize, never: &[&str]) -> Outcome {
+    match count >= ALL_MET_FROM && !never.is_empty() {
+        true => Err(format!("never met: {}", never.join("; "))),
+        false => Ok(()),
     }
+}
+
+fn make_services(seed: &str, count: &str, file: &Path) -> Outcome {
+    let (seed, count) = (number(seed)?, number(count)?);
+    let mut out = BufWriter::new(fs::File::create(file).map_err(text)?);
+    let mut summary = Services::default();
+    for index in 0..count {
+        let (store, call) = service_maker::make(seed, index);
+        summary.add(&store, call);
+        out.write_all(&held::encode_case(&store, call)).map_err(text)?;
+    }
+    out.flush().map_err(text)?;
+    print!("{summary}");
+    all_met(count, &summary.never_met())
 }
 
 fn differ_held(cases: &str, answers: &str) -> Outcome {

@@ -18,7 +18,7 @@ const GRANTS: [Kind; 4] =
 pub fn make(rng: &mut Rng) -> (Store, HeldCall) {
     match rng.weighted(&[65, 22, 13]) {
         0 => {
-            let kind = GRANTS[rng.weighted(&[24, 6, 22, 13])];
+            let kind = GRANTS[rng.weighted(&[23, 6, 21, 17])];
             deliver(kind, rng)
         }
         1 => {
@@ -56,7 +56,7 @@ fn hit(load: bool, rng: &mut Rng) -> (Store, HeldCall) {
 /// Nothing but grants is on its way, of all four kinds, and perhaps ejects.
 fn settle(rng: &mut Rng) -> (Store, HeldCall) {
     let mut s = store(GRANTS.len(), rng);
-    s.service = None;
+    s.slots = [None; SLOTS];
     let mut lanes: Vec<u8> = (0..s.n).collect();
     scramble::permute(&mut lanes, rng);
     for (&k, kind) in lanes.iter().zip(GRANTS.into_iter().cycle()) {

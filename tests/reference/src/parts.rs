@@ -6,7 +6,13 @@ pub const LINES: usize = 8;
 pub const BLOCKS: usize = 64;
 
 /// Of a queue.
-pub const PLACES: usize = 2;
+pub const PLACES: usize = 8;
+
+/// Of a queue before W6.
+pub const PLACES_BEFORE_W6: usize = 2;
+
+/// Of services; the limit L is at most so many.
+pub const SLOTS: usize = 8;
 
 /// Of completions: their places have 32 bits.
 pub const LAST_PLACE: u32 = 4_294_967_295;
@@ -130,7 +136,17 @@ impl<K: Copy> Queue<K> {
     }
 
     pub fn is_full(&self) -> bool {
-        usize::from(self.length) >= PLACES
+        self.is_full_at(PLACES)
+    }
+
+    /// The same for a queue of fewer places.
+    pub fn is_full_at(&self, places: usize) -> bool {
+        usize::from(self.length) >= places
+    }
+
+    /// What is queued, the head first; not more than there are places.
+    pub fn messages(&self) -> &[Message<K>] {
+        &self.places[..usize::from(self.length).min(PLACES)]
     }
 
     pub fn head(&self) -> Option<Message<K>> {
@@ -141,17 +157,22 @@ impl<K: Copy> Queue<K> {
         }
     }
 
-    /// Place 0 gets place 1; place 1 keeps what it had.
+    /// Each place gets the next one's; the last keeps what it had.
     pub fn take(&mut self) -> Option<Message<K>> {
         let head = self.head()?;
-        self.places[0] = self.places[1];
+        self.places.copy_within(1.., 0);
         self.length -= 1;
         Some(head)
     }
 
     /// False, and nothing done, when the queue is full.
     pub fn push(&mut self, message: Message<K>) -> bool {
-        if self.is_full() {
+        self.push_at(message, PLACES)
+    }
+
+    /// The same for a queue of fewer places.
+    pub fn push_at(&mut self, message: Message<K>, places: usize) -> bool {
+        if self.is_full_at(places) {
             return false;
         }
         self.places[usize::from(self.length)] = message;
@@ -198,16 +219,24 @@ pub struct Store {
     pub n: u8,
     pub c: u8,
     pub m: u8,
+    /// L: at most so many services.
+    pub limit: u8,
     /// Completions since opening.
     pub completed: u32,
-    pub service: Option<Service>,
+    /// A service stays in its slot until it closes.
+    pub slots: [Option<Service>; SLOTS],
     pub lanes: [Lane; LANES],
     pub blocks: [Block; BLOCKS],
 }
 
 impl Store {
-    /// What an opening gives, for any n, c, m.
+    /// What an opening gives with L = 1, for any n, c, m.
     pub fn fresh(n: u8, c: u8, m: u8) -> Store {
+        Store::with_limit(n, c, m, 1)
+    }
+
+    /// The same with any L.
+    pub fn with_limit(n: u8, c: u8, m: u8, limit: u8) -> Store {
         let lane = Lane {
             lines: [Line::default(); LINES],
             order: [0, 1, 2, 3, 4, 5, 6, 7],
@@ -216,7 +245,27 @@ impl Store {
             waiting: None,
         };
         let (lanes, blocks) = ([lane; LANES], [Block::default(); BLOCKS]);
-        Store { n, c, m, completed: 0, service: None, lanes, blocks }
+        Store { n, c, m, limit, completed: 0, slots: [None; SLOTS], lanes, blocks }
+    }
+
+    /// The open services, by slot.
+    pub fn services(&self) -> impl Iterator<Item = &Service> {
+        self.slots.iter().flatten()
+    }
+
+    /// The count of open services.
+    pub fn open_services(&self) -> usize {
+        self.services().count()
+    }
+
+    /// The slot of the block's service; the lowest-numbered, if there were several.
+    pub fn slot_of(&self, block: u8) -> Option<usize> {
+        self.slots.iter().position(|slot| slot.map_or(false, |v| v.block == block))
+    }
+
+    /// The service of the block.
+    pub fn service_of(&self, block: u8) -> Option<Service> {
+        self.slot_of(block).and_then(|slot| self.slots[slot])
     }
 
     /// The count of operations waiting, unserved or served.
@@ -234,23 +283,36 @@ impl Store {
     pub fn quiet(&self) -> bool {
         let lanes = &self.lanes[..usize::from(self.n)];
         let idle = |l: &Lane| l.waiting.is_none() && l.returns.is_empty() && l.down.is_empty();
-        self.service.is_none() && lanes.iter().all(idle)
+        self.open_services() == 0 && lanes.iter().all(idle)
     }
 }
 
-/// Where a line that a grant fills goes in the use order.
+/// Which machine runs: where a line that a grant fills goes in the use order, and
+/// how many places and services there are.
 #[derive(Clone, Copy, PartialEq, Eq, Debug)]
 pub enum Rule {
-    /// Document 01's, before W3: every fill is a use.
+    /// Document 01's fills, before W3: every fill is a use. Services as W6 has them.
     FillsNewest,
-    /// W3's: a fill for a load goes in as the oldest, and is no use.
+    /// The machine of now. W3's fills: one for a load goes in as the oldest, and is
+    /// no use.
     LoadFillsOldest,
+    /// The machine before W6, with W3's fills: queues of 2 places, one service at
+    /// most, and no tape kind 08.
+    BeforeW6,
 }
 
 impl Rule {
     /// Whether the operation's fill is a use.
     pub fn fill_is_use(self, op: Op) -> bool {
         self == Rule::FillsNewest || !op.is_load()
+    }
+
+    /// The places of a queue.
+    pub fn places(self) -> usize {
+        match self {
+            Rule::BeforeW6 => PLACES_BEFORE_W6,
+            _ => PLACES,
+        }
     }
 }
 

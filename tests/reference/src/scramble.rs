@@ -23,6 +23,61 @@ pub fn service(n: u8, m: u8, rng: &mut Rng) -> Service {
     }
 }
 
+/// A block that is not in service, if there is one.
+pub fn block_not_in_service(s: &Store, rng: &mut Rng) -> Option<u8> {
+    let blocks: Vec<u8> = (0..s.m).filter(|&block| s.slot_of(block).is_none()).collect();
+    match blocks.is_empty() {
+        true => None,
+        false => Some(rng.pick(&blocks)),
+    }
+}
+
+/// A free slot: the lowest, or any.
+pub fn free_slot(s: &Store, rng: &mut Rng) -> Option<usize> {
+    let free: Vec<usize> = (0..SLOTS).filter(|&slot| s.slots[slot].is_none()).collect();
+    let lowest = *free.first()?;
+    let any = rng.pick(&free);
+    Some(rng.pick(&[lowest, any]))
+}
+
+/// A slot with a service, if there is one.
+pub fn busy_slot(s: &Store, rng: &mut Rng) -> Option<usize> {
+    let busy: Vec<usize> = (0..SLOTS).filter(|&slot| s.slots[slot].is_some()).collect();
+    match busy.is_empty() {
+        true => None,
+        false => Some(rng.pick(&busy)),
+    }
+}
+
+/// Opens services of blocks not in service, in any slots, until so many are open;
+/// fewer where there are too few blocks.
+pub fn open_services(s: &mut Store, count: usize, rng: &mut Rng) {
+    while s.open_services() < count {
+        let (block, slot) = match (block_not_in_service(s, rng), free_slot(s, rng)) {
+            (Some(block), Some(slot)) => (block, slot),
+            _ => return,
+        };
+        s.slots[slot] = Some(Service { block, ..service(s.n, s.m, rng) });
+    }
+}
+
+/// Closes services, any of them, until at most so many are open.
+pub fn drop_services(s: &mut Store, count: usize, rng: &mut Rng) {
+    while s.open_services() > count {
+        if let Some(slot) = busy_slot(s, rng) {
+            s.slots[slot] = None;
+        }
+    }
+}
+
+/// No service of the block, and fewer than L.
+pub fn make_servable(s: &mut Store, block: u8, rng: &mut Rng) {
+    if let Some(slot) = s.slot_of(block) {
+        s.slots[slot] = None;
+    }
+    drop_services(s, usize::from(s.limit) - 1, rng);
+}
+
 fn command(rng: &mut Rng) -> Command {
     rng.pick(&[Command::ReadShared, Command::ReadExclusive, Command::Exclude])
 }
@@ -57,14 +112,24 @@ pub fn down_places(m: u8, rng: &mut Rng) -> [Message<DownKind>; PLACES] {
     })
 }
 
+/// Short queues, and long ones.
+const LENGTHS: [[usize; PLACES + 1]; 6] = [
+    [8, 1, 1, 0, 0, 0, 0, 0, 0],
+    [1, 1, 1, 0, 0, 0, 0, 0, 0],
+    [1, 4, 1, 0, 0, 0, 0, 0, 0],
+    [1, 2, 6, 0, 0, 0, 0, 0, 0],
+    [2, 1, 1, 1, 1, 1, 1, 1, 1],
+    [2, 1, 0, 0, 0, 0, 1, 2, 6],
+];
+
 /// Likelihoods, in percent, of one random store.
 struct Mood {
     valid: usize,
     private: usize,
     present: usize,
     waiting: usize,
-    /// Weights of queue lengths 0, 1 and 2.
-    lengths: [usize; 3],
+    /// Weights of queue lengths, from 0 on.
+    lengths: [usize; PLACES + 1],
 }
 
 impl Mood {
@@ -74,7 +139,7 @@ impl Mood {
             private: rng.pick(&[0, 50, 100]),
             present: rng.pick(&[0, 20, 60, 100]),
             waiting: rng.pick(&[20, 60, 95]),
-            lengths: rng.pick(&[[8, 1, 1], [1, 1, 1], [1, 4, 1], [1, 2, 6]]),
+            lengths: rng.pick(&LENGTHS),
         }
     }
 }
@@ -91,9 +156,11 @@ pub fn store(rng: &mut Rng) -> Store {
 pub fn filled(mut s: Store, rng: &mut Rng) -> Store {
     let (c, m) = (s.c, s.m);
     let mood = Mood::random(rng);
-    if rng.chance(50) {
-        s.service = Some(service(s.n, m, rng));
-    }
+    let any = rng.between(1, SLOTS) as u8;
+    s.limit = rng.pick(&[1, any, any, 8]);
+    let any = rng.between(1, usize::from(s.limit));
+    let open = rng.pick(&[0, 0, 1, any, usize::from(s.limit)]);
+    open_services(&mut s, open, rng);
     let n = usize::from(s.n);
     s.lanes[..n].iter_mut().for_each(|each| *each = lane(c, m, &mood, rng));
     s.blocks[..usize::from(m)].iter_mut().for_each(|each| *each = block(n, &mood, rng));
@@ -178,7 +245,7 @@ fn junk_line(rng: &mut Rng) -> Line {
 
 fn junk_lane(rng: &mut Rng) -> Lane {
     let any = rng.byte();
-    let length = |rng: &mut Rng| rng.pick(&[0, 1, 2, 2, 3, any]);
+    let length = |rng: &mut Rng| rng.pick(&[0, 1, 2, 8, 9, any]);
     Lane {
         lines: std::array::from_fn(|_| junk_line(rng)),
         order: std::array::from_fn(|_| rng.byte()),

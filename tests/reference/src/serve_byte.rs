@@ -9,15 +9,16 @@ use crate::parts::{LANES, PLACES};
 use std::fmt::{self, Display, Formatter};
 
 // Where the parts are in the bytes of a store, of a lane and of a block.
-const CONTROL: usize = 7;
-const CONTROL_BYTES: usize = 6;
-const FIRST_LANE: usize = 13;
-const LANE_BYTES: usize = 242;
-const DOWN: usize = 197;
-const DOWN_BYTES: usize = 37;
+const FIRST_SLOT: usize = 8;
+const SLOT_BYTES: usize = 6;
+const SLOTS: usize = 8;
+const FIRST_LANE: usize = 56;
+const LANE_BYTES: usize = 458;
+const DOWN: usize = 305;
+const DOWN_BYTES: usize = 145;
 const MESSAGE_BYTES: usize = 18;
-const WAITING: usize = 234;
-const FIRST_BLOCK: usize = 1_949;
+const WAITING: usize = 450;
+const FIRST_BLOCK: usize = 3_720;
 const BLOCK_BYTES: usize = 25;
 const PRESENT: usize = 16;
 const MODIFIED: usize = 24;
@@ -43,6 +44,10 @@ const NAMED: usize = 20;
 
 fn lane(store: &[u8], j: usize) -> &[u8] {
     &store[FIRST_LANE + j * LANE_BYTES..][..LANE_BYTES]
+}
+
+fn slot(store: &[u8], i: usize) -> &[u8] {
+    &store[FIRST_SLOT + i * SLOT_BYTES..][..SLOT_BYTES]
 }
 
 fn down(store: &[u8], j: usize) -> &[u8] {
@@ -103,14 +108,26 @@ impl Taken<'_> {
         }
     }
 
-    /// With orders the control has the service, which awaits so many; else it is free.
-    fn hold_control(&self, control: &[u8], orders: u8) -> Result<(), String> {
-        if orders == 0 {
-            return demand(control == [0; CONTROL_BYTES], "no orders, but the control is not free");
+    /// With orders the lowest free slot has the service, which awaits so many; all
+    /// other slots, and without orders all, are as before.
+    fn hold_slots(&self, before: &[u8], after: &[u8], orders: u8) -> Result<(), String> {
+        let free = (0..SLOTS).find(|&i| slot(before, i)[0] != BUSY_TAG);
+        let own = free.filter(|_| orders > 0);
+        for i in (0..SLOTS).filter(|&i| Some(i) != own) {
+            let same = slot(before, i) == slot(after, i);
+            demand(same, &format!("{orders} orders, but slot {i} is another"))?;
         }
-        let (tag, lane, block, awaited) = (control[0], control[1], control[2], control[4]);
+        match own {
+            Some(i) => self.hold_service(slot(after, i), orders),
+            None => demand(orders == 0, &format!("{orders} orders, but no slot was free")),
+        }
+    }
+
+    /// The service in its slot awaits so many answers.
+    fn hold_service(&self, slot: &[u8], orders: u8) -> Result<(), String> {
+        let (tag, lane, block, awaited) = (slot[0], slot[1], slot[2], slot[4]);
         let own = (tag, lane, block) == (BUSY_TAG, self.k, self.block);
-        demand(own, &format!("{orders} orders, but the control has no service of this"))?;
+        demand(own, &format!("{orders} orders, but the slot has no service of this"))?;
         demand(awaited == orders, &format!("{orders} orders, but awaited is {awaited}"))
     }
 }
@@ -155,8 +172,7 @@ fn hold(before: &[u8], k: u8, after: &[u8]) -> Result<u8, String> {
         let text = format!("byte {byte:08b}, lane {j} gained {gained:?}, due is {due:?}");
         demand(gained == due, &text)?;
     }
-    let control = &after[CONTROL..][..CONTROL_BYTES];
-    let told = taken.hold_control(control, byte.count_ones() as u8);
+    let told = taken.hold_slots(before, after, byte.count_ones() as u8);
     told.map_err(|text| format!("byte {byte:08b}, {text}"))?;
     Ok(byte)
 }

@@ -1,6 +1,6 @@
-//! Makes serves that come as far as their orders or their grant: the control is
-//! free, the lane waits unserved and its return queue is empty. Serve `index`
-//! depends on the seed and the index only.
+//! Makes serves that come as far as their orders or their grant: the block is not in
+//! service and fewer than L services are open, the lane waits unserved and its return
+//! queue is empty. Serve `index` depends on the seed and the index only.
 
 use crate::held::HeldCall;
 use crate::parts::*;
@@ -26,15 +26,13 @@ pub fn call(k: u8) -> HeldCall {
     HeldCall::Machine(Call::Serve(k))
 }
 
-/// A random store with lanes for so many orders, and the control free.
+/// A random store with lanes for so many orders.
 fn store(orders: usize, rng: &mut Rng) -> Store {
     let n = rng.between((orders + 1).max(2), LANES);
     let (any_c, any_m) = (rng.between(1, 8), rng.between(1, 64));
     let c = rng.pick(&[1, 2, any_c, any_c]);
     let m = rng.pick(&[1, 2, 3, any_m, any_m, 64]);
-    let mut s = scramble::filled(Store::fresh(n as u8, c as u8, m as u8), rng);
-    s.service = None;
-    s
+    scramble::filled(Store::fresh(n as u8, c as u8, m as u8), rng)
 }
 
 /// Lane k waits with any command, and the block's flags are such that so many
@@ -48,6 +46,7 @@ fn ask(s: &mut Store, k: u8, orders: usize, rng: &mut Rng) -> Vec<u8> {
     }
     let lane = &mut s.lanes[usize::from(k)];
     (lane.waiting, lane.returns.length) = (Some(waiting), 0);
+    scramble::make_servable(s, waiting.block(), rng);
     let any_count = rng.below(usize::from(s.n));
     let others = others(s.n, k, if is_quiet { any_count } else { orders }, rng);
     let must_update = orders > 0 && waiting.command == Command::ReadShared;
@@ -78,7 +77,8 @@ fn set_lengths(s: &mut Store, k: u8, ordered: &[u8], rng: &mut Rng) {
         false => Vec::new(),
     };
     for j in 0..s.n {
-        let room = rng.pick(&[0, 1]);
+        let any = rng.byte_below(PLACES as u8);
+        let room = rng.pick(&[0, 1, any, PLACES as u8 - 1]);
         let length = if full.contains(&j) { PLACES as u8 } else { room };
         s.lanes[usize::from(j)].down.length = length;
     }

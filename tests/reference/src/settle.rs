@@ -17,9 +17,9 @@ pub fn settle(store: &Store) -> Result<(Store, Settled), u8> {
     settle_under(store, Rule::LoadFillsOldest)
 }
 
-/// The same under either rule.
+/// The same under any rule.
 pub fn settle_under(store: &Store, rule: Rule) -> Result<(Store, Settled), u8> {
-    if machine::corrupt(store) {
+    if machine::corrupt_under(store, rule) {
         return Err(CORRUPT);
     }
     let (mut after, mut given) = (store.clone(), Settled::default());
@@ -40,7 +40,7 @@ fn take_step(s: &mut Store, given: &mut Settled, rule: Rule) -> Result<(), u8> {
 }
 
 /// The counts of steps and completions before the end or the refusal, of a
-/// store that is not corrupt; they are the same under either rule.
+/// store that is not corrupt; they are the same under either rule of fills.
 pub fn before_refusal(store: &Store) -> (u32, usize) {
     let (mut after, mut given) = (store.clone(), Settled::default());
     let rule = Rule::LoadFillsOldest;
@@ -61,14 +61,14 @@ pub fn next_step(s: &Store) -> Option<Call> {
 /// 01's bound on the steps: R + G + 2 × Q + S + 2 × n × U.
 pub fn bound(s: &Store) -> u32 {
     let lanes = &s.lanes[..usize::from(s.n)];
-    let service = u32::from(s.service.is_some());
-    service + lanes.iter().map(|lane| lane_share(lane, s.n)).sum::<u32>()
+    let services = s.open_services() as u32;
+    services + lanes.iter().map(|lane| lane_share(lane, s.n)).sum::<u32>()
 }
 
 /// What a lane adds to the bound.
 fn lane_share(lane: &Lane, n: u8) -> u32 {
-    let down = &lane.down.places[..usize::from(lane.down.length)];
-    let orders = down.iter().filter(|message| message.kind.is_order()).count() as u32;
+    let down = lane.down.messages().iter();
+    let orders = down.filter(|message| message.kind.is_order()).count() as u32;
     let grants = u32::from(lane.down.length) - orders;
     let unserved = u32::from(lane.unserved());
     u32::from(lane.returns.length) + grants + 2 * orders + 2 * u32::from(n) * unserved

@@ -55,8 +55,10 @@ fn begin(s: &Store, lane: &Lane, block: u8, answer: Answer, situation: usize) ->
 
 fn serve(s: &Store, k: u8, situation: usize) -> bool {
     let (after, _) = machine::call(s, Call::Serve(k)).expect("not refused");
-    let orders = after.service.map_or(0, |service| service.awaited);
-    let shared = after.service.map_or(false, |v| v.command == Command::ReadShared);
+    let block = s.lanes[usize::from(k)].waiting.map(|w| w.block());
+    let service = block.and_then(|block| after.service_of(block));
+    let orders = service.map_or(0, |service| service.awaited);
+    let shared = service.map_or(false, |v| v.command == Command::ReadShared);
     match situation {
         3 => orders > 0 && s.lanes[usize::from(k)].down.is_full(),
         _ => orders > 1 && shared,
@@ -65,13 +67,13 @@ fn serve(s: &Store, k: u8, situation: usize) -> bool {
 
 fn take_return(s: &Store, k: u8, situation: usize) -> bool {
     let message = s.lanes[usize::from(k)].returns.places[0];
-    let service = match s.service {
+    let service = match s.service_of(message.block) {
         Some(service) => service,
         None => return false,
     };
     let answer = message.kind.is_answer();
     match situation {
-        5 => !answer && service.block == message.block,
+        5 => !answer,
         6 => !answer && service.awaited == 0,
         7 => answer && service.awaited == 1 && service.lane == k,
         _ => answer && service.awaited > 1,

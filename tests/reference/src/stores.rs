@@ -2,7 +2,7 @@
 //! and the index only.
 
 use crate::conditions;
-use crate::damage::{Damage, CORRUPTING, FAIR};
+use crate::damage::{self, Damage, CORRUPTING, FAIR};
 use crate::held::{HeldCall, BUFFER_BYTES};
 use crate::load_maker;
 use crate::machine;
@@ -10,6 +10,7 @@ use crate::order_maker;
 use crate::parts::*;
 use crate::rng::Rng;
 use crate::scramble;
+use crate::service_maker;
 use crate::walk::{self, Style};
 
 pub struct Case {
@@ -21,8 +22,15 @@ pub struct Case {
     pub damages: Vec<&'static str>,
 }
 
-pub const SOURCES: [&str; 6] =
-    ["reached", "reached, damaged", "random", "random, damaged", FOR_THE_ORDER, BESIDE_A_WAIT];
+pub const SOURCES: [&str; 7] = [
+    "reached",
+    "reached, damaged",
+    "random",
+    "random, damaged",
+    FOR_THE_ORDER,
+    BESIDE_A_WAIT,
+    OF_SERVICES,
+];
 
 /// The source of cases whose completions move lines in the use order.
 pub const FOR_THE_ORDER: &str = "for the use order";
@@ -30,9 +38,18 @@ pub const FOR_THE_ORDER: &str = "for the use order";
 /// The source of begins on lanes that wait.
 pub const BESIDE_A_WAIT: &str = "beside a wait";
 
+/// The source of cases of several services, the limit and long queues.
+pub const OF_SERVICES: &str = "of services";
+
+/// One case in so many is of services.
+const SERVICES_EVERY: usize = 8;
+
 /// A step that finds nothing gives way: a serve or deliver to a case of the use
 /// order, a return to a begin on a lane that waits.
 pub fn make(seed: u64, index: usize) -> Case {
+    if index % SERVICES_EVERY == SERVICES_EVERY - 1 {
+        return of_services(seed, index);
+    }
     let case = of_any_call(seed, index);
     match case.call {
         HeldCall::Machine(Call::Serve(_) | Call::Deliver(_)) if finds_nothing(&case, 2) => {
@@ -48,6 +65,12 @@ pub fn make(seed: u64, index: usize) -> Case {
 fn finds_nothing(case: &Case, lines: u8) -> bool {
     let (s, call) = (&case.store, case.call);
     s.c >= lines && conditions::all(s, call) == [machine::NOTHING_PENDING]
+}
+
+fn of_services(seed: u64, index: usize) -> Case {
+    let mut rng = Rng::stream(seed ^ 0x736c_6f73, index as u64);
+    let (store, call) = service_maker::make_any(&mut rng);
+    Case { store, call, source: OF_SERVICES, damages: Vec::new() }
 }
 
 fn beside_a_wait(seed: u64, index: usize) -> Case {
@@ -93,7 +116,9 @@ pub fn reached(rng: &mut Rng) -> (Store, HeldCall) {
     let (any_c, any_m) = (rng.between(1, 8), rng.between(1, 64));
     let c = rng.pick(&[1, 2, any_c]) as u8;
     let m = rng.pick(&[1, 2, 3, any_m, 64]) as u8;
-    let mut s = machine::open(rng.between(2, 8) as u8, c, m).expect("shape in range");
+    let (any, n) = (rng.between(1, SLOTS) as u8, rng.between(2, 8) as u8);
+    let limit = rng.pick(&[1, any, any, 8]);
+    let mut s = machine::open_with_limit(n, c, m, limit).expect("shape in range");
     let style = match rng.chance(20) {
         true => Style::sharing(&s, rng),
         false => Style::random(&s, rng),
@@ -109,9 +134,9 @@ pub fn reached(rng: &mut Rng) -> (Store, HeldCall) {
         }
     }
     let call = match rng.below(100) {
-        0..=9 => picture_call(&s, rng),
-        10..=24 => settle_call(&mut s, rng),
-        25..=64 => HeldCall::Machine(walk::next_call(&s, &style, rng)),
+        0..=11 => picture_call(&s, rng),
+        12..=27 => settle_call(&mut s, rng),
+        28..=64 => HeldCall::Machine(walk::next_call(&s, &style, rng)),
         _ => any_call(&s, rng),
     };
     (s, call)
@@ -127,8 +152,8 @@ fn waits(s: &Store, call: Call) -> bool {
 fn random(rng: &mut Rng) -> (Store, HeldCall) {
     let mut s = scramble::store(rng);
     let call = match rng.below(100) {
-        0..=7 => picture_call(&s, rng),
-        8..=15 => settle_call(&mut s, rng),
+        0..=9 => picture_call(&s, rng),
+        10..=18 => settle_call(&mut s, rng),
         _ => any_call(&s, rng),
     };
     if let HeldCall::Machine(call) = call {
@@ -170,14 +195,13 @@ fn settle_call(s: &mut Store, rng: &mut Rng) -> HeldCall {
     match rng.below(10) {
         // A service that is never answered: 10 or stuck.
         0 | 1 => {
-            let fresh = scramble::service(n, m, rng);
-            let service = s.service.get_or_insert(fresh);
+            let service = damage::any_service(s, rng);
             service.awaited = rng.pick(&[0, (service.awaited + 1).min(n - 1), n - 1]);
         }
         // An order to a lane with a full return queue: 12.
         2 => {
             let places = scramble::return_places(m, rng);
-            s.lanes[k].returns = Queue { length: 2, places };
+            s.lanes[k].returns = Queue { length: PLACES as u8, places };
             let kind = rng.pick(&[DownKind::Update, DownKind::Purge]);
             let order = Message { kind, block: rng.byte_below(m), words: [0; 4] };
             s.lanes[k].down.push(order);
@@ -219,7 +243,7 @@ fn toward_begin(s: &mut Store, k: usize, word: u8, rng: &mut Rng) {
         s.lanes.iter_mut().for_each(|lane| lane.waiting = None);
     }
     let lane = &mut s.lanes[k];
-    if rng.chance(70) {
+    if rng.chance(55) {
         lane.waiting = None;
     }
     if rng.chance(40) {
@@ -231,7 +255,8 @@ fn toward_begin(s: &mut Store, k: usize, word: u8, rng: &mut Rng) {
             }
         }
         if rng.chance(75) {
-            lane.returns = Queue { length: 2, places: scramble::return_places(m, rng) };
+            let places = scramble::return_places(m, rng);
+            lane.returns = Queue { length: PLACES as u8, places };
         }
     } else if word / 4 < m && rng.chance(50) {
         let line = &mut lane.lines[rng.below(c)];
@@ -244,14 +269,30 @@ fn toward_serve(s: &mut Store, k: usize, rng: &mut Rng) {
         let fresh = scramble::waiting(s.m, rng);
         s.lanes[k].waiting.get_or_insert(fresh).served = false;
     }
-    if rng.chance(65) {
-        s.service = None;
+    if let Some(waiting) = s.lanes[k].waiting {
+        toward_slot(s, waiting.block(), rng);
     }
     if rng.chance(65) {
         s.lanes[k].returns.length = 0;
     }
     if rng.chance(30) {
         toward_orders(s, k, rng);
+    }
+}
+
+/// Mostly room for a service of the block; else the block is in service, or L
+/// services are open.
+fn toward_slot(s: &mut Store, block: u8, rng: &mut Rng) {
+    match rng.below(100) {
+        0..=64 => scramble::make_servable(s, block, rng),
+        65..=76 => {
+            scramble::make_servable(s, block, rng);
+            if let Some(slot) = scramble::free_slot(s, rng) {
+                s.slots[slot] = Some(Service { block, ..scramble::service(s.n, s.m, rng) });
+            }
+        }
+        77..=88 => scramble::open_services(s, usize::from(s.limit), rng),
+        _ => {}
     }
 }
 
@@ -267,21 +308,24 @@ fn toward_orders(s: &mut Store, k: usize, rng: &mut Rng) {
     for j in 0..n {
         entry.present[j] = rng.chance(70);
         let length = &mut s.lanes[j].down.length;
-        *length = if j == k { 2 } else { rng.pick(&[0, 0, 1]) };
+        *length = if j == k { PLACES as u8 } else { rng.pick(&[0, 0, 1, 7]) };
     }
 }
 
 fn toward_return(s: &mut Store, k: usize, rng: &mut Rng) {
-    let (n, m) = (s.n, s.m);
     let queue = &mut s.lanes[k].returns;
     if queue.is_empty() {
-        *queue = Queue { length: 1, places: scramble::return_places(m, rng) };
+        *queue = Queue { length: 1, places: scramble::return_places(s.m, rng) };
     }
+    let block = queue.places[0].block;
     if rng.chance(85) {
-        let fresh = scramble::service(n, m, rng);
-        let service = s.service.get_or_insert(fresh);
-        if rng.chance(75) {
-            service.block = queue.places[0].block;
+        let own = rng.chance(75) && s.slot_of(block).is_none();
+        let service = match s.slot_of(block) {
+            Some(slot) => s.slots[slot].as_mut().expect("an open service"),
+            None => damage::any_service(s, rng),
+        };
+        if own {
+            service.block = block;
         }
         service.awaited = rng.pick(&[1, 1, 1, service.awaited]);
     }
@@ -346,7 +390,7 @@ fn toward_fit(lane: &mut Lane, c: u8, rng: &mut Rng) {
 
 type Damages = Vec<&'static Damage>;
 
-/// Some fair damage, some corrupting, or both. Damage to n, c and m is last:
+/// Some fair damage, some corrupting, or both. Damage to n, c, m and L is last:
 /// the others need them in range.
 fn choose_damage(rng: &mut Rng) -> (Damages, Damages) {
     let is_corrupting = rng.chance(60);
@@ -354,7 +398,10 @@ fn choose_damage(rng: &mut Rng) -> (Damages, Damages) {
     let fair = (0..rng.weighted(&[none, 4, 2])).map(|_| &FAIR[rng.below(FAIR.len())]).collect();
     let mut corrupting = Vec::new();
     if is_corrupting {
-        let (inner, any) = (rng.between(6, CORRUPTING.len() - 1), rng.below(CORRUPTING.len()));
+        let last = CORRUPTING.len() - 1;
+        let (inner, any) = (rng.between(8, last), rng.between(0, last));
+        // The last, W1's, can come with all calls and be met in many ways.
+        let any = if rng.chance(6) { last } else { any };
         if rng.chance(20) {
             corrupting.push(&CORRUPTING[inner]);
         }

@@ -8,6 +8,8 @@ use crate::orders;
 use crate::parts::*;
 use crate::pictures;
 use crate::places;
+use crate::service_faults;
+use crate::services;
 use crate::settle;
 use crate::situations;
 use crate::stores::{Case, SOURCES};
@@ -15,10 +17,11 @@ use crate::tape::{self, Event, Outcome, Record};
 use std::collections::{BTreeMap, BTreeSet};
 use std::fmt::{self, Display, Formatter};
 
-const KINDS: [&str; 8] = ["open", "load", "store", "exchange", "add", "serve", "return", "deliver"];
+const KINDS: [&str; 9] =
+    ["open", "load", "store", "exchange", "add", "serve", "return", "deliver", "open with L"];
 
 /// Numbers that a tape can give if the machine lets it.
-const TAPE_NUMBERS: [u8; 16] = [1, 2, 3, 4, 5, 6, 7, 8, 9, 10, 11, 12, 13, 14, 16, 17];
+const TAPE_NUMBERS: [u8; 17] = [1, 2, 3, 4, 5, 6, 7, 8, 9, 10, 11, 12, 13, 14, 16, 17, 18];
 
 /// Counts over tapes.
 #[derive(Default)]
@@ -32,6 +35,13 @@ pub struct Tapes {
     pub highest_place: u32,
     /// Those with a load done beside a wait.
     pub beside: usize,
+    /// Records of kind 08, by what they gave; accepted ones by L.
+    pub limit_opens: BTreeMap<String, usize>,
+    /// Serves refused by 10, by why.
+    pub busy: BTreeMap<&'static str, usize>,
+    /// Records after which so many services are open.
+    pub open_services: BTreeMap<usize, usize>,
+    pub longest_queue: u8,
     bytes: usize,
     empty: usize,
     kinds: BTreeMap<&'static str, usize>,
@@ -69,6 +79,7 @@ impl Tapes {
             }
         };
         *self.answers.entry(answer).or_default() += 1;
+        self.see_services(event);
         match (event.record, event.outcome, event.before, event.after) {
             (_, Outcome::Open, _, Some(s)) => {
                 self.shapes.insert((s.n, s.c, s.m));
@@ -79,6 +90,46 @@ impl Tapes {
             _ => {}
         }
     }
+}
+
+/// Why 10 refuses a serve.
+pub const BUSY: [&str; 3] = ["the block alone", "L alone", "both"];
+
+/// Of a store in which 10 refuses a serve of lane k.
+pub fn busy_for(s: &Store, k: u8) -> &'static str {
+    let waiting = s.lanes[usize::from(k)].waiting.expect("an unserved operation");
+    let in_service = s.slot_of(waiting.block()).is_some();
+    match (in_service, s.open_services() >= usize::from(s.limit)) {
+        (true, false) => BUSY[0],
+        (false, _) => BUSY[1],
+        (true, true) => BUSY[2],
+    }
+}
+
+impl Tapes {
+    /// W6's: openings of kind 08, services open at once, 10, long queues.
+    fn see_services(&mut self, event: &Event) {
+        let opened = match (event.kind, event.outcome, event.after) {
+            (0x08, Outcome::Open, Some(s)) => Some(format!("open with L {}", s.limit)),
+            (0x08, Outcome::Refused(number), _) => Some(format!("refused {number}")),
+            _ => None,
+        };
+        opened.into_iter().for_each(|name| *self.limit_opens.entry(name).or_default() += 1);
+        if let (Some(Record::Call(Call::Serve(k))), Outcome::Refused(10), Some(s)) =
+            (event.record, event.outcome, event.before)
+        {
+            *self.busy.entry(busy_for(s, k)).or_default() += 1;
+        }
+        if let Some(s) = event.after {
+            *self.open_services.entry(s.open_services()).or_default() += 1;
+            self.longest_queue = self.longest_queue.max(longest_queue(s));
+        }
+    }
+}
+
+/// The length of the longest queue.
+pub fn longest_queue(s: &Store) -> u8 {
+    service_faults::lengths(s).into_iter().max().unwrap_or(0)
 }
 
 fn pairs<K: Display>(map: &BTreeMap<K, usize>) -> String {
@@ -98,6 +149,10 @@ impl Display for Tapes {
         writeln!(f, "answers: {}", pairs(&self.answers))?;
         writeln!(f, "highest place {}", self.highest_place)?;
         writeln!(f, "tapes with a load done beside a wait {}", self.beside)?;
+        writeln!(f, "kind 08: {}", pairs(&self.limit_opens))?;
+        writeln!(f, "10 for: {}", pairs(&self.busy))?;
+        writeln!(f, "records by services open after: {}", pairs(&self.open_services))?;
+        writeln!(f, "longest queue {}", self.longest_queue)?;
         writeln!(f, "refusals: {}", pairs(&self.refused))?;
         let never = TAPE_NUMBERS.iter().filter(|number| !self.refused.contains_key(number));
         let never: Vec<String> = never.map(u8::to_string).collect();
@@ -135,6 +190,8 @@ pub struct Cases {
     pub orders: BTreeMap<&'static str, usize>,
     /// Begins on lanes that wait.
     pub beside: BTreeMap<&'static str, usize>,
+    /// Services, the limit and long queues.
+    pub services: BTreeMap<&'static str, usize>,
     /// Settles that were not refused, by the count of completions.
     pub settled: BTreeMap<usize, usize>,
     /// Refused settles, by the reason of 14 and of 16.
@@ -164,6 +221,9 @@ impl Cases {
         }
         for name in beside::met(&case.store, case.call, answer) {
             *self.beside.entry(name).or_default() += 1;
+        }
+        for name in services::met(&case.store, case.call, answer) {
+            *self.services.entry(name).or_default() += 1;
         }
         let reasons = conditions::corrupt_reasons(&case.store);
         add_reasons(&mut self.reasons, &reasons);
@@ -267,6 +327,8 @@ impl Display for Cases {
         fmt_counts(f, &orders::NAMES, &self.orders)?;
         writeln!(f, "begins on lanes that wait:")?;
         fmt_counts(f, &beside::NAMES, &self.beside)?;
+        writeln!(f, "services, the limit and long queues:")?;
+        fmt_counts(f, &services::names(), &self.services)?;
         for kind in HELD_KINDS {
             writeln!(f, "{}:{}", kind_name(kind), self.answers_of(kind))?;
         }

@@ -2,6 +2,7 @@
 //! records do something. Tape `index` depends on the seed and the index only.
 
 use crate::list_maker::SHAPES;
+use crate::machine::HIGHEST_KIND;
 use crate::parts::*;
 use crate::rng::Rng;
 use crate::tape::{self, body_length, Record, LONGEST};
@@ -24,7 +25,7 @@ pub enum Role {
         kept: usize,
         opened: bool,
     },
-    /// Ends in a kind above 07, perhaps with bytes after it.
+    /// Ends in a kind above the highest, perhaps with bytes after it.
     Unknown {
         kind: u8,
         followed: bool,
@@ -38,13 +39,42 @@ pub enum Role {
     RandomBytes,
     /// Eight lanes share a few blocks.
     Sharing,
+    /// Opens of kinds 00 and 08, accepted and refused, then any records.
+    Opens(Opens),
+    /// Many services at once, with this L.
+    Services {
+        limit: u8,
+    },
     /// Lanes that wait load often.
     Beside,
     General,
 }
 
+/// Opens at the beginning of a tape.
+#[derive(Clone, Copy, PartialEq, Eq, Debug)]
+pub enum Opens {
+    /// Kind 08 with this L.
+    Limit(u8),
+    /// L is above n, and above m.
+    LimitAboveAll,
+    /// Each is refused by 4: 08 after 00, 00 after 08, 08 after 08.
+    LimitAfterOpen,
+    OpenAfterLimit,
+    LimitAfterLimit,
+    /// 08, refused by 5; with an L outside too.
+    InvalidShape,
+    InvalidShapeAndLimit,
+    /// 08, refused by 18.
+    InvalidLimit(u8),
+    /// 08, refused by 5 or 18, then 08 or 00.
+    LimitAfterRefused,
+    OpenAfterRefused,
+    /// 00, refused by 5, then 08.
+    LimitAfterRefusedOpen,
+}
+
 /// Roles repeat after so many tapes.
-pub const CYCLE: usize = 300;
+pub const CYCLE: usize = 400;
 
 /// So many tapes at the end of a cycle are Beside.
 const BESIDE: usize = 8;
@@ -55,13 +85,25 @@ fn special_roles() -> Vec<Role> {
     roles.extend([LONGEST - 1, LONGEST, LONGEST + 1].into_iter().flat_map(sized_roles));
     roles.push(Role::Sized { bytes: 100_000, truncated: false });
     roles.extend([true, false].into_iter().flat_map(truncated_roles));
-    let above = [0x08, 0x09, 0x0f, 0x10, 0x11, 0x80, 0xff];
+    let above = [0x09, 0x0a, 0x0f, 0x10, 0x11, 0x80, 0xff];
     roles.extend(above.into_iter().flat_map(unknown_roles));
     roles.extend([Role::Damaged; 24]);
     roles.extend([Role::NotOpen; 8]);
     roles.extend([Role::RandomBytes; 8]);
     roles.extend([Role::Sharing; 8]);
+    roles.extend(opens().into_iter().map(Role::Opens));
+    roles.extend((0..24).map(|i| Role::Services { limit: 1 + i % 8 }));
     roles
+}
+
+/// Every way to open, or not to.
+fn opens() -> Vec<Opens> {
+    use Opens::*;
+    let mut opens: Vec<Opens> = (1..=8).map(Limit).collect();
+    opens.extend([LimitAboveAll, LimitAfterOpen, OpenAfterLimit, LimitAfterLimit, InvalidShape]);
+    opens.extend([InvalidShapeAndLimit, InvalidLimit(0), InvalidLimit(9), InvalidLimit(255)]);
+    opens.extend([LimitAfterRefused, OpenAfterRefused, LimitAfterRefusedOpen]);
+    opens
 }
 
 fn sized_roles(bytes: usize) -> [Role; 2] {
@@ -72,7 +114,7 @@ fn sized_roles(bytes: usize) -> [Role; 2] {
 fn truncated_roles(opened: bool) -> Vec<Role> {
     let lengths = |kind| 0..body_length(kind).expect("known kind");
     let of_kind = |kind| lengths(kind).map(move |kept| Role::Truncated { kind, kept, opened });
-    (0..=7).flat_map(of_kind).collect()
+    (0..=HIGHEST_KIND).flat_map(of_kind).collect()
 }
 
 fn unknown_roles(kind: u8) -> [Role; 3] {
@@ -108,13 +150,15 @@ pub fn make(seed: u64, index: usize) -> Vec<u8> {
         Role::NotOpen => not_open(rng),
         Role::RandomBytes => random_bytes(rng),
         Role::Sharing => sharing(rng),
+        Role::Opens(how) => opened_so(rng, how),
+        Role::Services { limit } => services(rng, limit),
         Role::Beside => beside(rng),
         Role::General => general(rng, rank),
     }
 }
 
 fn random_bytes(mut rng: Rng) -> Vec<u8> {
-    (0..rng.between(2_000, 8_000)).map(|_| rng.byte_below(8)).collect()
+    (0..rng.between(2_000, 8_000)).map(|_| rng.byte_below(HIGHEST_KIND + 1)).collect()
 }
 
 pub type Shape = (u8, u8, u8);
@@ -156,6 +200,10 @@ fn bad_shape(rng: &mut Rng) -> Shape {
     }
 }
 
+fn bad_limit(rng: &mut Rng) -> u8 {
+    rng.pick(&[0, 0, 9, 9, 10, 128, 255])
+}
+
 struct Builder {
     bytes: Vec<u8>,
     store: Option<Store>,
@@ -181,12 +229,36 @@ impl Builder {
         self.record(Record::Open { n, c, m });
     }
 
+    fn open_limit(&mut self, (n, c, m): Shape, limit: u8) {
+        self.record(Record::OpenLimit { n, c, m, limit });
+    }
+
+    /// By kind 00 or 08.
+    fn open_any(&mut self, shape: Shape) {
+        let limit = self.rng.between(1, SLOTS) as u8;
+        match self.rng.chance(40) {
+            true => self.open(shape),
+            false => self.open_limit(shape, limit),
+        }
+    }
+
+    /// An open of either kind that is refused by 5 or 18.
+    fn refused_open(&mut self) {
+        let (bad, good) = (bad_shape(&mut self.rng), small_shape(&mut self.rng));
+        let (limit, any) = (bad_limit(&mut self.rng), self.rng.between(1, SLOTS) as u8);
+        let pick = self.rng.pick(&[limit, any]);
+        match self.rng.below(4) {
+            0 | 1 => self.open(bad),
+            2 => self.open_limit(bad, pick),
+            _ => self.open_limit(good, limit),
+        }
+    }
+
     /// Records before the open, refused one and all.
     fn prelude(&mut self, records: usize) {
         for _ in 0..records {
             if self.rng.chance(40) {
-                let shape = bad_shape(&mut self.rng);
-                self.open(shape);
+                self.refused_open();
             } else {
                 let like = Store::fresh(8, 8, 64);
                 let call = walk::odd_call(&like, &mut self.rng);
@@ -201,14 +273,20 @@ impl Builder {
             let records = self.rng.between(1, 6);
             self.prelude(records);
         }
-        self.open(shape);
+        self.open_any(shape);
     }
 
     fn next_record(&mut self, style: &Style) -> Record {
         let rng = &mut self.rng;
         if rng.below(400) == 0 {
             let (n, c, m) = if rng.chance(50) { bad_shape(rng) } else { small_shape(rng) };
-            return Record::Open { n, c, m };
+            let limit = rng.below(10) as u8;
+            // Tapes that kind 00 opened mostly stay without a record of kind 08.
+            let limited = self.store.as_ref().map_or(false, |s| s.limit > 1);
+            return match limited && rng.chance(50) {
+                true => Record::OpenLimit { n, c, m, limit },
+                false => Record::Open { n, c, m },
+            };
         }
         let store = self.store.as_ref().expect("open store");
         let load = match self.beside > 0 && rng.chance(self.beside) {
@@ -268,6 +346,40 @@ impl Builder {
             let call = self.rng.pick(&possible);
             self.record(Record::Call(call));
         }
+    }
+
+    /// Many lanes load the same blocks, as many as a lane has lines; the first of them.
+    fn share_blocks(&mut self) -> u8 {
+        let (n, c, m) = self.store.as_ref().map_or((2, 1, 1), |s| (s.n, s.c, s.m));
+        let first = self.rng.byte_below(m);
+        for block in 0..c.min(m) {
+            for lane in 0..n {
+                let word = 4 * ((first + block) % m) + self.rng.byte_below(4);
+                if self.rng.chance(80) {
+                    self.record(Record::Call(Call::Begin { lane, op: Op::Load, word }));
+                }
+            }
+            self.drain();
+        }
+        first
+    }
+
+    /// Each lane writes to a block of these, or any; then all are served in any
+    /// order, as far as 10 lets.
+    fn write_and_serve(&mut self, first: u8) {
+        let (n, c, m) = self.store.as_ref().map_or((2, 1, 1), |s| (s.n, s.c, s.m));
+        let any_share = self.rng.pick(&[0, 10, 40]);
+        let mut lanes: Vec<u8> = (0..n).collect();
+        crate::scramble::permute(&mut lanes, &mut self.rng);
+        for &lane in &lanes {
+            let block = match self.rng.chance(any_share) {
+                true => self.rng.byte_below(m),
+                false => (first + lane % c) % m,
+            };
+            let (op, word) = (walk::write_op(&mut self.rng), 4 * block + self.rng.byte_below(4));
+            self.record(Record::Call(Call::Begin { lane, op, word }));
+        }
+        lanes.into_iter().for_each(|lane| self.record(Record::Call(Call::Serve(lane))));
     }
 
     /// Records of any kind up to 16 bytes before so many, or a little past.
@@ -390,8 +502,79 @@ fn not_open(mut rng: Rng) -> Vec<u8> {
     let mut tape = Builder::new(rng);
     tape.prelude(records);
     if tape.rng.chance(75) {
-        tape.open(shape);
+        tape.open_any(shape);
         tape.run(600, false);
+    }
+    tape.bytes
+}
+
+fn opened_so(mut rng: Rng, how: Opens) -> Vec<u8> {
+    let (mut shape, limit) = (small_shape(&mut rng), rng.between(1, SLOTS) as u8);
+    let mut tape = Builder::new(rng);
+    let (bad, bad_limit) = (bad_shape(&mut tape.rng), bad_limit(&mut tape.rng));
+    match how {
+        Opens::Limit(limit) => tape.open_limit(shape, limit),
+        Opens::LimitAboveAll => {
+            shape = (tape.rng.between(2, 7) as u8, shape.1, tape.rng.between(1, 7) as u8);
+            tape.open_limit(shape, 8);
+        }
+        Opens::LimitAfterOpen => tape.open(shape),
+        Opens::OpenAfterLimit | Opens::LimitAfterLimit => tape.open_limit(shape, limit),
+        Opens::InvalidShape => tape.open_limit(bad, limit),
+        Opens::InvalidShapeAndLimit => tape.open_limit(bad, bad_limit),
+        Opens::InvalidLimit(limit) => tape.open_limit(shape, limit),
+        Opens::LimitAfterRefused => tape.open_limit(bad, limit),
+        Opens::OpenAfterRefused => tape.open_limit(shape, bad_limit),
+        Opens::LimitAfterRefusedOpen => tape.open(bad),
+    }
+    let any = walk::odd_call(&Store::fresh(8, 8, 64), &mut tape.rng);
+    tape.record(Record::Call(any));
+    open_again(&mut tape, shape, how);
+    if tape.store.is_some() {
+        tape.run(400, false);
+    }
+    tape.bytes
+}
+
+/// The opens that follow the first.
+fn open_again(tape: &mut Builder, shape: Shape, how: Opens) {
+    let limit = tape.rng.between(1, SLOTS) as u8;
+    match how {
+        Opens::LimitAfterOpen | Opens::LimitAfterLimit => {
+            tape.open_limit(shape, limit);
+            tape.open_limit(shape, 0);
+            tape.open_limit((0, 0, 0), 9);
+        }
+        Opens::OpenAfterLimit => {
+            tape.open(shape);
+            tape.open((0, 0, 0));
+        }
+        Opens::LimitAfterRefused | Opens::LimitAfterRefusedOpen => {
+            tape.open_limit(shape, 9);
+            tape.open_limit(shape, limit);
+        }
+        Opens::OpenAfterRefused => tape.open(shape),
+        _ => {}
+    }
+}
+
+/// Rounds in which lanes share blocks, then each writes, and memory serves as many
+/// as it can.
+fn services(mut rng: Rng, limit: u8) -> Vec<u8> {
+    let any = (rng.between(3, 8) as u8, rng.pick(&[1, 2, 4, 8]), rng.pick(&[3, 8, 16, 64]));
+    let wide = (8, 8, rng.pick(&[8, 9, 64]));
+    let shape = rng.pick(&[any, wide]);
+    let rounds = rng.between(8, 20);
+    let mut tape = Builder::new(rng);
+    tape.open_limit(shape, limit);
+    for _ in 0..rounds {
+        let first = tape.share_blocks();
+        tape.write_and_serve(first);
+        let (steps, style) = (tape.rng.below(40), tape.new_style(false));
+        tape.phase(steps, &style);
+        if tape.rng.chance(60) {
+            tape.drain();
+        }
     }
     tape.bytes
 }

@@ -35,6 +35,12 @@ impl Style {
         let weights = [8, 8, 8, 8];
         Style { weights, hot, hot_share: 98, load_share: 93, odd_share: 4 }
     }
+
+    /// Few begins.
+    pub fn steps(s: &Store) -> Style {
+        let hot = (0..s.m).collect();
+        Style { weights: [1, 40, 40, 40], hot, hot_share: 0, load_share: 50, odd_share: 2 }
+    }
 }
 
 /// The next call: one that does something, or at times any call.
@@ -47,10 +53,10 @@ pub fn next_call(s: &Store, style: &Style, rng: &mut Rng) -> Call {
 
 /// A call that is not refused in a store from an opening, if there is one.
 pub fn meaningful_call(s: &Store, style: &Style, rng: &mut Rng) -> Option<Call> {
-    let free = s.service.is_none();
+    let servable = |l: &Lane| l.unserved() && l.returns.is_empty() && !engaged(s, l);
     let candidates = [
         lanes_with(s, |l| l.waiting.is_none()),
-        lanes_with(s, |l| free && l.unserved() && l.returns.is_empty()),
+        lanes_with(s, servable),
         lanes_with(s, |l| !l.returns.is_empty()),
         lanes_with(s, |l| !l.down.is_empty()),
     ];
@@ -67,6 +73,12 @@ pub fn meaningful_call(s: &Store, style: &Style, rng: &mut Rng) -> Option<Call> 
         2 => Call::Return(lane),
         _ => Call::Deliver(lane),
     })
+}
+
+/// Whether L services are open, or one of the block that the lane waits for.
+fn engaged(s: &Store, lane: &Lane) -> bool {
+    let in_service = lane.waiting.map_or(false, |w| s.slot_of(w.block()).is_some());
+    in_service || s.open_services() >= usize::from(s.limit)
 }
 
 fn lanes_with(s: &Store, test: impl Fn(&Lane) -> bool) -> Vec<u8> {
@@ -147,11 +159,16 @@ pub fn any_word(s: &Store, rng: &mut Rng) -> u8 {
     }
 }
 
-/// Any call at all, on any lane and word; at times an early serve.
+/// Any call at all, on any lane and word; at times an early serve, or one that 10
+/// refuses.
 pub fn odd_call(s: &Store, rng: &mut Rng) -> Call {
     let early = lanes_with(s, |l| l.waiting.is_some() && !l.returns.is_empty());
     if !early.is_empty() && rng.chance(30) {
         return Call::Serve(rng.pick(&early));
+    }
+    let busy = lanes_with(s, |l| l.unserved() && engaged(s, l));
+    if !busy.is_empty() && rng.chance(20) {
+        return Call::Serve(rng.pick(&busy));
     }
     let lane = any_lane(s, rng);
     match rng.below(5) {

@@ -12,9 +12,11 @@ use reference::orders;
 use reference::pictures;
 use reference::places;
 use reference::rng::Rng;
+use reference::service_faults;
+use reference::services;
 use reference::situations;
 use reference::stores::{self, Case};
-use reference::summary::{Cases, Tapes, HELD_KINDS};
+use reference::summary::{Cases, Tapes, BUSY, HELD_KINDS};
 use reference::tape::SAMPLE_TAPE;
 use reference::{tape, tapes};
 use std::collections::BTreeSet;
@@ -23,7 +25,7 @@ use std::collections::BTreeSet;
 fn tapes_cover_what_they_must() {
     let mut summary = Tapes::default();
     let mut lengths = BTreeSet::new();
-    for index in 0..300 {
+    for index in 0..tapes::CYCLE {
         let bytes = tapes::make(1, index);
         summary.add(&bytes);
         lengths.insert(bytes.len());
@@ -32,12 +34,13 @@ fn tapes_cover_what_they_must() {
     for length in [0, SAMPLE_TAPE.len(), 65_535, 65_536, 65_537] {
         assert!(lengths.contains(&length), "no tape of {length} bytes");
     }
-    for number in (1..=11).chain([13]) {
+    for number in (1..=11).chain([13, 18]) {
         assert!(summary.refused.contains_key(&number), "refusal {number}");
     }
     for number in [12, 14, 16, 17] {
         assert!(!summary.refused.contains_key(&number), "refusal {number}");
     }
+    check_kind_08(&summary);
     assert!(summary.highest_place > 5_000, "{}", summary.highest_place);
     assert!(summary.beside >= 100, "{}", summary.beside);
     let events = &summary.events;
@@ -52,6 +55,24 @@ fn tapes_cover_what_they_must() {
     for m in 1..=64 {
         assert!(summary.shapes.iter().any(|s| s.2 == m), "m {m}");
     }
+}
+
+/// W6: kind 08 with every L, refused in every way; 10 for the block and for L apart;
+/// eight services at once.
+fn check_kind_08(summary: &Tapes) {
+    for limit in 1..=8 {
+        let count = summary.limit_opens.get(&format!("open with L {limit}")).copied();
+        assert!(count >= Some(5), "L {limit}: {count:?}");
+    }
+    for number in [1, 4, 5, 18] {
+        let count = summary.limit_opens.get(&format!("refused {number}")).copied();
+        assert!(count >= Some(8), "refused {number}: {count:?}");
+    }
+    assert_eq!(summary.limit_opens.len(), 12);
+    assert!(BUSY.iter().all(|name| summary.busy.get(name) >= Some(&100)), "{:?}", summary.busy);
+    let open = &summary.open_services;
+    assert!((0..=8).all(|count| open.get(&count) >= Some(&100)), "{open:?}");
+    assert!(summary.longest_queue > 2, "{}", summary.longest_queue);
 }
 
 /// Every role of a cycle, and General tapes of every rank of 3,584 turns.
@@ -93,7 +114,7 @@ fn held_counts_above_the_bound_are_found() {
 #[test]
 fn long_tapes_end_as_planned() {
     let long: Vec<Vec<u8>> =
-        (0..300).map(|i| tapes::make(2, i)).filter(|t| t.len() == 65_536).collect();
+        (0..tapes::CYCLE).map(|i| tapes::make(2, i)).filter(|t| t.len() == 65_536).collect();
     let truncated = |t: &Vec<u8>| {
         let lines = tape::print(t);
         let last = lines.lines().rev().nth(1).expect("two lines").to_string();
@@ -105,7 +126,7 @@ fn long_tapes_end_as_planned() {
 
 #[test]
 fn makers_are_deterministic() {
-    for index in [0, 3, 80, 150, 299, 310] {
+    for index in [0, 3, 80, 150, 170, 299, 399, 410] {
         assert_eq!(tapes::make(9, index), tapes::make(9, index));
     }
     assert_ne!(tapes::make(9, 299), tapes::make(10, 299));
@@ -186,21 +207,53 @@ fn cases_cover_what_they_must() {
         check_pictures(&summary);
         check_orders(&summary);
         check_beside(&summary);
+        check_services(&summary);
         check_settles(&summary);
         check_pairs(&summary);
     }
 }
 
-/// Few enough that their answers have no more than a mebibyte, which is all
-/// that `rt try` lets a program write.
+/// Both chosen sets, the cases in a row.
+fn chosen() -> Vec<Case> {
+    choice::choose(1, 20_000).into_iter().flatten().collect()
+}
+
+/// Few enough that a set has no more than a mebibyte, cases and answers each, which is
+/// all that `rt try` lets a program write; in the second some room is left.
+#[test]
+fn chosen_sets_are_short() {
+    let [first, second] = choice::choose(1, 20_000);
+    for cases in [&first, &second] {
+        let input: Vec<u8> =
+            cases.iter().flat_map(|c| held::encode_case(&c.store, c.call)).collect();
+        let answers = held::answers(&input).expect("well formed");
+        assert_eq!(answers.len(), choice::answers_length(cases));
+        assert!(input.len() < answers.len() && answers.len() <= 1 << 20, "{}", answers.len());
+    }
+    assert!(choice::answers_length(&second) + 60_000 <= 1 << 20);
+    assert!(second.len() > 20, "{}", second.len());
+}
+
+/// All that any of the cases meets, the chosen ones meet; and none is needless.
+#[test]
+fn chosen_cases_meet_all_that_is_met() {
+    let all = (0..20_000).map(|index| stores::make(1, index));
+    let met: BTreeSet<String> = all.flat_map(|case| choice::all_texts(&case)).collect();
+    let texts: Vec<BTreeSet<String>> = chosen().iter().map(choice::all_texts).collect();
+    let by_chosen: BTreeSet<String> = texts.iter().flatten().cloned().collect();
+    assert_eq!(met, by_chosen);
+    let count = |text: &String| texts.iter().filter(|texts| texts.contains(text)).count();
+    for one in &texts {
+        assert!(one.iter().any(|text| count(text) <= 3), "{one:?}");
+    }
+}
+
 #[test]
 fn chosen_cases_are_few_and_meet_much() {
-    let (mut summary, mut bytes) = (Cases::default(), 0);
-    for case in choice::choose(1, 20_000) {
+    let mut summary = Cases::default();
+    for case in chosen() {
         summary.add(&case, &held::run(&case.store, case.call).answer);
-        bytes += held::given_length(case.call);
     }
-    assert!(bytes <= 1 << 20, "{bytes} bytes");
     for kind in HELD_KINDS {
         let never = |number: &&u8| summary.refused(kind, **number) == 0;
         assert_eq!(conditions::applicable(kind).iter().find(never), None, "kind {kind}");
@@ -213,6 +266,8 @@ fn chosen_cases_are_few_and_meet_much() {
     assert!(places::NAMES.iter().all(|name| summary.places.contains_key(name)));
     assert!(pictures::NAMES.iter().all(|name| summary.pictures.contains_key(name)));
     assert!(beside::NAMES.iter().all(|name| summary.beside.contains_key(name)));
+    assert!(orders::NAMES.iter().all(|name| summary.orders.contains_key(name)));
+    assert!(services::names().iter().all(|name| summary.services.get(name) >= Some(&3)));
     assert!(summary.undone.1 > 0, "no settle was refused after a completion");
     assert!((0..=8).all(|count| summary.settled.contains_key(&count)), "{:?}", summary.settled);
 }
@@ -258,59 +313,38 @@ fn check_beside(summary: &Cases) {
     }
 }
 
-/// The numbers of chosen cases that W5's stand in the places of.
-const FOR_W5: [usize; 3] = [212, 227, 248];
-
-/// Cases are cited by their numbers: 0 to 285 but those have the bytes that they had
-/// before W3, by a hash of these (FNV-1a).
-#[test]
-fn chosen_cases_keep_their_numbers() {
-    let chosen = choice::choose(1, 20_000);
-    let kept = (0..286).filter(|number| !FOR_W5.contains(number)).map(|number| &chosen[number]);
-    let bytes = kept.flat_map(|case| held::encode_case(&case.store, case.call));
-    let hash = bytes.fold(0xcbf2_9ce4_8422_2325_u64, |hash, byte| {
-        (hash ^ u64::from(byte)).wrapping_mul(0x0100_0000_01b3)
-    });
-    assert_eq!(hash, 0x60f5_7955_9b0c_50e8);
-}
-
-/// W5: the chosen cases tell every wrong machine, and would not without those three.
-#[test]
-fn chosen_cases_tell_w5() {
-    let chosen = choice::choose(1, 20_000);
-    let told = |numbers: &[usize]| {
-        let told = numbers.iter().flat_map(|&i| beside::told(&chosen[i].store, chosen[i].call));
-        told.collect::<BTreeSet<_>>()
-    };
-    let all: Vec<usize> = (0..chosen.len()).collect();
-    let others: Vec<usize> = all.iter().copied().filter(|i| !FOR_W5.contains(i)).collect();
-    assert_eq!(told(&all), beside::WRONG.iter().map(|(name, _)| *name).collect());
-    assert!(told(&others).len() < beside::WRONG.len());
-    for number in FOR_W5 {
-        assert!(beside::Beside::of(&chosen[number].store, chosen[number].call).is_some());
+/// W6: services in any slots, the limit and long queues.
+fn check_services(summary: &Cases) {
+    for name in services::names() {
+        let count = summary.services.get(name).copied().unwrap_or(0);
+        assert!(count >= 25, "{name}: {count}");
     }
 }
 
-/// One more than before W3 has room: with it all names are met but one, whose
-/// wrong order settles tell.
+/// W5 and W6: the chosen cases tell every wrong machine.
+#[test]
+fn chosen_cases_tell_the_wrong_machines() {
+    let chosen = chosen();
+    let beside = chosen.iter().flat_map(|case| beside::told(&case.store, case.call));
+    let names = beside::WRONG.iter().map(|(name, _)| *name);
+    assert_eq!(beside.collect::<BTreeSet<_>>(), names.collect());
+    let told: Vec<_> =
+        chosen.iter().map(|case| service_faults::told(&case.store, case.call)).collect();
+    for wrong in &service_faults::WRONG {
+        let count = told.iter().filter(|names| names.contains(&wrong.name)).count();
+        assert!(count >= 3, "{}: {count}", wrong.name);
+    }
+}
+
+/// W3: they tell every wrong use order.
 #[test]
 fn chosen_cases_tell_the_order() {
-    let chosen = choice::choose(1, 20_000);
-    assert_eq!(chosen.len(), 287);
     let names = |case: &Case| {
         let (s, call) = (&case.store, case.call);
-        let answer = held::run(s, call).answer;
-        [orders::met(s, call, &answer), orders::told(s, call, &answer)]
+        orders::told(s, call, &held::run(s, call).answer)
     };
-    let given: Vec<_> = chosen.iter().map(names).collect();
-    let never = |i: usize, cases: usize| {
-        let by = |name: &&str| given[..cases].iter().any(|names| names[i].contains(name));
-        orders::NAMES.into_iter().filter(|name| !by(name)).collect::<Vec<_>>()
-    };
-    let alone = "a load's fill as the oldest of the valid lines alone gives another store";
-    let bare = "a load's bare grant as oldest gives another store";
-    assert_eq!((never(0, 286), never(1, 286)), (vec![alone, bare], vec![bare]));
-    assert_eq!((never(0, 287), never(1, 287)), (vec![alone], vec![]));
+    let told: BTreeSet<&str> = chosen().iter().flat_map(names).collect();
+    assert_eq!(told, orders::NAMES.into_iter().collect());
 }
 
 /// Settle: each number and reason, each count of completions, and refusals
@@ -392,7 +426,7 @@ fn differences_are_found() {
         .collect();
     let mut answers = held::answers(&cases).expect("well formed");
     assert_eq!(held::differences(&cases, &answers, 9), Ok(vec![]));
-    answers[12 + 13 + 242 + 234] ^= 1;
+    answers[12 + 56 + 458 + 450] ^= 1;
     let found = held::differences(&cases, &answers, 9).expect("well formed");
     assert_eq!(found.len(), 1);
     assert!(found[0].starts_with("case 0 ") && found[0].contains("lane 1 waiting byte 0"));
@@ -405,14 +439,22 @@ fn differences_are_found() {
 fn parts_of_a_store_have_names() {
     for (offset, name) in [
         (2, "m"),
-        (3, "completions byte 0"),
-        (6, "completions byte 3"),
-        (7, "control tag"),
-        (12, "control bare"),
-        (13, "lane 0 line 0 VALID"),
-        (1_948, "lane 7 waiting byte 7"),
-        (1_949, "block 0 word 0 byte 0"),
-        (3_548, "block 63 MODIFIED"),
+        (3, "L"),
+        (4, "completions byte 0"),
+        (7, "completions byte 3"),
+        (8, "slot 0 tag"),
+        (12, "slot 0 awaited"),
+        (55, "slot 7 bare"),
+        (56, "lane 0 line 0 VALID"),
+        (56 + 160, "lane 0 return queue length"),
+        (56 + 161, "lane 0 return queue place 0 kind"),
+        (56 + 304, "lane 0 return queue place 7 word 3 byte 3"),
+        (56 + 305, "lane 0 down queue length"),
+        (56 + 449, "lane 0 down queue place 7 word 3 byte 3"),
+        (56 + 450, "lane 0 waiting byte 0"),
+        (3_719, "lane 7 waiting byte 7"),
+        (3_720, "block 0 word 0 byte 0"),
+        (5_319, "block 63 MODIFIED"),
     ] {
         assert_eq!(held::part_name(offset), name);
     }

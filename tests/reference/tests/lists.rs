@@ -49,7 +49,7 @@ fn list_bytes() {
     assert_eq!(input[32..], [0x12, 0, 0, 0, 0, 0, 0, 0]);
     assert_eq!(lists::records(&input), Ok(two_stores()));
     let answers = lists::answers(&input).expect("well formed");
-    assert_eq!(answers.len(), 12 + 12 + 12 + 86 + 3_549);
+    assert_eq!(answers.len(), 12 + 12 + 12 + 86 + 5_320);
     assert_eq!(answers[..12], [0; 12]);
     assert_eq!(answers[12..24], [2, 0, 0, 0, 0, 0, 0, 0, 0, 0, 0, 0]);
     assert_eq!(answers[36..48], [6, 0, 6, 0, 0, 0, 2, 0, 0, 0, 0, 0]);
@@ -57,7 +57,7 @@ fn list_bytes() {
     assert_eq!(answers[57..66], [1, 9, 0, 0, 0, 2, 0, 0, 0]);
     assert_eq!(answers[66..120], [0; 54]);
     assert_eq!(answers[120..122], [8, 0]);
-    assert_eq!(answers[122..130], [2, 1, 1, 2, 0, 0, 0, 0]);
+    assert_eq!(answers[122..131], [2, 1, 1, 1, 2, 0, 0, 0, 0]);
     let given = lists::read(&input, &answers).expect("well formed");
     assert_eq!(given[3].1, settled(6, &[(0, 7, 1), (1, 9, 2)]));
     assert!(lists::records(&input[..31]).is_err());
@@ -77,7 +77,7 @@ fn a_refused_opening_leaves_the_blank_store() {
     let mut calls = two_stores();
     calls.extend([Record::Open { n: 9, c: 1, m: 1 }, Record::Show]);
     let given = answered(&calls).pop().map(|(_, given)| given);
-    assert_eq!(given, Some(Given::Store(Box::new(Store::fresh(0, 0, 0)))));
+    assert_eq!(given, Some(Given::Store(Box::new(Store::with_limit(0, 0, 0, 0)))));
 }
 
 #[test]
@@ -89,7 +89,7 @@ fn differences_are_found() {
     let found = lists::differences(&input, &answers, 9).expect("well formed");
     assert!(found.len() == 1 && found[0].ends_with("Call(Settle): answer byte 84"), "{found:?}");
     answers[38] ^= 1;
-    answers[122 + 1_949] ^= 1;
+    answers[122 + 3_720] ^= 1;
     let found = lists::differences(&input, &answers, 9).expect("well formed");
     assert!(found.len() == 2 && found[0].ends_with("answer byte 2"), "{found:?}");
     assert!(found[1].ends_with("block 0 word 0 byte 0"), "{found:?}");

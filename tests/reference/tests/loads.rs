@@ -99,10 +99,10 @@ fn a_hit_on_the_block_waited_for() {
         let mut s = store(waiting);
         (8..12).for_each(|word| is_done(&s, word, W[usize::from(word) - 8], [2, 1, 0]));
         // The same with a service of the block, and with the grant queued.
-        s.service =
+        s.slots[0] =
             Some(Service { lane: 1, block: 2, command: waiting.command, awaited: 1, bare: true });
         is_done(&s, 9, 22, [2, 1, 0]);
-        s.service = None;
+        s.slots[0] = None;
         for kind in [DownKind::BareGrant, DownKind::Purge, DownKind::Update] {
             s.lanes[1].down = queue(1, kind, 2);
             is_done(&s, 9, 22, [2, 1, 0]);
@@ -134,8 +134,8 @@ fn a_hit_among_other_lines() {
     is_done(&s, 5, 6, [0, 1, 2]);
     s.lanes[1].lines[1].valid = true;
     is_done(&s, 5, 22, [2, 0, 1]);
-    s.lanes[1].returns = queue(2, ReturnKind::Eject, 3);
-    s.lanes[1].down = queue(2, DownKind::Purge, 1);
+    s.lanes[1].returns = queue(8, ReturnKind::Eject, 3);
+    s.lanes[1].down = queue(8, DownKind::Purge, 1);
     is_done(&s, 5, 22, [2, 0, 1]);
     s.lanes[1].lines[0].block = 1;
     is_done(&s, 5, 22, [2, 1, 0]);
@@ -171,7 +171,7 @@ fn a_miss_is_8() {
         // All lines valid; then 12 would come.
         s.lanes[1].lines[1] = line(true, 2, X);
         refused(&s, load(1, 12), 8);
-        s.lanes[1].returns = queue(2, ReturnKind::Eject, 0);
+        s.lanes[1].returns = queue(8, ReturnKind::Eject, 0);
         refused(&s, load(1, 12), 8);
         // Another lane's line is no hit.
         s.lanes[0].lines[0] = line(false, 3, W);

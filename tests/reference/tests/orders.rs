@@ -287,7 +287,7 @@ fn loads_fills_push_each_other_out() {
             let held: Vec<u8> = (0..m).filter(|&block| held_block(&s, block)).collect();
             let want: Vec<u8> = match rule {
                 Rule::LoadFillsOldest => (0..c - 1).chain([m - 1]).collect(),
-                Rule::FillsNewest => (m - c..m).collect(),
+                _ => (m - c..m).collect(),
             };
             assert_eq!(held, want);
         }

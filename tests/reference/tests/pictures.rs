@@ -325,7 +325,7 @@ fn only_valid_lines_show() {
         scramble::junk(&mut other, &mut rng);
         let from = scramble::store(&mut rng);
         (other.completed, other.blocks) = (rng.byte().into(), Store::fresh(2, 1, 1).blocks);
-        other.service = None;
+        (other.limit, other.slots) = (1 + rng.byte_below(8), [None; SLOTS]);
         for (lane, from) in other.lanes[..usize::from(s.n)].iter_mut().zip(&from.lanes) {
             (lane.returns.length, lane.down.length, lane.waiting) = (0, 0, None);
             scramble::permute(&mut lane.order[..usize::from(s.c)], &mut rng);

@@ -183,7 +183,7 @@ fn checked_after_6_7_8_and_before_12() {
             }
         }
         s.lanes[0].lines[0] = line(false, 0);
-        s.lanes[0].returns = queue(2, ReturnKind::Eject);
+        s.lanes[0].returns = queue(8, ReturnKind::Eject);
         refused(&s, begin(0, 7), 17);
         s.completed = LAST - 1;
         refused(&s, begin(0, 7), 12);

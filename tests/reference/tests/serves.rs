@@ -16,8 +16,8 @@ use std::process;
 /// The answer of a step.
 const STEP: [u8; 12] = [3, 0, 0, 0, 0, 0, 0, 0, 0, 0, 0, 0];
 
-/// Where the awaited count stands behind an answer; 0 if the control is free.
-const AWAITED: usize = STEP.len() + 11;
+/// Where the awaited count of slot 0 stands behind an answer; 0 if the slot is free.
+const AWAITED: usize = STEP.len() + 12;
 
 /// A serve that was a step.
 struct Served {
@@ -101,7 +101,8 @@ fn made_serves_come_to_their_orders() {
         let number = machine::call(&s, Call::Serve(k)).err();
         assert!(matches!(number, None | Some(12)), "case {index}: {number:?}");
         assert_eq!(conditions::all(&s, call), number.into_iter().collect::<Vec<u8>>());
-        assert!(!machine::corrupt(&s) && s.service.is_none() && k < s.n);
+        assert!(!machine::corrupt(&s) && k < s.n);
+        assert!(s.open_services() < usize::from(s.limit));
         let lane = &s.lanes[usize::from(k)];
         assert!(lane.unserved() && lane.returns.is_empty());
         assert!(held::decode_case(&held::encode_case(&s, call)) == Ok((s, call)));
@@ -157,7 +158,7 @@ fn made_serves_vary() {
         bytes.insert(served.ordered.clone());
         shapes.insert((s.c, s.m));
     }
-    assert_eq!((lanes.len(), asked.len(), lengths.len()), (35, 12, 2));
+    assert_eq!((lanes.len(), asked.len(), lengths.len()), (35, 12, 8));
     assert!(bytes.len() > 230 && shapes.len() > 300, "{} {}", bytes.len(), shapes.len());
 }
 
@@ -233,14 +234,25 @@ fn of_first(s: &Served, act: impl FnOnce(usize, usize)) -> bool {
     s.first().map(|(j, place)| act(j, place)).is_some()
 }
 
-fn of_service(after: &mut Store, act: impl FnOnce(&mut Service)) -> bool {
-    after.service.as_mut().map(act).is_some()
+/// The service that the serve opened, where it did.
+fn of_service(s: &Served, after: &mut Store, act: impl FnOnce(&mut Service)) -> bool {
+    after.slots.iter_mut().flatten().find(|v| v.block == s.block).map(act).is_some()
+}
+
+/// Another service, where there is one.
+fn of_another(s: &Served, after: &mut Store, act: impl FnOnce(&mut Option<Service>)) -> bool {
+    let other = |slot: &&mut Option<Service>| slot.map_or(false, |v| v.block != s.block);
+    after.slots.iter_mut().find(other).map(act).is_some()
 }
 
 /// A service of the operation, where the serve sent no order.
 fn left_open(s: &Served, after: &mut Store, awaited: u8) -> bool {
     let (lane, command) = (s.k as u8, Command::ReadExclusive);
-    after.service = Some(Service { lane, block: s.block, command, awaited, bare: false });
+    let free = match after.slots.iter_mut().find(|slot| slot.is_none()) {
+        Some(free) => free,
+        None => return false,
+    };
+    *free = Some(Service { lane, block: s.block, command, awaited, bare: false });
     s.ordered.is_empty()
 }
 
@@ -272,7 +284,7 @@ const OF_QUEUES: [(&str, Mutation); 18] = [
     }),
     ("no order to the last lane, and awaited one less", |s, after| {
         let last = s.ordered.last().map(|&j| after.lanes[j].down = s.before.lanes[j].down);
-        last.is_some() && of_service(after, |service| service.awaited -= 1)
+        last.is_some() && of_service(s, after, |service| service.awaited -= 1)
     }),
     ("a grant with words for an order", |s, after| {
         replaced(s, after, DownKind::Grant, s.before.blocks[usize::from(s.block)].words)
@@ -314,7 +326,7 @@ const OF_QUEUES: [(&str, Mutation); 18] = [
     }),
     ("an order more, and awaited one more", |s, after| {
         let sent = s.spared().map_or(false, |j| after.lanes[j].down.push(s.order()));
-        sent && of_service(after, |service| service.awaited += 1)
+        sent && of_service(s, after, |service| service.awaited += 1)
     }),
     ("a queue of a lane without a bit longer by what stood there", |s, after| {
         s.spared().map(|j| after.lanes[j].down.length += 1).is_some()
@@ -331,7 +343,7 @@ const OF_QUEUES: [(&str, Mutation); 18] = [
 const OF_THE_GRANT: [(&str, Mutation); 6] = [
     ("the asking lane sent an order too", |s, after| {
         let sent = after.lanes[s.k].down.push(s.order());
-        sent && of_service(after, |service| service.awaited += 1)
+        sent && of_service(s, after, |service| service.awaited += 1)
     }),
     ("the grant counted as an order", |s, after| left_open(s, after, 1)),
     ("an order for the grant", grant_to_order),
@@ -348,20 +360,33 @@ const OF_THE_GRANT: [(&str, Mutation); 6] = [
     }),
 ];
 
-const OF_THE_SERVICE: [(&str, Mutation); 7] = [
-    ("awaited one more", |_, after| of_service(after, |service| service.awaited += 1)),
-    ("awaited one less", |_, after| of_service(after, |service| service.awaited -= 1)),
+const OF_THE_SERVICE: [(&str, Mutation); 10] = [
+    ("awaited one more", |s, after| of_service(s, after, |service| service.awaited += 1)),
+    ("awaited one less", |s, after| of_service(s, after, |service| service.awaited -= 1)),
     ("awaited is the byte", |s, after| {
         let byte = s.ordered.iter().map(|j| 1 << j).sum();
-        of_service(after, |service| service.awaited = byte)
+        of_service(s, after, |service| service.awaited = byte)
     }),
     ("the service left open without orders", |s, after| left_open(s, after, 0)),
     ("the service closed with orders", |s, after| {
-        after.service = None;
+        after.slots = s.before.slots;
         !s.ordered.is_empty()
     }),
-    ("a service of another lane", |_, after| of_service(after, |service| service.lane ^= 1)),
-    ("a service of another block", |_, after| of_service(after, |service| service.block ^= 1)),
+    ("the service in the last free slot", |s, after| {
+        let own = after.slot_of(s.block).and_then(|slot| after.slots[slot].take());
+        let last = after.slots.iter_mut().rev().find(|slot| slot.is_none());
+        *last.expect("a free slot") = own;
+        own.is_some()
+    }),
+    ("another service closed", |s, after| of_another(s, after, |slot| *slot = None)),
+    ("another service awaits one less", |s, after| {
+        of_another(s, after, |slot| {
+            let awaited = slot.as_mut().map(|v| &mut v.awaited);
+            awaited.into_iter().for_each(|count| *count = count.saturating_sub(1));
+        })
+    }),
+    ("a service of another lane", |s, after| of_service(s, after, |service| service.lane ^= 1)),
+    ("a service of another block", |s, after| of_service(s, after, |service| service.block ^= 1)),
 ];
 
 /// Each way, in each of many serves that have a place for it.
@@ -401,7 +426,7 @@ fn mutated_services_are_found() {
 
 /// What is no matter of the byte: lines, words and flags after, and UPDATE for PURGE.
 #[test]
-fn only_queues_and_control_are_judged() {
+fn only_queues_and_slots_are_judged() {
     for served in Served::made(5, 500) {
         let mut after = served.after.clone();
         after.completed ^= 1;
@@ -419,8 +444,8 @@ fn only_queues_and_control_are_judged() {
     }
 }
 
-/// Mutates the control after each serve that was a step; the numbers of these cases.
-fn mutate_controls(cases: &[u8], answers: &mut [u8]) -> Vec<usize> {
+/// Mutates slot 0 after each serve that was a step; the numbers of these cases.
+fn mutate_slots(cases: &[u8], answers: &mut [u8]) -> Vec<usize> {
     let (mut at, mut mutated) = (0, Vec::new());
     for (index, case) in cases.chunks(held::CASE_BYTES).enumerate() {
         let call = held::decode_call(&case[held::STORE_BYTES..]).expect("well formed");
@@ -439,7 +464,7 @@ fn mutate_controls(cases: &[u8], answers: &mut [u8]) -> Vec<usize> {
 fn wrong_serves_are_named() {
     let cases = held_cases(1, 600);
     let mut answers = held::answers(&cases).expect("well formed");
-    let wrong = mutate_controls(&cases, &mut answers);
+    let wrong = mutate_slots(&cases, &mut answers);
     let told = serve_byte::of_held(&cases, &answers).expect_err("wrong serves");
     let lines: Vec<&str> = told.lines().collect();
     assert!(lines[0].starts_with(&format!("{} serves do not hold", wrong.len())), "{told}");
@@ -520,7 +545,7 @@ fn commands() {
     let judged = run(&["byte-held", paths[0], paths[1]]);
     let lines = String::from_utf8(judged.stdout).expect("text");
     assert!(judged.status.success() && lines.starts_with("serves by their byte: "), "{lines}");
-    assert!(mutate_controls(&bytes, &mut given).len() > 100);
+    assert!(mutate_slots(&bytes, &mut given).len() > 100);
     fs::write(&answers, &given).expect("written");
     let judged = run(&["byte-held", paths[0], paths[1]]);
     assert_eq!((judged.status.code(), judged.stdout.len()), (Some(1), 0));

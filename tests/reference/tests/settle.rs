@@ -78,7 +78,7 @@ fn a_quiet_store_takes_no_step() {
     // What lies past the n lanes is no part of it.
     let mut s = open(2, 1, 1);
     s.lanes[2].waiting = waiting(true, Op::Load, 0);
-    s.lanes[7].down = queue(2, DownKind::Update, 0);
+    s.lanes[7].down = queue(8, DownKind::Update, 0);
     assert_eq!(settles(&s, 0, &[]), s);
 }
 
@@ -154,7 +154,7 @@ fn stuck_is_16() {
     // A service that waits for answers nobody owes, and one that has none.
     for awaited in [0, 1] {
         let mut s = open(2, 1, 2);
-        s.service = service(0, 1, awaited);
+        s.slots[0] = service(0, 1, awaited);
         assert_eq!(settle(&s), Err(16));
         s.lanes[0].waiting = waiting(true, Op::Add(1), 4);
         assert_eq!(settle(&s), Err(16));
@@ -170,13 +170,13 @@ fn stuck_is_16() {
 fn refused_inside_gives_that_steps_number() {
     // 10: the queues are empty, a service is open, an operation unserved.
     let mut s = open(2, 1, 2);
-    s.service = service(0, 1, 1);
+    s.slots[0] = service(0, 1, 1);
     s.lanes[1].waiting = waiting(false, Op::Load, 0);
     assert_eq!(settle(&s), Err(10));
     // 12: an order for a lane whose return queue is full.
     let mut s = open(2, 1, 2);
-    s.lanes[1].returns = queue(2, ReturnKind::Eject, 0);
-    assert_eq!(settle(&s).expect("ejects are taken").1.steps, 2);
+    s.lanes[1].returns = queue(8, ReturnKind::Eject, 0);
+    assert_eq!(settle(&s).expect("ejects are taken").1.steps, 8);
     s.lanes[1].down = queue(1, DownKind::Update, 0);
     assert_eq!(settle(&s), Err(12));
     // 16: an answer with no service, a grant that nobody waits for.

@@ -38,15 +38,35 @@ fn begin(lane: u8, op: Op, word: u8) -> Call {
 #[test]
 fn queue_places() {
     let mut q = Queue::empty(ReturnKind::Gone);
-    assert!(q.push(message(ReturnKind::Eject, 1, W)));
-    assert!(q.push(message(ReturnKind::Updated, 2, X)));
-    assert!(!q.push(message(ReturnKind::Gone, 3, W)));
-    assert_eq!(q.take(), Some(message(ReturnKind::Eject, 1, W)));
-    assert_eq!(q.length, 1);
-    assert_eq!(q.places, [message(ReturnKind::Updated, 2, X); 2]);
-    assert_eq!(q.take(), Some(message(ReturnKind::Updated, 2, X)));
+    for block in 0..8 {
+        assert!(!q.is_full() && usize::from(block) == q.messages().len());
+        assert!(q.push(message(ReturnKind::Eject, block, W)));
+    }
+    assert!(q.is_full() && !q.push(message(ReturnKind::Gone, 9, W)));
+    let blocks = |q: &Queue<ReturnKind>| q.places.map(|m| m.block);
+    assert_eq!(q.take(), Some(message(ReturnKind::Eject, 0, W)));
+    assert_eq!((q.length, blocks(&q)), (7, [1, 2, 3, 4, 5, 6, 7, 7]));
+    assert!(q.push(message(ReturnKind::Updated, 8, X)));
+    assert_eq!((q.length, blocks(&q)), (8, [1, 2, 3, 4, 5, 6, 7, 8]));
+    for block in 1..8 {
+        assert_eq!(q.take(), Some(message(ReturnKind::Eject, block, W)));
+    }
+    assert_eq!((q.length, blocks(&q)), (1, [8; 8]));
+    assert_eq!(q.take(), Some(message(ReturnKind::Updated, 8, X)));
     assert_eq!((q.take(), q.length), (None, 0));
-    assert_eq!(q.places, [message(ReturnKind::Updated, 2, X); 2]);
+    assert_eq!(q.places, [message(ReturnKind::Updated, 8, X); 8]);
+}
+
+/// What stands past a queue's length moves too, and stays in the last place.
+#[test]
+fn a_take_moves_every_place() {
+    let mut q = Queue::empty(ReturnKind::Gone);
+    q.places = std::array::from_fn(|place| message(ReturnKind::Purged, place as u8, X));
+    q.length = 2;
+    assert_eq!(q.take(), Some(message(ReturnKind::Purged, 0, X)));
+    assert_eq!((q.length, q.places.map(|m| m.block)), (1, [1, 2, 3, 4, 5, 6, 7, 7]));
+    assert!(q.push(message(ReturnKind::Gone, 50, X)));
+    assert_eq!((q.length, q.places.map(|m| m.block)), (2, [1, 50, 3, 4, 5, 6, 7, 7]));
 }
 
 #[test]
@@ -99,7 +119,7 @@ fn eviction_keeps_all_but_valid() {
 fn miss_with_a_free_line_evicts_nothing() {
     let mut s = Store::fresh(2, 2, 4);
     s.lanes[0].lines[0] = line(true, 1, X);
-    s.lanes[0].returns.length = 2;
+    s.lanes[0].returns.length = PLACES as u8;
     let got = after(&s, begin(0, Op::Load, 0), Answer::Wait);
     assert_eq!(got.lanes[0].lines, s.lanes[0].lines);
     assert_eq!(got.lanes[0].returns, s.lanes[0].returns);
@@ -132,7 +152,7 @@ fn serve_shared_modified_sends_update() {
     let got = after(&s, Call::Serve(2), Answer::Step);
     let service =
         Service { lane: 2, block: 1, command: Command::ReadShared, awaited: 2, bare: false };
-    assert_eq!(got.service, Some(service));
+    assert_eq!(got.slots[0], Some(service));
     assert_eq!(got.blocks, s.blocks);
     for (k, length) in [(0, 1), (1, 0), (2, 0), (3, 1)] {
         assert_eq!(got.lanes[k].down.length, length);
@@ -152,7 +172,7 @@ fn serve_exclusive_purges_every_other() {
         s.blocks[0].present[5] = present;
         s.lanes[5].waiting = unserved(command, Op::Store(1), 0);
         let got = after(&s, Call::Serve(5), Answer::Step);
-        assert_eq!(got.service, Some(Service { lane: 5, block: 0, command, awaited: 7, bare }));
+        assert_eq!(got.slots[0], Some(Service { lane: 5, block: 0, command, awaited: 7, bare }));
         let orders = got.lanes.iter().filter(|l| l.down.length == 1);
         let purge = message(DownKind::Purge, 0, [0; 4]);
         assert_eq!(orders.filter(|l| l.down.places[0] == purge).count(), 7);
@@ -173,7 +193,7 @@ fn serve_exclusive_alone_closes() {
         s.blocks[0].present[1] = present;
         s.lanes[1].waiting = unserved(command, Op::Store(1), 0);
         let got = after(&s, Call::Serve(1), Answer::Step);
-        assert_eq!((got.service, got.blocks[0].modified), (None, true));
+        assert_eq!((got.slots[0], got.blocks[0].modified), (None, true));
         assert_eq!(got.blocks[0].present[..2], [false, true]);
         assert_eq!(got.lanes[1].down.head(), Some(message(kind, 0, words)));
         assert_eq!(got.lanes[1].waiting, served(command, Op::Store(1), 0));
@@ -183,12 +203,13 @@ fn serve_exclusive_alone_closes() {
 /// Block 1 in service for lane 0, with one message in lane 1's return queue.
 fn returning(command: Command, kind: ReturnKind, awaited: u8) -> Store {
     let mut s = Store::fresh(3, 1, 2);
-    s.service = Some(Service { lane: 0, block: 1, command, awaited, bare: false });
+    s.slots[0] = Some(Service { lane: 0, block: 1, command, awaited, bare: false });
     s.blocks[1] = Block { words: X, present: [false; 8], modified: true };
     s.blocks[1].present[1] = true;
     s.blocks[1].present[2] = true;
     s.lanes[1].returns.length = 1;
-    s.lanes[1].returns.places = [message(kind, 1, W), message(ReturnKind::Gone, 9, X)];
+    s.lanes[1].returns.places = [message(ReturnKind::Gone, 9, X); PLACES];
+    s.lanes[1].returns.places[0] = message(kind, 1, W);
     s
 }
 
@@ -209,7 +230,7 @@ fn returns_change_flags_and_words() {
         if words {
             (want.blocks[1].words, want.blocks[1].modified) = (W, false);
         }
-        want.service.as_mut().expect("service").awaited = awaited;
+        want.slots[0].as_mut().expect("service").awaited = awaited;
         want.lanes[1].returns.length = 0;
         want.lanes[1].returns.places[0] = message(Gone, 9, X);
         assert_eq!(after(&s, Call::Return(1), Answer::Step), want, "{kind:?}");
@@ -220,12 +241,12 @@ fn returns_change_flags_and_words() {
 fn last_answer_closes_after_its_words() {
     let s = returning(Command::ReadShared, ReturnKind::Updated, 1);
     let got = after(&s, Call::Return(1), Answer::Step);
-    assert_eq!((got.service, got.blocks[1].modified), (None, false));
+    assert_eq!((got.slots[0], got.blocks[1].modified), (None, false));
     assert_eq!(got.blocks[1].present[..3], [true, true, true]);
     assert_eq!(got.lanes[0].down.head(), Some(message(DownKind::Grant, 1, W)));
     let s = returning(Command::ReadExclusive, ReturnKind::PurgedWords, 1);
     let got = after(&s, Call::Return(1), Answer::Step);
-    assert_eq!((got.service, got.blocks[1].modified), (None, true));
+    assert_eq!((got.slots[0], got.blocks[1].modified), (None, true));
     assert_eq!(got.blocks[1].present[..3], [true, false, false]);
     assert_eq!(got.lanes[0].down.head(), Some(message(DownKind::Grant, 1, W)));
 }
@@ -233,7 +254,7 @@ fn last_answer_closes_after_its_words() {
 #[test]
 fn bare_service_closes_bare() {
     let mut s = returning(Command::Exclude, ReturnKind::Purged, 1);
-    s.service.as_mut().expect("service").bare = true;
+    s.slots[0].as_mut().expect("service").bare = true;
     let got = after(&s, Call::Return(1), Answer::Step);
     assert_eq!(got.lanes[0].down.head(), Some(message(DownKind::BareGrant, 1, [0; 4])));
 }

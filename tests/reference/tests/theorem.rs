@@ -237,14 +237,15 @@ impl Maker {
 
 /// A list of any other shape that has all the words, under the rule, that
 /// completes the operations in turn.
-fn other_list(operations: &[Operation], rule: Rule, shape: (u8, u8, u8), rng: &Rng) -> Vec<Record> {
+fn other_list(operations: &[Operation], rule: Rule, shape: Shape, rng: &Rng) -> Vec<Record> {
     let mut rng = rng.clone();
     let blocks = operations.iter().map(|(_, word)| word / 4 + 1).max().unwrap_or(1);
     let (n, c) = (other(2, 8, shape.0, &mut rng), other(1, 8, shape.1, &mut rng));
     let m = other(blocks, 64, shape.2, &mut rng);
     let (store, records) = (lists::blank(), Vec::new());
     let mut maker = Maker { store, rule, records, rng, begun: VecDeque::new() };
-    maker.push(Record::Open { n, c, m });
+    let limit = other(1, 8, shape.3, &mut maker.rng);
+    maker.push(Record::OpenLimit { n, c, m, limit });
     maker.complete_all(operations);
     maker.records
 }
@@ -259,12 +260,12 @@ fn other(low: u8, high: u8, one: u8, rng: &mut Rng) -> u8 {
     }
 }
 
-fn opened_shape(records: &[Record]) -> (u8, u8, u8) {
-    let shape = |record: &Record| match *record {
-        Record::Open { n, c, m } if machine::open(n, c, m).is_ok() => Some((n, c, m)),
-        _ => None,
-    };
-    records.iter().find_map(shape).expect("an opening")
+/// n, c, m and L.
+type Shape = (u8, u8, u8, u8);
+
+fn opened_shape(records: &[Record]) -> Shape {
+    let opens = |(n, c, m, limit): &Shape| machine::open_with_limit(*n, *c, *m, *limit).is_ok();
+    records.iter().filter_map(|record| record.opens()).find(opens).expect("an opening")
 }
 
 fn refused(all: &[(Record, Given)]) -> usize {
@@ -290,7 +291,7 @@ fn swapped(operations: &[Operation], rng: &mut Rng) -> Option<Vec<Operation>> {
 struct Pairs {
     pairs: usize,
     completions: usize,
-    /// Pairs that differ in n, c and m at once, completions that do in the lane.
+    /// Pairs that differ in n, c, m and L at once, completions that do in the lane.
     all_of_the_shape: usize,
     in_another_lane: usize,
     /// Records, and refused ones, of the first lists and of the second.
@@ -334,9 +335,10 @@ impl Pairs {
         self.see_swapped(&first, other_rule, shape, rng);
     }
 
-    fn count_shapes(&mut self, one: (u8, u8, u8), other: (u8, u8, u8)) {
+    fn count_shapes(&mut self, one: Shape, other: Shape) {
         self.pairs += 1;
         let differ = one.0 != other.0 && one.1 != other.1 && one.2 != other.2;
+        assert_ne!(one.3, other.3);
         self.all_of_the_shape += usize::from(differ);
     }
 
@@ -352,7 +354,7 @@ impl Pairs {
     }
 
     /// The same with two operations exchanged, where it matters: other values.
-    fn see_swapped(&mut self, first: &History, rule: Rule, shape: (u8, u8, u8), mut rng: Rng) {
+    fn see_swapped(&mut self, first: &History, rule: Rule, shape: Shape, mut rng: Rng) {
         let operations = match swapped(&first.operations, &mut rng) {
             Some(operations) => operations,
             None => return,
