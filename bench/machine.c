@@ -1,4 +1,4 @@
-/* The lane store of document 01, with document 02's W1, W3, W4 and W5, in plain C, changed in place, and the replay of a tape (program `ctape`).
+/* The lane store of document 01, with document 02's W1, W3, W4, W5 and W6, in plain C, changed in place, and the replay of a tape (program `ctape`).
  * The yardstick of bench/run: not proved, and without settle and picture.
  * A store opened here is never corrupt (refusal 14), so no step looks for that. */
 
@@ -7,16 +7,16 @@
 #include <stdio.h>
 #include <string.h>
 
-enum { MAX_LANES = 8, MAX_LINES = 8, MAX_BLOCKS = 64, WORDS = 4, PLACES = 2 };
+enum { MAX_LANES = 8, MAX_LINES = 8, MAX_BLOCKS = 64, WORDS = 4, PLACES = 8, MAX_SERVICES = 8 };
 enum { MAX_TAPE = 65536, TEXT_SIZE = 65536, MAX_ROW = 48 };
 
 enum Refusal {
     TRUNCATED = 1, UNKNOWN_KIND, NOT_OPEN, ALREADY_OPEN, INVALID_SHAPE, NO_SUCH_LANE, NO_SUCH_WORD, LANE_BUSY,
     NOTHING_PENDING, CONTROL_BUSY, RETURNS_PENDING, QUEUE_FULL, TAPE_TOO_LONG, CORRUPT, BUFFER_TOO_SHORT, UNEXPECTED,
-    PLACES_EXHAUSTED
+    PLACES_EXHAUSTED, INVALID_LIMIT
 };
 
-enum Kind { OPEN, LOAD, STORE, EXCHANGE, ADD, SERVE, RETURN, DELIVER }; /* of a tape's record */
+enum Kind { OPEN, LOAD, STORE, EXCHANGE, ADD, SERVE, RETURN, DELIVER, OPEN_LIMIT }; /* of a tape's record */
 enum Command { READ_SHARED, READ_EXCLUSIVE, EXCLUDE };
 enum State { IDLE, UNSERVED, SERVED };
 enum Message_kind {
@@ -61,15 +61,17 @@ typedef struct {
 } Block;
 
 typedef struct {
-    bool busy, bare;
+    bool bare;
     uint8_t lane, block, command, awaited;
-} Control;
+} Service;
 
 typedef struct {
     uint8_t n, c, m; /* n is 0 until the store is open */
+    uint8_t limit;   /* L: the most services open at once */
+    uint8_t open;    /* the services open now: the first so many of the array, in any order, each of another block */
     uint32_t begun;  /* operations since opening: completions so far plus operations waiting */
     uint32_t completions;
-    Control control;
+    Service services[MAX_SERVICES];
     Lane lanes[MAX_LANES];
     Block blocks[MAX_BLOCKS];
 } Store;
@@ -83,7 +85,7 @@ typedef struct {
 static Answer refused(enum Refusal number) { return (Answer){ REFUSED, number, 0, 0 }; }
 static Answer stepped(void) { return (Answer){ STEP, 0, 0, 0 }; }
 
-/* Queues: rings of two places */
+/* Queues: rings of eight places */
 
 static bool is_full(const Queue *q) { return q->length == PLACES; }
 static bool is_empty(const Queue *q) { return q->length == 0; }
@@ -274,8 +276,17 @@ static Answer deliver(Store *s, unsigned k)
 
 /* Memory and control */
 
-/* ends a service: sets the flags and sends the grant; there is room for it */
-static void close_service(Store *s, const Control *service)
+/* the open service of the block, or null */
+static Service *service_of(Store *s, unsigned block)
+{
+    for (Service *service = s->services; service < s->services + s->open; service++)
+        if (service->block == block)
+            return service;
+    return NULL;
+}
+
+/* what a service does at its end: sets the flags and sends the grant; there is room for it */
+static void close_service(Store *s, const Service *service)
 {
     Block *block = &s->blocks[service->block];
     unsigned self = 1u << service->lane;
@@ -290,7 +301,6 @@ static void close_service(Store *s, const Control *service)
         push(downs, GRANT_BARE, service->block);
     else
         push(downs, GRANT_WORDS, service->block)->words = block->words;
-    s->control.busy = false;
 }
 
 /* bench/serves counts a serve's instructions apart: it compiles with SERVE_CALL as noinline, noclone */
@@ -306,16 +316,16 @@ SERVE_CALL static Answer serve(Store *s, unsigned k)
     Waiting *waiting = &lane->waiting;
     if (waiting->state != UNSERVED)
         return refused(NOTHING_PENDING);
-    if (s->control.busy)
+    unsigned number = waiting->word / WORDS, command = waiting->command;
+    if (s->open == s->limit || service_of(s, number))
         return refused(CONTROL_BUSY);
     if (!is_empty(&lane->returns))
         return refused(RETURNS_PENDING);
-    unsigned number = waiting->word / WORDS, command = waiting->command;
     const Block *block = &s->blocks[number];
     unsigned self = 1u << k;
     unsigned ordered = command == READ_SHARED && !block->modified ? 0 : block->present & ~self;
     bool bare = command == EXCLUDE && block->present & self;
-    Control service = { true, bare, k, number, command, 0 };
+    Service service = { bare, k, number, command, 0 };
     if (ordered == 0) {
         if (is_full(&lane->downs))
             return refused(QUEUE_FULL);
@@ -331,7 +341,7 @@ SERVE_CALL static Answer serve(Store *s, unsigned k)
         service.awaited++;
     }
     waiting->state = SERVED;
-    s->control = service;
+    s->services[s->open++] = service;
     return stepped();
 }
 
@@ -343,10 +353,10 @@ static Answer take_return(Store *s, unsigned k)
     if (is_empty(returns))
         return refused(NOTHING_PENDING);
     const Message *message = head(returns);
-    Control *service = &s->control;
-    bool answer = message->kind != EJECT && message->kind != WRITE_EJECT;
-    if (answer) {
-        if (!service->busy || service->block != message->block || service->awaited == 0)
+    Service *service = NULL; /* an answer's */
+    if (message->kind != EJECT && message->kind != WRITE_EJECT) {
+        service = service_of(s, message->block);
+        if (!service || service->awaited == 0)
             return refused(UNEXPECTED);
         if (service->awaited == 1 && is_full(&s->lanes[service->lane].downs))
             return refused(QUEUE_FULL);
@@ -359,21 +369,26 @@ static Answer take_return(Store *s, unsigned k)
         block->modified = false;
     }
     pop(returns);
-    if (answer && --service->awaited == 0)
+    if (service && --service->awaited == 0) {
         close_service(s, service);
+        *service = s->services[--s->open];
+    }
     return stepped();
 }
 
-static Answer open_store(Store *s, unsigned n, unsigned c, unsigned m)
+static Answer open_store(Store *s, unsigned n, unsigned c, unsigned m, unsigned limit)
 {
     if (s->n)
         return refused(ALREADY_OPEN);
     if (n < 2 || n > MAX_LANES || c < 1 || c > MAX_LINES || m < 1 || m > MAX_BLOCKS)
         return refused(INVALID_SHAPE);
+    if (limit < 1 || limit > MAX_SERVICES)
+        return refused(INVALID_LIMIT);
     memset(s, 0, sizeof *s);
     s->n = n;
     s->c = c;
     s->m = m;
+    s->limit = limit;
     for (unsigned k = 0; k < n; k++)
         for (unsigned i = 0; i < c; i++)
             s->lanes[k].order[i] = i;
@@ -384,8 +399,8 @@ static Answer open_store(Store *s, unsigned n, unsigned c, unsigned m)
 
 static Answer record(Store *s, unsigned kind, const uint8_t *body)
 {
-    if (kind == OPEN)
-        return open_store(s, body[0], body[1], body[2]);
+    if (kind == OPEN || kind == OPEN_LIMIT)
+        return open_store(s, body[0], body[1], body[2], kind == OPEN ? 1 : body[3]);
     if (!s->n)
         return refused(NOT_OPEN);
     switch (kind) {
@@ -455,12 +470,12 @@ static char *put_row(char *p, uint32_t index, Answer answer)
 
 static char *replay(char *p, Store *s, const uint8_t *tape, size_t length)
 {
-    static const uint8_t body_length[] = { 3, 2, 6, 6, 6, 1, 1, 1 };
+    static const uint8_t body_length[] = { 3, 2, 6, 6, 6, 1, 1, 1, 4 };
     uint32_t index = 0;
     size_t at = 0;
     while (at < length) {
         unsigned kind = tape[at++];
-        if (kind > DELIVER) {
+        if (kind > OPEN_LIMIT) {
             p = put_row(p, index++, refused(UNKNOWN_KIND));
             break;
         }

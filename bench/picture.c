@@ -5,7 +5,7 @@
 #include <stdio.h>
 #include <string.h>
 
-enum { STORE = 3549, CALL = 8, ANSWER = 12, BUFFER = 1300, LANES_AT = 13, LANE = 242, LINE = 19, RECORD = 19 };
+enum { STORE = 5320, CALL = 8, ANSWER = 12, BUFFER = 1300, LANES_AT = 56, LANE = 458, LINE = 19, RECORD = 19 };
 
 /* Line i of lane k: VALID, PRIVATE, block, four words. */
 static const uint8_t *line_at(const uint8_t *store, unsigned k, unsigned i) {

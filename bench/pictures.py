@@ -7,7 +7,7 @@ that are refused by 15 after the valid lines are counted, NAME.refused. Prints t
 import struct
 import sys
 
-# a store's n, c and m, and the block that line i of lane k has, if it is valid
+# a store's n, c and m (L is 1), and the block that line i of lane k has, if it is valid
 STORES = {
     "full": (8, 8, 64, lambda k, i: 63 - 8 * k - i),
     "few": (8, 8, 64, lambda k, i: i if k < 2 else None),
@@ -25,8 +25,8 @@ def store(n, c, m, block_of):
     for k in range(8):
         for i in range(8):
             lanes += line(block_of(k, i) if k < n and i < c else None, 8 * k + i)
-        lanes += bytes(range(8)) + bytes(37 + 37 + 8)
-    return bytes([n, c, m]) + bytes(4 + 6) + lanes + bytes(64 * 25)
+        lanes += bytes(range(8)) + bytes(145 + 145 + 8)
+    return bytes([n, c, m, 1]) + bytes(4 + 8 * 6) + lanes + bytes(64 * 25)
 
 
 def main():

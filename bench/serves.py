@@ -3,7 +3,7 @@
 
 Writes to DIR, for serves that send 0, 1 and 7 orders: COUNT of them as heldstores' cases (tests/reference/README.md), N.cases; and for the C
 machine, which has no held stores, a tape that ends with the serve, N.tape, and the tape without it, N.before.tape. Prints each N. The store has
-8 lanes of one line and one block, and lane 3 is served.
+8 lanes of one line, one block and L = 1, and lane 3 is served.
 """
 import sys
 
@@ -26,13 +26,13 @@ def line(has, private):
 
 def lane(k, operation, command, present, modified):
     waiting = bytes([1, command, operation - LOAD]) + bytes(5) if k == LANE else bytes(8)
-    return line(k in present, modified) + bytes(7 * 19) + bytes(range(8)) + bytes(37 + 37) + waiting
+    return line(k in present, modified) + bytes(7 * 19) + bytes(range(8)) + bytes(145 + 145) + waiting
 
 
 def case(operation, command, present, modified):
     lanes = b"".join(lane(k, operation, command, present, modified) for k in range(LANES))
     block = bytes(16) + bytes(k in present for k in range(LANES)) + bytes([modified])
-    return bytes([LANES, 1, 1]) + bytes(4 + 6) + lanes + block + bytes(63 * 25) + bytes([SERVE, LANE]) + bytes(6)
+    return bytes([LANES, 1, 1, 1]) + bytes(4 + 8 * 6) + lanes + block + bytes(63 * 25) + bytes([SERVE, LANE]) + bytes(6)
 
 
 def begin(k, operation):

@@ -1,24 +1,38 @@
 #!/usr/bin/env python3
 """The bench's tapes, the same on every run.
 
-tapes.py DIR                    writes DIR/small.tape, DIR/large.tape and DIR/random.tape
+tapes.py DIR                    writes DIR/small.tape, DIR/large.tape, DIR/random.tape and DIR/several.tape
 tapes.py --shares TAPE < LINES  prints how the tape's records share out, by what a replay printed
 """
 import os
 import sys
 from collections import deque
+from dataclasses import dataclass
 
 MAX_TAPE = 65536
-OPEN, LOAD, STORE, EXCHANGE, ADD, SERVE, RETURN, DELIVER = range(8)
-BODY = (3, 2, 6, 6, 6, 1, 1, 1)
+OPEN, LOAD, STORE, EXCHANGE, ADD, SERVE, RETURN, DELIVER, OPEN_LIMIT = range(9)
+BODY = (3, 2, 6, 6, 6, 1, 1, 1, 4)
 
-# lanes, lines, blocks; seed; percent of begins on a block that the lane holds; percent of loads;
-# percent of records chosen blindly (often refused); percent of odd records (always refused); percent of loads beside a waiting operation,
-# where there is a lane that can make one
+
+@dataclass
+class Plan:
+    """How a tape is made; all but shape and seed are percents."""
+
+    shape: tuple  # lanes, lines, blocks, and the limit L where kind 08 opens
+    seed: int
+    near: int  # of begins: on a block that the lane holds
+    loads: int  # of begins: loads
+    blind: int  # of records: chosen blindly, often refused
+    odd: int  # of records: always refused
+    beside: int  # of records: a load beside a waiting operation, where there is a lane that can make one
+    serves: int = 0  # of records: a serve, where there is a lane that can be served
+
+
 TAPES = {
-    "small": ((2, 1, 2), 1, 25, 50, 5, 0, 5),
-    "large": ((8, 8, 64), 2, 40, 50, 20, 0, 5),
-    "random": ((5, 3, 11), 3, 31, 50, 8, 15, 5),
+    "small": Plan((2, 1, 2), 1, near=25, loads=50, blind=5, odd=0, beside=5),
+    "large": Plan((8, 8, 64), 2, near=40, loads=50, blind=20, odd=0, beside=5),
+    "random": Plan((5, 3, 11), 3, near=31, loads=50, blind=8, odd=15, beside=5),
+    "several": Plan((8, 8, 32, 8), 4, near=20, loads=50, blind=5, odd=0, beside=5, serves=50),
 }
 
 
@@ -53,18 +67,18 @@ class Lane:
 class Model:
     """Who holds and waits for what: enough to know which calls are refused. It has no words."""
 
-    def __init__(self, n, c, m):
-        self.n, self.c, self.m = n, c, m
+    def __init__(self, n, c, m, limit=1):
+        self.n, self.c, self.m, self.limit = n, c, m, limit
         self.lanes = [Lane() for _ in range(n)]
         self.present = [set() for _ in range(m)]
         self.modified = [False] * m
-        self.service = None  # [lane, block, is shared, awaited]
+        self.services = {}  # block: [lane, is shared, awaited]
 
     def allowed(self, kind, k, block=None):
         lane = self.lanes[k]
         if kind == SERVE:
             unserved = lane.waiting and not lane.waiting[3]
-            return bool(unserved) and not self.service and not lane.returns
+            return bool(unserved) and lane.waiting[1] not in self.services and len(self.services) < self.limit and not lane.returns
         if kind == RETURN:
             return bool(lane.returns)
         if kind == DELIVER:
@@ -74,6 +88,10 @@ class Model:
     def beside(self):
         """The lanes that wait and hold a block, so that they can load."""
         return [k for k, lane in enumerate(self.lanes) if lane.waiting and lane.lines]
+
+    def servable(self):
+        """The lanes that can be served."""
+        return [k for k in range(self.n) if self.allowed(SERVE, k)]
 
     def run(self, kind, k, block=0):
         if kind == SERVE:
@@ -105,19 +123,18 @@ class Model:
             ordered = set()
         for j in ordered:
             self.lanes[j].downs.append(("UPDATE" if load else "PURGE", block))
-        self.service = [k, block, load, len(ordered)]
+        self.services[block] = [k, load, len(ordered)]
         if not ordered:
-            self.close()
+            self.close(block)
 
-    def close(self):
-        k, block, shared, _ = self.service
+    def close(self, block):
+        k, shared, _ = self.services.pop(block)
         if shared:
             self.present[block].add(k)
         else:
             self.present[block] = {k}
             self.modified[block] = True
         self.lanes[k].downs.append(("grant", block))
-        self.service = None
 
     def take_return(self, k):
         answer, block, words, leaves = self.lanes[k].returns.popleft()
@@ -126,9 +143,9 @@ class Model:
         if words:
             self.modified[block] = False
         if answer:
-            self.service[3] -= 1
-            if self.service[3] == 0:
-                self.close()
+            self.services[block][2] -= 1
+            if self.services[block][2] == 0:
+                self.close(block)
 
     def deliver(self, k):
         lane = self.lanes[k]
@@ -169,32 +186,36 @@ def odd_record(chance, model):
     return record(chance, kind, model.n + chance.below(256 - model.n), chance.below(256))
 
 
-def make(shape, seed, near, loads, blind, odd, beside):
-    chance = Chance(seed)
-    model = Model(*shape)
+def make(plan):
+    chance = Chance(plan.seed)
+    model = Model(*plan.shape)
     tape = bytearray()
-    if odd:  # refused: not open, invalid shape
+    if plan.odd:  # refused: not open, invalid shape
         tape += bytes((SERVE, 0, OPEN, 1, 1, 1, LOAD, 0, 0))
-    tape += bytes((OPEN, *shape))
+    tape += bytes((OPEN_LIMIT if len(plan.shape) == 4 else OPEN, *plan.shape))
     while True:
-        if chance.percent(odd):
+        if chance.percent(plan.odd):
             new = odd_record(chance, model)
-        elif model.beside() and chance.percent(beside):
+        elif model.beside() and chance.percent(plan.beside):
             k = chance.of(model.beside())
             block = chance.of(sorted(model.lanes[k].lines))
             new = record(chance, LOAD, k, 4 * block + chance.below(4))
             model.run(LOAD, k, block)
+        elif plan.serves and model.servable() and chance.percent(plan.serves):
+            k = chance.of(model.servable())
+            new = record(chance, SERVE, k, 0)
+            model.run(SERVE, k)
         else:
             calls = [(kind, k) for kind in (LOAD, SERVE, RETURN, DELIVER) for k in range(model.n)]
-            if not chance.percent(blind):
+            if not chance.percent(plan.blind):
                 calls = [call for call in calls if model.allowed(*call)]
             kind, k = chance.of(calls)
             block = chance.below(model.m)
             if kind == LOAD:
                 held = sorted(model.lanes[k].lines)
-                if held and chance.percent(near):
+                if held and chance.percent(plan.near):
                     block = chance.of(held)
-                if not chance.percent(loads):
+                if not chance.percent(plan.loads):
                     kind = chance.of((STORE, EXCHANGE, ADD))
             new = record(chance, kind, k, 4 * block + chance.below(4))
             if model.allowed(kind, k, block):
@@ -207,7 +228,7 @@ def make(shape, seed, near, loads, blind, odd, beside):
 def shares(tape, lines):
     """Percent of records: those taken by kind, and those refused."""
     count = dict.fromkeys(("open", "begin", "deliver", "serve", "return", "refused"), 0)
-    names = ("open", "begin", "begin", "begin", "begin", "serve", "return", "deliver")
+    names = ("open", "begin", "begin", "begin", "begin", "serve", "return", "deliver", "open")
     at = 0
     for line in lines[:-1]:
         kind = tape[at]
@@ -227,7 +248,7 @@ def main():
     elif len(sys.argv) == 2 and not sys.argv[1].startswith("-"):
         for name, plan in TAPES.items():
             with open(os.path.join(sys.argv[1], name + ".tape"), "wb") as tape:
-                tape.write(make(*plan))
+                tape.write(make(plan))
     else:
         sys.exit(__doc__.strip())
 

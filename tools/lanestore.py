@@ -1,21 +1,24 @@
-"""A small model of document 01's machine (with the places of 02, W1, and the fills of W3), for the charts: which messages a tape's records send and take.
+"""A small model of document 01's machine (with the places of 02, W1, the fills of W3, the loads of W5 and the services of W6), for the charts: which messages a tape's records send and take.
 
 What benchtape prints does not name messages, so the charts need it. It knows the refusals 8 to 11 only. Each answer it gives is held
 to the line that benchtape printed (tools/charts); nothing else rests on it. `tape_of` gives a tape's bytes to the tools that make tapes.
 """
 from dataclasses import dataclass, field
 
-NAMES = ['open', 'load', 'store', 'exchange', 'add', 'serve', 'return', 'deliver']
-LENGTHS = [3, 2, 6, 6, 6, 1, 1, 1]
+NAMES = ['open', 'load', 'store', 'exchange', 'add', 'serve', 'return', 'deliver', 'open']
+LENGTHS = [3, 2, 6, 6, 6, 1, 1, 1, 4]
+OPEN_LIMIT = 8
 CONTROL = 'control'
-REASONS = {8: 'lane {0} waits for its operation', 9: 'nothing there for lane {0}', 10: 'another service is open',
+REASONS = {8: 'lane {0} waits for its operation', 9: 'nothing there for lane {0}', 10: 'its block is in service, or L services are open',
            11: "lane {0}'s return queue is taken first"}
 
 
 def record_bytes(text):
-    """The bytes of a record in words, such as 'store 0 5 7': kind, fields of one byte, v in four, low byte first."""
+    """The bytes of a record in words, such as 'store 0 5 7': kind, fields of one byte, v in four, low byte first. An open of four fields has L: kind 08."""
     kind, *fields = text.split()
     numbers = [int(field) for field in fields]
+    if kind == 'open' and len(numbers) == LENGTHS[OPEN_LIMIT]:
+        return bytes([OPEN_LIMIT, *numbers])
     if kind in ('store', 'exchange', 'add'):
         return bytes([NAMES.index(kind), *numbers[:2]]) + numbers[2].to_bytes(4, 'little')
     return bytes([NAMES.index(kind), *numbers])
@@ -94,7 +97,7 @@ def records_of(tape):
     records, at = [], 0
     while at < len(tape):
         body = tape[at + 1:at + 1 + LENGTHS[tape[at]]]
-        fields = list(body[:3]) if tape[at] == 0 else list(body[:2])
+        fields = list(body) if NAMES[tape[at]] == 'open' else list(body[:2])
         if len(body) == 6:
             fields.append(int.from_bytes(body[2:], 'little'))
         records.append(Record(NAMES[tape[at]], fields))
@@ -110,11 +113,12 @@ def apply(op, former, v):
 class Bench:
     """A store, and the messages that have gone through it. A step gives its answer and what happened, in words."""
 
-    def __init__(self, lanes, lines, blocks):
+    def __init__(self, lanes, lines, blocks, limit=1):
         self.lanes = [Lane({}, list(range(lines))) for _ in range(lanes)]
         self.lines = lines
         self.blocks = [Block([0] * 4, set()) for _ in range(blocks)]
-        self.service = None
+        self.limit = limit
+        self.services = {}
         self.completions = 0
         self.row = 0
         self.messages = []
@@ -164,32 +168,34 @@ class Bench:
         lane = self.lanes[k]
         if not lane.waiting or lane.waiting['served']:
             raise Refused(9)
-        if self.service or lane.returns:
-            raise Refused(10 if self.service else 11)
         command = lane.waiting['command']
+        if command.block in self.services or len(self.services) == self.limit:
+            raise Refused(10)
+        if lane.returns:
+            raise Refused(11)
         command.taken, lane.waiting['served'] = self.row, True
         block = self.blocks[command.block]
         shared = command.name == 'READ shared'
         ordered = sorted(block.present - {k}) if block.modified or not shared else []
         bare = command.name == 'EXCLUDE' and k in block.present
-        self.service = {'lane': k, 'block': command.block, 'shared': shared, 'awaited': len(ordered), 'bare': bare}
-        return 'step', self.order('UPDATE' if shared else 'PURGE', command.block, ordered) if ordered else self.close()
+        self.services[command.block] = {'lane': k, 'shared': shared, 'awaited': len(ordered), 'bare': bare}
+        return 'step', self.order('UPDATE' if shared else 'PURGE', command.block, ordered) if ordered else self.close(command.block)
 
     def order(self, name, block, ordered):
         for j in ordered:
             self.lanes[j].downs.append(self.send(name, CONTROL, j, block))
         return f'{name} to lane ' + ' and '.join(map(str, ordered)) + f': {len(ordered)} awaited'
 
-    def close(self):
-        service, self.service = self.service, None
-        block, k = self.blocks[service['block']], service['lane']
+    def close(self, number):
+        service = self.services.pop(number)
+        block, k = self.blocks[number], service['lane']
         if service['shared']:
             block.present.add(k)
         else:
             block.present, block.modified = {k}, True
         words = None if service['bare'] else list(block.words)
         name = 'bare grant' if service['bare'] else 'grant'
-        self.lanes[k].downs.append(self.send(name, CONTROL, k, service['block'], words))
+        self.lanes[k].downs.append(self.send(name, CONTROL, k, number, words))
         return f'closes: {name} to lane {k}'
 
     def back(self, k):
@@ -202,9 +208,10 @@ class Bench:
         told = 'words written' if message.words is not None else f"lane {k}'s PRESENT reset"
         if message.name in ('EJECT', 'WRITE-EJECT'):
             return 'step', told
-        self.service['awaited'] -= 1
-        left = self.service['awaited']
-        return 'step', f'{told}; ' + (f'{left} awaited' if left else self.close())
+        service = self.services[message.block]
+        service['awaited'] -= 1
+        left = service['awaited']
+        return 'step', f'{told}; ' + (f'{left} awaited' if left else self.close(message.block))
 
     def deliver(self, k):
         lane = self.lanes[k]
