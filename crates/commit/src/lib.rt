@@ -87,8 +87,9 @@ pub fn commit_move(s: Store, k: LaneNo, a: BlockNo, v: ByteMove) -> Outcome
         left = without_lowest(left);
     }
     let x = v.control;
+    t.control = x;
     Outcome {
         answer: e,
-        store: Store { control: x, ..t },
+        store: t,
     }
 }

@@ -9,6 +9,7 @@ ghost use Rattle.store.specs.Stores.{laneAt, blockAt};
 ghost use Rattle.machine.specs.Corruption.{badLane, badFlag, badFlags, badService, badSlot, badControl, corruptOf};
 use store::Block;
 use store::Control;
+use store::SLOTS;
 use store::Service;
 use store::Store;
 use words::BlockNo;
@@ -133,7 +134,7 @@ fn bad_control(shape: Shape, x: Control) -> bool
         return true;
     }
     let mut k: u8 = 0;
-    while k < 8 {
+    while k < SLOTS {
         if bad_slot(x, shape.n, shape.m, k) {
             return true;
         }

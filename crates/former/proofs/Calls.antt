@@ -1,5 +1,5 @@
 -- The calls, the picture and lists of calls on the same stores, and the opening. Assumes nothing.
-use Prim.Native.Nat.{ℕ}
+use Prim.Native.Nat.{ℕ, zero, suc, _<_}
 use native.Mathlib.Omega.{arith}
 use mathlib.Core.Logic.{_⊎_, inl, inr}
 use mathlib.Core.Path.{_≡_, refl, sym, ap, _∙_}
@@ -83,16 +83,21 @@ unfolding FormerCalls.run
 same-list ins t s [] e f = run-none ins t s e
 same-list ins t s (x ∷ xs) e f = let h = same-call ins t s x e (f .0) in run-more ins t s x xs h (same-list ins _ _ xs (h .store) (f .1))
 
+-- what is gathered below n, where it agrees there
+gather-agree : {A : Type 0} (f g : ℕ → List A) (n : ℕ) → ((j : ℕ) → j < n → f j ≡ g j) → gatherTo f n ≡ gatherTo g n
+unfolding gatherTo
+gather-agree f g zero e = refl
+gather-agree f g (suc n) e = rw (gather-agree f g n (λ j h. e j (omega arith)), e n (omega arith))
+
 -- the bytes of a picture
-bytes-parts : (shape : Shape) (x : FormerControl.Control) (y : Control) (done : ℕ) (ps ls : List Lane) (bs : List Block) → shape .limit ≡ 1 → SameControl x y → SameLanes ps ls →
+bytes-parts : (shape : Shape) (x : FormerControl.Control) (y : Control) (done : ℕ) (ps ls : List Lane) (bs : List Block) → shape .limit ≡ 1 → SameControl x y → SameLanes (shape .n) ps ls →
     FormerCalls.pictureBytes (formerWith shape x done ps bs) ≡ pictureBytes (storeWith shape y done ls bs)
 unfolding FormerCalls.pictureBytes pictureBytes
 bytes-parts shape x y done ps ls bs one ec el =
-    let e : _≡_ {A = ℕ → List Line} (λ k. getD ps k noLane .lines) (λ k. getD ls k noLane .lines) = each-lane (λ l. l .lines) (λ l. l .lines) ps ls el (λ p l f. f .lines) refl in
-    ap
-    (λ (f : ℕ → List Line).
-    gatherTo (λ a. gatherTo (λ k. gatherTo (λ i. let z = getD (f k) i noLine in cond (holdsOf z (record { 0 = a })) (recordBytes k z) []) (shape .c)) (shape .n)) (shape .m))
-    e
+    let e = each-lane (λ l. l .lines) (λ l. l .lines) (shape .n) ps ls el (λ p l f. f .lines) refl in
+    gather-agree _ _ (shape .m)
+    (λ a _. gather-agree _ _ (shape .n)
+    (λ k h. ap (λ (f : List Line). gatherTo (λ i. let z = getD f i noLine in cond (holdsOf z (record { 0 = a })) (recordBytes k z) []) (shape .c)) (e k h)))
 
 bytes-same : (t : Former.Store) (s : Store) → Same t s → FormerCalls.pictureBytes t ≡ pictureBytes s
 bytes-same = by-stores (λ t s. FormerCalls.pictureBytes t ≡ pictureBytes s) bytes-parts
@@ -126,7 +131,7 @@ fresh-same shape one = record {
   limit = one;
   control = record { slots = refl; services = blank-services };
   completions = refl;
-  lanes = record { formerLanes = refl; lanes = refl; lane = λ k h. rw (getD-replicate 8 k Former.blankLane noLane h, getD-replicate 8 k blankLane noLane h) blank-same };
+  lanes = record { formerLanes = refl; lanes = refl; lane = λ k h _. rw (getD-replicate 8 k Former.blankLane noLane h, getD-replicate 8 k blankLane noLane h) blank-same };
   blocks = refl;
 }
 

@@ -37,6 +37,7 @@ use Rattle.former.specs.Same.{SameLane, SameLanes, SameControl, Same}
 use Rattle.former.proofs.Pairs.{both}
 use Rattle.former.proofs.Lanes.{Step}
 use Rattle.former.proofs.Corruption.{formerWith, storeWith, parts-same}
+use Rattle.former.proofs.Inside.{Inside}
 use Rattle.former.proofs.Posts.{none-full, full-long, post-same}
 
 -- equal answers, and the same stores
@@ -63,16 +64,16 @@ pub refuse-same : (t : Former.Store) (s : Store) (r : Refusal) → Same t s → 
 refuse-same t s r e = inr (record { answer = refl; store = e })
 
 -- one lane is put back
-set-same : (ps ls : List Lane) (k : ℕ) (p l : Lane) → SameLanes ps ls → SameLane p l → SameLanes (set ps k p) (set ls k l)
-set-same ps ls k p l e f = record {
+set-same : (n : ℕ) (ps ls : List Lane) (k : ℕ) (p l : Lane) → SameLanes n ps ls → SameLane p l → SameLanes n (set ps k p) (set ls k l)
+set-same n ps ls k p l e f = record {
   formerLanes = length-set ps k p ∙ e .formerLanes;
   lanes = length-set ls k l ∙ e .lanes;
-  lane = λ j h. go j h (same? j k);
+  lane = λ j h b. go j h b (same? j k);
 }
   where
-    go : (j : ℕ) → j < 8 → (j ≡ k) ⊎ (j ≢ k) → SameLane (getD (set ps k p) j noLane) (getD (set ls k l) j noLane)
-    go j h (inl q) = rw (q, getD-set-same ps k p noLane (omega (arith, e .formerLanes)), getD-set-same ls k l noLane (omega (arith, e .lanes))) f
-    go j h (inr n) = rw (getD-set-other ps k j p noLane n, getD-set-other ls k j l noLane n) (e .lane j h)
+    go : (j : ℕ) → j < 8 → j < n → (j ≡ k) ⊎ (j ≢ k) → SameLane (getD (set ps k p) j noLane) (getD (set ls k l) j noLane)
+    go j h b (inl q) = rw (q, getD-set-same ps k p noLane (omega (arith, e .formerLanes)), getD-set-same ls k l noLane (omega (arith, e .lanes))) f
+    go j h b (inr m) = rw (getD-set-other ps k j p noLane m, getD-set-other ls k j l noLane m) (e .lane j h b)
 
 -- memory's parts that are put back the same
 pub record SameMove (r : FormerChange.Move) (q : Move) : Type 0 where
@@ -87,7 +88,7 @@ pub record SameMove (r : FormerChange.Move) (q : Move) : Type 0 where
 abbrev formerMove : Answer → Lane → Block → FormerControl.Control → LaneSet → DownMessage → FormerChange.Move
 formerMove x l b y to m = record { answer = x; lane = l; block = b; control = y; to = to; message = m }
 
-module _ (shape : Shape) (x : FormerControl.Control) (y : Control) (done : ℕ) (ps ls : List Lane) (bs : List Block) (one : shape .limit ≡ 1) (ec : SameControl x y) (el : SameLanes ps ls) where
+module _ (shape : Shape) (x : FormerControl.Control) (y : Control) (done : ℕ) (ps ls : List Lane) (bs : List Block) (one : shape .limit ≡ 1) (ec : SameControl x y) (el : SameLanes (shape .n) ps ls) where
   abbrev t : Former.Store
   t = formerWith shape x done ps bs
 
@@ -109,18 +110,18 @@ module _ (shape : Shape) (x : FormerControl.Control) (y : Control) (done : ℕ) 
       inr (record {
         answer = ap (λ a. answerTo k (counted a done) a) (f .answer);
         store = both Same (refusedIn (r .answer)) (refusedIn (q .answer)) (ap refusedIn (f .answer)) (λ _. same)
-            (λ _. record { shape = refl; limit = one; control = ec; completions = ap (λ a. counted a done) (f .answer); lanes = set-same ps ls (k .0) (r .lane) (q .lane) el (f .lane); blocks = refl });
+            (λ _. record { shape = refl; limit = one; control = ec; completions = ap (λ a. counted a done) (f .answer); lanes = set-same (shape .n) ps ls (k .0) (r .lane) (q .lane) el (f .lane); blocks = refl });
       })
 
-  move-parts : (k : LaneNo) (a : BlockNo) (r : FormerControl.Control) (p : Lane) (q : Move) → SameLane p (q .lane) → SameControl r (q .control) →
+  move-parts : (k : LaneNo) (a : BlockNo) (r : FormerControl.Control) (p : Lane) (q : Move) → SameLane p (q .lane) → SameControl r (q .control) → Inside (shape .n) (q .to) →
       Result (FormerChange.commitMove t k a (formerMove (q .answer) p (q .block) r (q .to) (q .message))) (commitMove s k a q)
   unfolding FormerChange.commitMove commitMove
-  move-parts k a r p q f g =
-      let ms = set-same ps ls (k .0) p (q .lane) el f in
+  move-parts k a r p q f g i =
+      let ms = set-same (shape .n) ps ls (k .0) p (q .lane) el f in
       both Result (refusedOf (q .answer)) (refusedOf (q .answer)) refl (λ _. inr (record { answer = refl; store = same }))
-      (λ _. rw (none-full (q .to) (q .message) _ _ ms)
+      (λ _. rw (none-full (shape .n) (q .to) (q .message) _ _ ms i)
       (on (someFull Former.capacity (q .to) (set ps (k .0) p))
-      (λ full. let z = full-long (q .to) (q .message) _ _ ms full in
+      (λ full. let z = full-long (shape .n) (q .to) (q .message) _ _ ms i full in
       rw full (inl (record { full = refl; long = record { limit = one; lane = z .at; long = inr (leb-true 3 _ (z .passes)) } })))
       (λ room. rw room (inr (record {
         answer = refl;
@@ -129,13 +130,13 @@ module _ (shape : Shape) (x : FormerControl.Control) (y : Control) (done : ℕ) 
           limit = one;
           control = g;
           completions = refl;
-          lanes = post-same (q .to) (q .message) _ _ ms room;
+          lanes = post-same (shape .n) (q .to) (q .message) _ _ ms i room;
           blocks = refl;
         };
       })))))
 
-  pub commit-move : (k : LaneNo) (a : BlockNo) (r : FormerChange.Move) (q : Move) → SameMove r q → Result (FormerChange.commitMove t k a r) (commitMove s k a q)
-  commit-move k a r q e =
+  pub commit-move : (k : LaneNo) (a : BlockNo) (r : FormerChange.Move) (q : Move) → SameMove r q → Inside (shape .n) (q .to) → Result (FormerChange.commitMove t k a r) (commitMove s k a q)
+  commit-move k a r q e i =
       let z : formerMove (q .answer) (r .lane) (q .block) (r .control) (q .to) (q .message) ≡ r =
       sym (λ i. formerMove (e .answer i) (r .lane) (e .block i) (r .control) (e .to i) (e .message i)) in
-      subst (λ (m : FormerChange.Move). Result (FormerChange.commitMove t k a m) (commitMove s k a q)) z (move-parts k a (r .control) (r .lane) q (e .lane) (e .control))
+      subst (λ (m : FormerChange.Move). Result (FormerChange.commitMove t k a m) (commitMove s k a q)) z (move-parts k a (r .control) (r .lane) q (e .lane) (e .control) i)

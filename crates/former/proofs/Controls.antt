@@ -15,7 +15,7 @@ use Rattle.store.specs.declared.Service.{Service}
 use Rattle.store.specs.declared.Slot.{Slot}
 use Rattle.store.specs.declared.Control.{Control}
 use Rattle.store.specs.declared.Lookup.the-variants.{Of, Nothing}
-use Rattle.store.specs.Control.{slotAt, isFor, slotOf, serviceOf, openServices, busyOf, engagedOf, freeSlot, withService, withUpdated, withoutService}
+use Rattle.store.specs.Control.{slotAt, isFor, slotOf, serviceOf, openServices, busyOf, busyFor, freeSlot, withService, withUpdated, withoutService}
 use Rattle.store.proofs.Services.{Found, found, for-none, none-found, vacant, opened-count, opened-own, updated-own, updated-count, closed-count}
 use Rattle.machine.specs.Corruption.{badService, badSlot, badControl}
 use Rattle.machine.proofs.laws.Sums.{sum-change, sum-part, count-sum}
@@ -123,9 +123,9 @@ services-same Free y e = sym (e .services)
 services-same (Busy v) y e = sym (e .services .0)
 
 -- 10, with L = 1
-pub engaged-same : (x : Former.Control) (y : Control) (a : BlockNo) → SameControl x y → Former.busyOf x ≡ engagedOf 1 y a
-engaged-same Free y a e = rw (none-slot y (e .services) a, e .services)
-engaged-same (Busy v) y a e = rw (e .services .0) (sym (or-true (ltb (slotOf y a) 8)))
+pub busy-for-same : (x : Former.Control) (y : Control) (a : BlockNo) → SameControl x y → Former.busyOf x ≡ busyFor 1 y a
+busy-for-same Free y a e = rw (none-slot y (e .services) a, e .services)
+busy-for-same (Busy v) y a e = rw (e .services .0) (sym (or-true (ltb (slotOf y a) 8)))
 
 -- the service of a block
 pub service-same : (x : Former.Control) (y : Control) (a : BlockNo) → SameControl x y → Former.serviceOf x a ≡ serviceOf y a

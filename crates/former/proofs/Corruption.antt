@@ -8,12 +8,13 @@ use mathlib.Core.Bool.{Bool, true, false, not, cond, _||_, _&&_}
 use mathlib.Core.List.{List, [], _∷_}
 use lib.Dec.{ltb}
 use lib.ListN.{getD, List·getD-eq-default}
-use borrow.Author.Tests.{ltb-true, ltb-false, le-ltb}
+use borrow.Author.Tests.{ltb-true, le-ltb}
 use Rattle.words.specs.declared.Line.{Line}
 use Rattle.words.specs.declared.LineNo.{LineNo}
 use Rattle.words.specs.declared.Shape.{Shape}
 use Rattle.words.specs.Folds.{anyTo, anyOf, countTo}
-use Rattle.words.proofs.Folds.{below?, all-false}
+use Rattle.words.proofs.Folds.{below?}
+use Rattle.words.proofs.Folds as Folds
 use Rattle.queues.specs.declared.ReturnQueue.{ReturnQueue}
 use Rattle.queues.specs.declared.ReturnMessage.{ReturnMessage}
 use Rattle.queues.specs.declared.DownQueue.{DownQueue}
@@ -53,6 +54,12 @@ any-past p n (suc t) h f = go (eq-or-lt-of-le h) (λ q. any-past p n t q f)
     go : (n ≡ suc t) ⊎ (n < suc t) → (n ≤ t → anyTo p t ≡ anyTo p n) → (anyTo p t || p t) ≡ anyTo p n
     go (inl q) r = rw q
     go (inr q) r = or-past (anyTo p t) (p t) (f t (omega arith)) ∙ r (omega arith)
+
+-- two tests that agree below n
+any-agree : (p q : ℕ → Bool) (n : ℕ) → ((j : ℕ) → j < n → p j ≡ q j) → anyTo p n ≡ anyTo q n
+unfolding anyTo
+any-agree p q zero h = refl
+any-agree p q (suc n) h = rw (any-agree p q n (λ j l. h j (omega arith)), h n (omega arith))
 
 -- a test of the messages of the same queues: over two places, and over eight
 module _ {A : Type 0} (f : ℕ) (fs : List A) (n : ℕ) (ns : List A) (d : A) (e : SameQueue f fs n ns) (g : A → Bool) where
@@ -100,13 +107,13 @@ active-same : (p l : Lane) → SameLane p l → activeOf p ≡ activeOf l
 unfolding activeOf
 active-same p l e = λ i. cond (idleOf (e .waiting i)) (ltb 0 (e .returns .lens i) || ltb 0 (e .downs .lens i)) true
 
--- what agrees on the same lanes agrees on lane k of the same stores, whatever k is
-pub each-lane : {A : Type 0} (f g : Lane → A) (ps ls : List Lane) → SameLanes ps ls → ((p l : Lane) → SameLane p l → f p ≡ g l) → f noLane ≡ g noLane →
-    _≡_ {A = ℕ → A} (λ k. f (getD ps k noLane)) (λ k. g (getD ls k noLane))
-each-lane f g ps ls e same none = fun-ext (λ k. elim (below? k 8) [ inl h ↦ same _ _ (e .lane k h) | inr h ↦ past k h ])
+-- what agrees on the same lanes agrees on lane k of the same stores, where k is below n
+pub each-lane : {A : Type 0} (f g : Lane → A) (n : ℕ) (ps ls : List Lane) → SameLanes n ps ls → ((p l : Lane) → SameLane p l → f p ≡ g l) → f noLane ≡ g noLane →
+    (k : ℕ) → k < n → f (getD ps k noLane) ≡ g (getD ls k noLane)
+each-lane f g n ps ls e same none k b = elim (below? k 8) [ inl h ↦ same _ _ (e .lane k h b) | inr h ↦ past h ]
   where
-    past : (k : ℕ) → 8 ≤ k → f (getD ps k noLane) ≡ g (getD ls k noLane)
-    past k h = rw (List·getD-eq-default ps noLane {n = k} (omega (arith, e .formerLanes)), List·getD-eq-default ls noLane {n = k} (omega (arith, e .lanes))) none
+    past : 8 ≤ k → f (getD ps k noLane) ≡ g (getD ls k noLane)
+    past h = rw (List·getD-eq-default ps noLane {n = k} (omega (arith, e .formerLanes)), List·getD-eq-default ls noLane {n = k} (omega (arith, e .lanes))) none
 
 -- a condition that does not hold is left out
 left-out : (a f b : Bool) (r : List Bool) → f ≡ false → anyOf (a ∷ b ∷ r) ≡ anyOf (a ∷ f ∷ b ∷ r)
@@ -127,14 +134,14 @@ storeWith shape y done ls bs = record { shape = shape; control = y; completions 
 
 -- what holds of all stores with the same parts but for control and lanes holds of the same stores
 pub by-stores : (P : Former.Store → Store → Type 0) →
-    ((shape : Shape) (x : FormerControl.Control) (y : Control) (done : ℕ) (ps ls : List Lane) (bs : List Block) → shape .limit ≡ 1 → SameControl x y → SameLanes ps ls →
+    ((shape : Shape) (x : FormerControl.Control) (y : Control) (done : ℕ) (ps ls : List Lane) (bs : List Block) → shape .limit ≡ 1 → SameControl x y → SameLanes (shape .n) ps ls →
     P (formerWith shape x done ps bs) (storeWith shape y done ls bs)) →
     (t : Former.Store) (s : Store) → Same t s → P t s
 by-stores P h t s e =
     let z : formerWith (s .shape) (t .control) (s .completions) (t .lanes) (s .blocks) ≡ t = sym (λ i. formerWith (e .shape i) (t .control) (e .completions i) (t .lanes) (e .blocks i)) in
     subst (λ (x : Former.Store). P x s) z (h (s .shape) (t .control) (s .control) (s .completions) (t .lanes) (s .lanes) (s .blocks) (e .limit) (e .control) (e .lanes))
 
-module _ (shape : Shape) (x : FormerControl.Control) (y : Control) (done : ℕ) (ps ls : List Lane) (bs : List Block) (one : shape .limit ≡ 1) (ec : SameControl x y) (el : SameLanes ps ls) where
+module _ (shape : Shape) (x : FormerControl.Control) (y : Control) (done : ℕ) (ps ls : List Lane) (bs : List Block) (one : shape .limit ≡ 1) (ec : SameControl x y) (el : SameLanes (shape .n) ps ls) where
   -- the two stores
   abbrev t : Former.Store
   t = formerWith shape x done ps bs
@@ -147,14 +154,15 @@ module _ (shape : Shape) (x : FormerControl.Control) (y : Control) (done : ℕ) 
 
   pub begun-same : FormerCorruption.begunIn t ≡ begunIn s
   unfolding FormerCorruption.begunIn FormerCorruption.waitingIn begunIn waitingIn
-  begun-same = ap (λ p. done + countTo p (shape .n)) (each-lane (λ l. not (idleOf (l .waiting))) (λ l. not (idleOf (l .waiting))) ps ls el (λ p l e. ap (λ w. not (idleOf w)) (e .waiting)) refl)
+  begun-same =
+      ap (λ k. done + k) (Folds.count-same _ _ (shape .n) (each-lane (λ l. not (idleOf (l .waiting))) (λ l. not (idleOf (l .waiting))) (shape .n) ps ls el (λ p l e. ap (λ w. not (idleOf w)) (e .waiting)) refl))
 
   pub corrupt-same : FormerCorruption.corruptOf t ≡ corruptOf s
   unfolding FormerCorruption.corruptOf corruptOf
   corrupt-same =
       let u : FormerCorruption.badControl (shape .n) (shape .m) x ≡ badControl shape y = bad-same shape x y one ec in
       let v : anyTo (λ k. badLane Former.capacity (shape .c) (shape .m) (getD ps k noLane)) (shape .n) ≡ anyTo (λ k. badLane capacity (shape .c) (shape .m) (getD ls k noLane)) (shape .n) =
-      ap (λ p. anyTo p (shape .n)) (each-lane _ _ ps ls el (bad-lane-same (shape .c) (shape .m)) (no-lane-same (shape .c) (shape .m))) in
+      any-agree _ _ (shape .n) (each-lane _ _ (shape .n) ps ls el (bad-lane-same (shape .c) (shape .m)) (no-lane-same (shape .c) (shape .m))) in
       let w : ltb lastPlace (FormerCorruption.begunIn t) ≡ ltb lastPlace (begunIn s) = ap (ltb lastPlace) begun-same in
       (λ i. anyOf (badShape shape ∷ u i ∷ v i ∷ anyTo (λ a. badFlags (shape .n) (Former.blockAt t a)) (shape .m) ∷ w i ∷ [])) ∙ left-out _ _ _ _ (limit-fits shape one)
 
@@ -162,10 +170,5 @@ module _ (shape : Shape) (x : FormerControl.Control) (y : Control) (done : ℕ) 
   unfolding Former.quietOf quietOf
   quiet-same =
       let u : FormerControl.busyOf x ≡ _ = busy-same x y ec in
-      let v = each-lane activeOf activeOf ps ls el active-same refl in
-      λ i. cond (u i) false (not (anyTo (v i) (shape .n)))
-
-  -- a store that is not corrupt has at most eight lanes
-  pub few-lanes : FormerCorruption.corruptOf t ≡ false → shape .n ≤ 8
-  unfolding FormerCorruption.corruptOf badShape
-  few-lanes h = let a = all-false _ h in let b = all-false _ (a .0) in ltb-false 8 (shape .n) (b .1 .0)
+      let v = any-agree _ _ (shape .n) (each-lane activeOf activeOf (shape .n) ps ls el active-same refl) in
+      λ i. cond (u i) false (not (v i))

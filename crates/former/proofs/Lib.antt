@@ -4,6 +4,7 @@ pub mod Queues
 pub mod Lanes
 pub mod Controls
 pub mod Corruption
+pub mod Inside
 pub mod Posts
 pub mod Commits
 pub mod Steps

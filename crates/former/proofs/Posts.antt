@@ -1,25 +1,27 @@
--- A message sent to some lanes of the same stores: the same, unless one of their down queues has two messages. Assumes nothing.
+-- A message sent to some of the lanes of the same stores: the same, unless one of their down queues has two messages. Assumes nothing.
 use Prim.Native.Nat.{ℕ, zero, suc, _+_, _<_, _≤_}
 use mathlib.Core.Path.{_≡_, refl, sym, _∙_}
-use mathlib.Core.Bool.{Bool, true, false, _&&_, true≢false, and-false}
+use mathlib.Core.Logic.{_⊎_, inl, inr}
+use mathlib.Core.Bool.{Bool, true, false, _&&_, true≢false}
 use mathlib.Core.List.{List}
 use lib.Dec.{leb}
 use lib.ListN.{length, getD}
 use native.Mathlib.Omega.{arith}
 use borrow.Author.Tests.{leb-true, leb-false, lt-leb, le-leb}
 use Rattle.words.specs.Folds.{anyTo}
-use Rattle.words.proofs.Folds.{any-false, any-never}
+use Rattle.words.proofs.Folds.{below?, any-false, any-never}
 use Rattle.queues.specs.Queues.{capacity}
 use Rattle.queues.specs.declared.DownMessage.{DownMessage}
 use Rattle.lanes.specs.declared.Lane.{Lane}
 use Rattle.store.specs.Stores.{noLane}
 use Rattle.store.specs.LaneSets.{LaneSet, goesTo}
 use Rattle.machine.specs.Change.{someFull, posted, postAll}
-use Rattle.machine.proofs.laws.Tests.{on, and-right, and-both}
+use Rattle.machine.proofs.laws.Tests.{on, and-right, and-both, and-never}
 use Rattle.machine.proofs.bounds.Posts.{post-all-at, post-all-length}
 use Rattle.former.specs.Stores as Former
 use Rattle.former.specs.Same.{SameLane, SameLanes}
 use Rattle.former.proofs.Pairs.{both}
+use Rattle.former.proofs.Inside.{Inside}
 use Rattle.former.proofs.Queues.{push-same}
 
 -- one number below n that passes a test
@@ -35,11 +37,19 @@ any-passes p (suc n) e =
     on (anyTo p n) (λ t. let r = any-passes p n t in record { at = r .at; below = let h = r .below in omega arith; passes = r .passes })
     (λ f. record { at = n; below = omega arith; passes = rw f at e })
 
-module _ (to : LaneSet) (x : DownMessage) (ps ls : List Lane) (e : SameLanes ps ls) where
+module _ (n : ℕ) (to : LaneSet) (x : DownMessage) (ps ls : List Lane) (e : SameLanes n ps ls) (inside : Inside n to) where
+  -- a lane that it goes to is there
+  lane-to : (j : ℕ) → j < 8 → goesTo to j ≡ true → SameLane (getD ps j noLane) (getD ls j noLane)
+  lane-to j h t = go (below? j n)
+    where
+      go : (j < n) ⊎ (n ≤ j) → SameLane (getD ps j noLane) (getD ls j noLane)
+      go (inl l) = e .lane j h l
+      go (inr l) = absurd (true≢false (sym t ∙ inside j l h))
+
   -- eight places are enough
   pub none-full : someFull capacity to ls ≡ false
   unfolding someFull
-  none-full = any-never _ 8 (λ j h. let q = e .lane j h .downs in rw (lt-leb 8 (getD ls j noLane .downs .len) (omega (arith, q .lens, q .short))) (and-false (goesTo to j)))
+  none-full = any-never _ 8 (λ j h. and-never (goesTo to j) _ (λ t. let q = lane-to j h t .downs in lt-leb 8 (getD ls j noLane .downs .len) (omega (arith, q .lens, q .short))))
 
   -- two were not: then one queue has three messages now
   pub full-long : someFull Former.capacity to ps ≡ true → Passes (λ j. leb 3 (getD (postAll capacity to x ls) j noLane .downs .len)) 8
@@ -47,7 +57,7 @@ module _ (to : LaneSet) (x : DownMessage) (ps ls : List Lane) (e : SameLanes ps 
   full-long f =
       let r = any-passes (λ j. goesTo to j && leb 2 (getD ps j noLane .downs .len)) 8 f in
       let b = and-both (goesTo to (r .at)) (leb 2 (getD ps (r .at) noLane .downs .len)) (r .passes) in
-      let q = e .lane (r .at) (r .below) .downs in
+      let q = lane-to (r .at) (r .below) (b .0) .downs in
       let h : 2 ≤ getD ps (r .at) noLane .downs .len = leb-true 2 _ (b .1) in
       let u : leb 8 (getD ls (r .at) noLane .downs .len) ≡ false = lt-leb 8 (getD ls (r .at) noLane .downs .len) (omega (arith, q .lens, q .short)) in
       let i : r .at < length ls = let z = r .below in let y = e .lanes in omega arith in
@@ -61,14 +71,14 @@ module _ (to : LaneSet) (x : DownMessage) (ps ls : List Lane) (e : SameLanes ps 
       let v : leb 8 (l .downs .len) ≡ false = lt-leb 8 (l .downs .len) (omega (arith, q .lens)) in
       rw (u, v) (record { lines = g .lines; order = g .order; waiting = g .waiting; returns = g .returns; downs = push-same _ _ _ _ x q h })
 
-  pub post-same : someFull Former.capacity to ps ≡ false → SameLanes (postAll Former.capacity to x ps) (postAll capacity to x ls)
+  pub post-same : someFull Former.capacity to ps ≡ false → SameLanes n (postAll Former.capacity to x ps) (postAll capacity to x ls)
   unfolding someFull
   post-same f = record {
     formerLanes = post-all-length Former.capacity to x ps ∙ e .formerLanes;
     lanes = post-all-length capacity to x ls ∙ e .lanes;
-    lane = λ j h.
+    lane = λ j h l.
         rw (post-all-at Former.capacity to x j ps h (omega (arith, e .formerLanes)), post-all-at capacity to x j ls h (omega (arith, e .lanes)))
         (both SameLane (goesTo to j) (goesTo to j) refl
-        (λ t. posted-same _ _ (e .lane j h) (leb-false 2 _ (and-right (goesTo to j) _ (any-false _ 8 j f h) t)))
-        (λ _. e .lane j h));
+        (λ t. posted-same _ _ (e .lane j h l) (leb-false 2 _ (and-right (goesTo to j) _ (any-false _ 8 j f h) t)))
+        (λ _. e .lane j h l));
   }

@@ -5,7 +5,8 @@ use mathlib.Core.Path.{_≡_, refl, ap, _∙_, subst}
 use mathlib.Core.Bool.{Bool, true, false, not, cond, _||_}
 use mathlib.Core.List.{List, [], _++_}
 use Rattle.words.specs.declared.Shape.{Shape}
-use Rattle.words.specs.Folds.{countTo, sumTo}
+use Rattle.words.specs.Folds.{countTo}
+use Rattle.words.proofs.Folds as Folds
 use Rattle.queues.specs.declared.DownMessage.{DownMessage}
 use Rattle.queues.specs.Queues.{noDown}
 use Rattle.lanes.specs.declared.Lane.{Lane}
@@ -25,6 +26,7 @@ use Rattle.machine.specs.Corruption.{corruptOf}
 use Rattle.machine.specs.Settle.{settleStep, isOrder, downsOf, boundOf, Progress, advance, ended, repeatStep, Settlement, reached, unlessRefused, settleOf}
 use Rattle.machine.specs.declared.Settled.the-variants.{Steps}
 use Rattle.machine.specs.Calls.{Called, SettledWith, settledCall}
+use Rattle.machine.proofs.laws.Sums.{sum-same}
 use Rattle.former.specs.Control as FormerControl
 use Rattle.former.specs.Stores as Former
 use Rattle.former.specs.Corruption as FormerCorruption
@@ -45,17 +47,17 @@ no-downs : (order : Bool) → FormerSettle.downsOf order (noLane .downs) ≡ dow
 unfolding countTo
 no-downs order = refl
 
-bound-parts : (shape : Shape) (x : FormerControl.Control) (y : Control) (done : ℕ) (ps ls : List Lane) (bs : List Block) → shape .limit ≡ 1 → SameControl x y → SameLanes ps ls →
+bound-parts : (shape : Shape) (x : FormerControl.Control) (y : Control) (done : ℕ) (ps ls : List Lane) (bs : List Block) → shape .limit ≡ 1 → SameControl x y → SameLanes (shape .n) ps ls →
     FormerSettle.boundOf (formerWith shape x done ps bs) ≡ boundOf (storeWith shape y done ls bs)
 unfolding FormerSettle.boundOf boundOf
 bound-parts shape x y done ps ls bs one ec el =
     let n = shape .n in
-    let r = each-lane (λ l. l .returns .len) (λ l. l .returns .len) ps ls el (λ p l e. e .returns .lens) refl in
-    let g = each-lane (λ l. FormerSettle.downsOf false (l .downs)) (λ l. downsOf false (l .downs)) ps ls el (downs-same false) (no-downs false) in
-    let o = each-lane (λ l. FormerSettle.downsOf true (l .downs)) (λ l. downsOf true (l .downs)) ps ls el (downs-same true) (no-downs true) in
+    let r = sum-same _ _ n (each-lane (λ l. l .returns .len) (λ l. l .returns .len) n ps ls el (λ p l e. e .returns .lens) refl) in
+    let g = sum-same _ _ n (each-lane (λ l. FormerSettle.downsOf false (l .downs)) (λ l. downsOf false (l .downs)) n ps ls el (downs-same false) (no-downs false)) in
+    let o = sum-same _ _ n (each-lane (λ l. FormerSettle.downsOf true (l .downs)) (λ l. downsOf true (l .downs)) n ps ls el (downs-same true) (no-downs true)) in
     let v = services-same x y ec in
-    let u = each-lane (λ l. unservedOf (l .waiting)) (λ l. unservedOf (l .waiting)) ps ls el (λ p l e. ap unservedOf (e .waiting)) refl in
-    λ i. sumTo (r i) n + sumTo (g i) n + 2 * sumTo (o i) n + v i + 2 * n * countTo (u i) n
+    let u = Folds.count-same _ _ n (each-lane (λ l. unservedOf (l .waiting)) (λ l. unservedOf (l .waiting)) n ps ls el (λ p l e. ap unservedOf (e .waiting)) refl) in
+    λ i. r i + g i + 2 * o i + v i + 2 * n * u i
 
 pub bound-of : (t : Former.Store) (s : Store) → Same t s → FormerSettle.boundOf t ≡ boundOf s
 bound-of = by-stores (λ t s. FormerSettle.boundOf t ≡ boundOf s) bound-parts

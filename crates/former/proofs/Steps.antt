@@ -14,6 +14,7 @@ use Rattle.words.specs.declared.WordNo.{WordNo}
 use Rattle.words.specs.declared.Op.{Op}
 use Rattle.words.specs.Units.{blockOf}
 use Rattle.words.specs.Folds.{lowestTo}
+use Rattle.words.proofs.Folds.{skip, lowest-same}
 use Rattle.queues.specs.declared.ReturnMessage.{ReturnMessage}
 use Rattle.queues.specs.Queues.{emptyAt, takeReturn, noReturn}
 use Rattle.lanes.specs.declared.Lane.{Lane}
@@ -45,6 +46,7 @@ use Rattle.machine.specs.Return.{takenBy, isAnswer, countedMove, returnMove, re
 use Rattle.machine.specs.Deliver.{deliverOf}
 use Rattle.machine.specs.Settle.{lane, settleStep}
 use Rattle.machine.proofs.laws.Tests.{on}
+use Rattle.machine.proofs.bounds.Sound.{BlockSound, Sound, sound}
 use Rattle.former.specs.Control.{Free, Busy}
 use Rattle.former.specs.Control as FormerControl
 use Rattle.former.specs.Stores as Former
@@ -56,8 +58,9 @@ use Rattle.former.specs.Same.{SameLane, SameLanes, SameControl, Same}
 use Rattle.former.proofs.Pairs.{both}
 use Rattle.former.proofs.Queues.{take-same, at-same}
 use Rattle.former.proofs.Lanes.{begin-same, deliver-same, admits-same}
-use Rattle.former.proofs.Controls.{engaged-same, service-same, open-same, update-same, close-same}
-use Rattle.former.proofs.Corruption.{formerWith, storeWith, by-stores, each-lane, parts-same, begun-same, corrupt-same, few-lanes}
+use Rattle.former.proofs.Controls.{busy-for-same, service-same, open-same, update-same, close-same}
+use Rattle.former.proofs.Corruption.{formerWith, storeWith, by-stores, each-lane, parts-same, begun-same, corrupt-same}
+use Rattle.former.proofs.Inside.{serve-inside, return-inside}
 use Rattle.former.proofs.Commits.{Result, SameMove, refuse-same, commit-lane, commit-move}
 
 -- 9, 10, 11
@@ -65,7 +68,7 @@ ready-same : (w : Waiting) (p l : Lane) (x : FormerControl.Control) (y : Control
 ready-same Idle p l x y e f = refl
 ready-same (Served o) p l x y e f = refl
 ready-same (Unserved o) p l x y e f =
-    let u = engaged-same x y (blockOf (o .word)) f in
+    let u = busy-for-same x y (blockOf (o .word)) f in
     let v = e .returns .lens in
     λ i. cond (u i) (No ControlBusy) (cond (ltb 0 (v i)) (No ReturnsPending) (Go o))
 
@@ -134,11 +137,21 @@ ready-free Idle p (Busy v) o e = let z : _≡_ {A = ℕ} 0 1 = cc in absurd (ome
 ready-free (Served q) p (Busy v) o e = let z : _≡_ {A = ℕ} 0 1 = cc in absurd (omega arith)
 ready-free (Unserved q) p (Busy v) o e = let z : _≡_ {A = ℕ} 0 1 = cc in absurd (omega arith)
 
+-- .. and is that of an unserved operation
+ready-unserved : (w : Waiting) (p : Lane) (x : FormerControl.Control) (o : Operation) → FormerSteps.readyWith w p x ≡ Go o → w ≡ Unserved o
+ready-unserved Idle p x o e = let z : _≡_ {A = ℕ} 0 1 = cc in absurd (omega arith)
+ready-unserved (Served q) p x o e = let z : _≡_ {A = ℕ} 0 1 = cc in absurd (omega arith)
+ready-unserved (Unserved q) p x o e =
+    let a = skip (FormerControl.busyOf x) e (λ f. let z : _≡_ {A = ℕ} 0 1 = cc in omega arith) in
+    let b = skip (ltb 0 (p .returns .len)) (a .1) (λ f. let z : _≡_ {A = ℕ} 0 1 = cc in omega arith) in
+    let c : Go q ≡ Go o = b .1 in
+    cc
+
 -- a call on equal lanes
 at-lane : (f : LaneNo → Former.Outcome) (g : LaneNo → Outcome) → ((k : LaneNo) → Result (f k) (g k)) → (a b : ℕ) → a ≡ b → Result (f (lane a)) (g (lane b))
 at-lane f g h a b e = subst (λ (k : ℕ). Result (f (lane a)) (g (lane k))) e (h (lane a))
 
-module _ (shape : Shape) (x : FormerControl.Control) (y : Control) (done : ℕ) (ps ls : List Lane) (bs : List Block) (one : shape .limit ≡ 1) (ec : SameControl x y) (el : SameLanes ps ls) where
+module _ (shape : Shape) (x : FormerControl.Control) (y : Control) (done : ℕ) (ps ls : List Lane) (bs : List Block) (one : shape .limit ≡ 1) (ec : SameControl x y) (el : SameLanes (shape .n) ps ls) where
   abbrev t : Former.Store
   t = formerWith shape x done ps bs
 
@@ -149,68 +162,75 @@ module _ (shape : Shape) (x : FormerControl.Control) (y : Control) (done : ℕ) 
   same = parts-same shape x y done ps ls bs one ec el
 
   -- 14, then 6
-  guard-same : (k : LaneNo) (r : Former.Outcome) (q : Outcome) → (k .0 < 8 → Result r q) → Result (FormerChange.guarded t k r) (guarded s k q)
+  guard-same : (k : LaneNo) (r : Former.Outcome) (q : Outcome) → (Sound s → k .0 < 8 → k .0 < shape .n → Result r q) → Result (FormerChange.guarded t k r) (guarded s k q)
   guard-same k r q h =
       both Result (FormerCorruption.corruptOf t) (corruptOf s) (corrupt-same shape x y done ps ls bs one ec el) (λ _. refuse-same t s Corrupt same)
       (λ good. both Result (leb (shape .n) (k .0)) (leb (shape .n) (k .0)) refl (λ _. refuse-same t s NoSuchLane same)
-      (λ f. h (let a = few-lanes shape x y done ps ls bs one ec el good in let b = leb-false (shape .n) (k .0) f in omega arith)))
+      (λ f.
+      let g = sound s (sym (corrupt-same shape x y done ps ls bs one ec el) ∙ good) in
+      let b = leb-false (shape .n) (k .0) f in
+      h g (let a = g .n-high in omega arith) b))
 
   begin-parts : (k : LaneNo) (op : Op) (w : WordNo) → Result (FormerSteps.beginOf t k op w) (beginOf s k op w)
   unfolding FormerSteps.beginOf beginOf
-  begin-parts k op w = guard-same k _ _ (λ h.
+  begin-parts k op w = guard-same k _ _ (λ _ h b.
       both Result (leb (4 * shape .m) (w .0)) (leb (4 * shape .m) (w .0)) refl (λ _. refuse-same t s NoSuchWord same)
-      (λ _. both Result (admitsOf (shape .c) op w (getD ps (k .0) noLane)) (admitsOf (shape .c) op w (getD ls (k .0) noLane)) (admits-same (shape .c) op w _ _ (el .lane (k .0) h))
+      (λ _. both Result (admitsOf (shape .c) op w (getD ps (k .0) noLane)) (admitsOf (shape .c) op w (getD ls (k .0) noLane)) (admits-same (shape .c) op w _ _ (el .lane (k .0) h b))
       (λ _. both Result (FormerCorruption.exhaustedOf t) (exhaustedOf s) (ap (λ n. eqb n lastPlace) (begun-same shape x y done ps ls bs one ec el)) (λ _. refuse-same t s PlacesExhausted same)
-      (λ _. commit-lane shape x y done ps ls bs one ec el k _ _ h (begin-same (shape .c) op w _ _ (el .lane (k .0) h))))
+      (λ _. commit-lane shape x y done ps ls bs one ec el k _ _ h (begin-same (shape .c) op w _ _ (el .lane (k .0) h b))))
       (λ _. refuse-same t s LaneBusy same)))
 
   deliver-parts : (ins : Insertion) (k : LaneNo) → Result (FormerSteps.deliverOf ins t k) (deliverOf ins s k)
   unfolding FormerSteps.deliverOf deliverOf
-  deliver-parts ins k = guard-same k _ _ (λ h. commit-lane shape x y done ps ls bs one ec el k _ _ h (deliver-same ins (shape .c) _ _ (el .lane (k .0) h)))
+  deliver-parts ins k = guard-same k _ _ (λ _ h b. commit-lane shape x y done ps ls bs one ec el k _ _ h (deliver-same ins (shape .c) _ _ (el .lane (k .0) h b)))
 
   -- memory takes a message m, the head of both return queues
-  taken : (k : LaneNo) (p l : Lane) (m n : ReturnMessage) → m ≡ n → emptyAt (p .returns .len) ≡ false → SameLane p l →
+  taken : Sound s → (k : LaneNo) (p l : Lane) (m n : ReturnMessage) → m ≡ n → emptyAt (p .returns .len) ≡ false → SameLane p l →
       Result (FormerChange.commitMove t k (m .block) (FormerSteps.returnMove k m p (Former.blockAt t (m .block .0)) x))
       (commitMove s k (n .block) (returnMove k n l (blockAt s (n .block .0)) y))
-  taken k p l m n q f e =
+  taken g k p l m n q f e =
       subst
       (λ (z : ReturnMessage). Result (FormerChange.commitMove t k (m .block) (FormerSteps.returnMove k m p (Former.blockAt t (m .block .0)) x))
       (commitMove s k (z .block) (returnMove k z l (blockAt s (z .block .0)) y)))
-      q (commit-move shape x y done ps ls bs one ec el k _ _ _ (return-move k m p l _ x y f e ec))
+      q (commit-move shape x y done ps ls bs one ec el k _ _ _ (return-move k m p l _ x y f e ec) (return-inside (shape .n) (shape .m) (shape .limit) k m l _ y (g .control)))
 
   return-parts : (k : LaneNo) → Result (FormerSteps.returnOf t k) (returnOf s k)
   unfolding FormerSteps.returnOf returnOf
-  return-parts k = guard-same k _ _ (λ h.
-      let e = el .lane (k .0) h in
+  return-parts k = guard-same k _ _ (λ g h b.
+      let e = el .lane (k .0) h b in
       let p = getD ps (k .0) noLane in
       let l = getD ls (k .0) noLane in
       both Result (emptyAt (p .returns .len)) (emptyAt (l .returns .len)) (ap emptyAt (e .returns .lens)) (λ _. refuse-same t s NothingPending same)
       (λ f.
       let n : p .returns .len ≡ 0 → ⊥ = eqb-false (p .returns .len) 0 f in
-      taken k p l _ _ (at-same _ _ _ _ noReturn 0 (e .returns) (omega (arith, n))) f e))
+      taken g k p l _ _ (at-same _ _ _ _ noReturn 0 (e .returns) (omega (arith, n))) f e))
 
-  serve-go : (k : LaneNo) (o : Operation) (p l : Lane) → SameLane p l → x ≡ Free →
+  serve-go : (k : LaneNo) (o : Operation) (p l : Lane) → SameLane p l → x ≡ Free → k .0 < shape .n → BlockSound (shape .n) (blockAt s (blockOf (o .word) .0)) →
       Result (FormerChange.commitMove t k (blockOf (o .word)) (FormerSteps.serveMove k o p (Former.blockAt t (blockOf (o .word) .0)) x))
       (commitMove s k (blockOf (o .word)) (serveMove k o l (blockAt s (blockOf (o .word) .0)) y))
-  serve-go k o p l e f =
+  serve-go k o p l e f h g =
       let b = blockAt s (blockOf (o .word) .0) in
       commit-move shape x y done ps ls bs one ec el k _ _ _
       (subst (λ (c : FormerControl.Control). SameMove (FormerSteps.serveMove k o p b c) (serveMove k o l b y)) (sym f)
       (serve-move k o p l b y e (subst (λ (c : FormerControl.Control). SameControl c y) f ec)))
+      (serve-inside (shape .n) k o l b y h g)
 
   serve-parts : (k : LaneNo) → Result (FormerSteps.serveOf t k) (serveOf s k)
   unfolding FormerSteps.serveOf serveOf FormerSteps.readyOf readyOf
-  serve-parts k = guard-same k _ _ (λ h. subst (λ (r : Ready). Result (FormerSteps.serveReady (FormerSteps.readyOf (getD ps (k .0) noLane) x) t k) (serveReady r s k)) (ready h) (go h _ refl))
+  serve-parts k = guard-same k _ _ (λ g h b.
+      subst (λ (r : Ready). Result (FormerSteps.serveReady (FormerSteps.readyOf (getD ps (k .0) noLane) x) t k) (serveReady r s k)) (ready (el .lane (k .0) h b)) (go g (el .lane (k .0) h b) b _ refl))
     where
-      ready : k .0 < 8 → FormerSteps.readyOf (getD ps (k .0) noLane) x ≡ readyOf (getD ls (k .0) noLane) (shape .limit) y
-      ready h =
-          let e = el .lane (k .0) h in
+      ready : SameLane (getD ps (k .0) noLane) (getD ls (k .0) noLane) → FormerSteps.readyOf (getD ps (k .0) noLane) x ≡ readyOf (getD ls (k .0) noLane) (shape .limit) y
+      ready e =
           ready-same (getD ps (k .0) noLane .waiting) (getD ps (k .0) noLane) (getD ls (k .0) noLane) x y e ec ∙
           (λ i. readyWith (e .waiting i) (getD ls (k .0) noLane) (sym one i) y)
 
-      go : k .0 < 8 → (r : Ready) → FormerSteps.readyOf (getD ps (k .0) noLane) x ≡ r → Result (FormerSteps.serveReady r t k) (serveReady r s k)
-      go h (No r) q = refuse-same t s r same
-      go h (Go o) q = serve-go k o _ _ (el .lane (k .0) h) (ready-free (getD ps (k .0) noLane .waiting) (getD ps (k .0) noLane) x o q)
+      go : Sound s → SameLane (getD ps (k .0) noLane) (getD ls (k .0) noLane) → k .0 < shape .n → (r : Ready) → FormerSteps.readyOf (getD ps (k .0) noLane) x ≡ r →
+          Result (FormerSteps.serveReady r t k) (serveReady r s k)
+      go g e h (No r) q = refuse-same t s r same
+      go g e h (Go o) q =
+          let w : getD ls (k .0) noLane .waiting ≡ Unserved o = sym (e .waiting) ∙ ready-unserved (getD ps (k .0) noLane .waiting) (getD ps (k .0) noLane) x o q in
+          serve-go k o _ _ e (ready-free (getD ps (k .0) noLane .waiting) (getD ps (k .0) noLane) x o q) h (g .block (blockOf (o .word) .0) (g .lane (k .0) h .unserved o w))
 
   -- deliver, else return, else serve, each the lowest
   step-parts : (ins : Insertion) → Result (FormerSettle.settleStep ins t) (settleStep ins s)
@@ -218,11 +238,11 @@ module _ (shape : Shape) (x : FormerControl.Control) (y : Control) (done : ℕ) 
   step-parts ins =
       let n = shape .n in
       let d : lowestTo (λ k. ltb 0 (getD ps k noLane .downs .len)) n ≡ lowestTo (λ k. ltb 0 (getD ls k noLane .downs .len)) n =
-      ap (λ p. lowestTo p n) (each-lane (λ l. ltb 0 (l .downs .len)) (λ l. ltb 0 (l .downs .len)) ps ls el (λ p l e. ap (ltb 0) (e .downs .lens)) refl) in
+      lowest-same _ _ n (each-lane (λ l. ltb 0 (l .downs .len)) (λ l. ltb 0 (l .downs .len)) n ps ls el (λ p l e. ap (ltb 0) (e .downs .lens)) refl) in
       let r : lowestTo (λ k. ltb 0 (getD ps k noLane .returns .len)) n ≡ lowestTo (λ k. ltb 0 (getD ls k noLane .returns .len)) n =
-      ap (λ p. lowestTo p n) (each-lane (λ l. ltb 0 (l .returns .len)) (λ l. ltb 0 (l .returns .len)) ps ls el (λ p l e. ap (ltb 0) (e .returns .lens)) refl) in
+      lowest-same _ _ n (each-lane (λ l. ltb 0 (l .returns .len)) (λ l. ltb 0 (l .returns .len)) n ps ls el (λ p l e. ap (ltb 0) (e .returns .lens)) refl) in
       let u : lowestTo (λ k. unservedOf (getD ps k noLane .waiting)) n ≡ lowestTo (λ k. unservedOf (getD ls k noLane .waiting)) n =
-      ap (λ p. lowestTo p n) (each-lane (λ l. unservedOf (l .waiting)) (λ l. unservedOf (l .waiting)) ps ls el (λ p l e. ap unservedOf (e .waiting)) refl) in
+      lowest-same _ _ n (each-lane (λ l. unservedOf (l .waiting)) (λ l. unservedOf (l .waiting)) n ps ls el (λ p l e. ap unservedOf (e .waiting)) refl) in
       both Result _ _ (ap (λ k. ltb k n) d) (λ _. at-lane (FormerSteps.deliverOf ins t) (deliverOf ins s) (deliver-parts ins) _ _ d)
       (λ _. both Result _ _ (ap (λ k. ltb k n) r) (λ _. at-lane (FormerSteps.returnOf t) (returnOf s) return-parts _ _ r)
       (λ _. both Result _ _ (ap (λ k. ltb k n) u) (λ _. at-lane (FormerSteps.serveOf t) (serveOf s) serve-parts _ _ u)

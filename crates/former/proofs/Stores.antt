@@ -48,7 +48,7 @@ same-store t h = record {
   lanes = record {
     formerLanes = h .lanes;
     lanes = length-map (t .lanes) widerLane ∙ h .lanes;
-    lane = λ k l. rw (map-at widerLane (t .lanes) k noLane noLane (omega (arith, h .lanes))) (wider-lane _ (h .lane k l));
+    lane = λ k l b. rw (map-at widerLane (t .lanes) k noLane noLane (omega (arith, h .lanes))) (wider-lane _ (h .lane k l b));
   };
   blocks = refl;
 }

@@ -25,9 +25,9 @@ use Rattle.former.specs.Steps as FormerSteps
 use Rattle.former.specs.Settle as FormerSettle
 use Rattle.former.specs.Calls as FormerCalls
 use Rattle.former.specs.Tape as FormerTape
-use Rattle.former.specs.Same.{limitedFrom}
+use Rattle.former.specs.Same.{hasLimitedOpenFrom}
 use Rattle.former.specs.Table.{rows}
 
 pub exceptions : map (λ (r : Row). r .given) rows ≡ map (λ (r : Row). r .wanted) rows
-unfolding upTo downTo anyTo countTo sumTo lowestTo anyOf firstFrom slotOf serviceOf openServices freeSlot withService withUpdated withoutService badShape blankLane blankBlock freshOf waitingIn begunIn activeOf quietOf badLane badFlags badControl corruptOf commitLane someFull postTo postAll commitMove completeWith hit evict miss admitsOf beginLane beginOf ordered countOf close readyOf serveMove serveOf returnMove returnOf reply deliverLane deliverOf parseOf openRecord recordOf replayFrom replayOf callOf run FormerStores.blankLane FormerStores.freshOf FormerStores.quietOf FormerCorruption.waitingIn FormerCorruption.begunIn FormerCorruption.corruptOf FormerChange.commitLane FormerChange.commitMove FormerSteps.beginOf FormerSteps.close FormerSteps.readyOf FormerSteps.serveMove FormerSteps.serveOf FormerSteps.returnMove FormerSteps.returnOf FormerSteps.deliverOf FormerSettle.settleStep FormerSettle.boundOf FormerSettle.advance FormerSettle.ended FormerSettle.repeatStep FormerSettle.settleOf FormerTape.parseOf FormerTape.openRecord FormerTape.recordOf FormerTape.replayFrom FormerTape.replayOf FormerCalls.callOf FormerCalls.run limitedFrom rows
+unfolding upTo downTo anyTo countTo sumTo lowestTo anyOf firstFrom slotOf serviceOf openServices freeSlot withService withUpdated withoutService badShape blankLane blankBlock freshOf waitingIn begunIn activeOf quietOf badLane badFlags badControl corruptOf commitLane someFull postTo postAll commitMove completeWith hit evict miss admitsOf beginLane beginOf ordered countOf close readyOf serveMove serveOf returnMove returnOf reply deliverLane deliverOf parseOf openRecord recordOf replayFrom replayOf callOf run FormerStores.blankLane FormerStores.freshOf FormerStores.quietOf FormerCorruption.waitingIn FormerCorruption.begunIn FormerCorruption.corruptOf FormerChange.commitLane FormerChange.commitMove FormerSteps.beginOf FormerSteps.close FormerSteps.readyOf FormerSteps.serveMove FormerSteps.serveOf FormerSteps.returnMove FormerSteps.returnOf FormerSteps.deliverOf FormerSettle.settleStep FormerSettle.boundOf FormerSettle.advance FormerSettle.ended FormerSettle.repeatStep FormerSettle.settleOf FormerTape.parseOf FormerTape.openRecord FormerTape.recordOf FormerTape.replayFrom FormerTape.replayOf FormerCalls.callOf FormerCalls.run hasLimitedOpenFrom rows
 exceptions = refl

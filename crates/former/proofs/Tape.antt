@@ -31,7 +31,7 @@ use Rattle.machine.specs.Text.{refusedText, linesText, endText, tapeMost, print
 use Rattle.former.specs.Stores as Former
 use Rattle.former.specs.Change as FormerChange
 use Rattle.former.specs.Tape as FormerTape
-use Rattle.former.specs.Same.{Same, limitedFrom, SameTape}
+use Rattle.former.specs.Same.{Same, hasLimitedOpenFrom, SameTape}
 use Rattle.former.proofs.Pairs.{both}
 use Rattle.former.proofs.Corruption.{limit-fits}
 use Rattle.former.proofs.Commits.{Result}
@@ -160,8 +160,8 @@ module _ (b : Bounded) where
   record-same t s (Record.Return k) p e = when-same t s _ _ e (λ f l. (b .call-lively LoadsOldest s (Return k) l, return-of t s k f))
   record-same t s (Record.Deliver k) p e = when-same t s _ _ e (λ f l. (b .call-lively LoadsOldest s (Deliver k) l, deliver-of LoadsOldest t s k f))
 
-  replay-same : (n : ℕ) (t : Former.Store) (s : Store) (tape : List ℕ) → Tapes t s → limitedFrom n tape ≡ false → FormerTape.replayFrom n t tape ≡ replayFrom n s tape
-  unfolding FormerTape.replayFrom replayFrom limitedFrom
+  replay-same : (n : ℕ) (t : Former.Store) (s : Store) (tape : List ℕ) → Tapes t s → hasLimitedOpenFrom n tape ≡ false → FormerTape.replayFrom n t tape ≡ replayFrom n s tape
+  unfolding FormerTape.replayFrom replayFrom hasLimitedOpenFrom
   replay-same zero t s tape e f = refl
   replay-same (suc n) t s tape e f =
       both (λ (x y : List Answer). x ≡ y) (eqb (length tape) 0) (eqb (length tape) 0) refl (λ _. refl)
@@ -177,15 +177,15 @@ module _ (b : Bounded) where
       left : List ℕ
       left = drop (parseOf tape .size) tape
 
-      go : (eqb (field tape 0) 8 || limitedFrom n left) ≡ false →
-          ((p : Former.Store) (q : Store) → Tapes p q → limitedFrom n left ≡ false → FormerTape.replayFrom n p left ≡ replayFrom n q left) →
+      go : (eqb (field tape 0) 8 || hasLimitedOpenFrom n left) ≡ false →
+          ((p : Former.Store) (q : Store) → Tapes p q → hasLimitedOpenFrom n left ≡ false → FormerTape.replayFrom n p left ≡ replayFrom n q left) →
           before (FormerTape.parseOf tape) ≡ today (parseOf tape)
       go g more =
-          let x : FormerTape.parseOf tape ≡ parseOf tape = parse-same tape (or-left (eqb (field tape 0) 8) (limitedFrom n left) g) in
+          let x : FormerTape.parseOf tape ≡ parseOf tape = parse-same tape (or-left (eqb (field tape 0) 8) (hasLimitedOpenFrom n left) g) in
           let pl : Plain (parseOf tape .rec) = subst (λ (p : Parsed). Plain (p .rec)) x (parse-plain tape) in
           let r = record-same t s (parseOf tape .rec) pl e in
           let a = r .answer in
-          let c = more _ _ (r .stores) (or-right (eqb (field tape 0) 8) (limitedFrom n left) g) in
+          let c = more _ _ (r .stores) (or-right (eqb (field tape 0) 8) (hasLimitedOpenFrom n left) g) in
           ap before x ∙ (λ i. a i ∷ c i)
 
   blank-tapes : Tapes Former.blankStore blankStore

@@ -56,11 +56,11 @@ pub record SameLane (p l : Lane) : Type 0 where
   pub returns : SameReturns (p .returns) (l .returns)
   pub downs : SameDowns (p .downs) (l .downs)
 
--- the lanes of two stores, eight each
-pub record SameLanes (ps ls : List Lane) : Type 0 where
+-- the lanes of two stores with n lanes: eight stand in each array, and those below n are the same. What stands from n on is not looked at
+pub record SameLanes (n : ℕ) (ps ls : List Lane) : Type 0 where
   pub formerLanes : length ps ≡ 8
   pub lanes : length ls ≡ 8
-  pub lane : (k : ℕ) → k < 8 → SameLane (getD ps k noLane) (getD ls k noLane)
+  pub lane : (k : ℕ) → k < 8 → k < n → SameLane (getD ps k noLane) (getD ls k noLane)
 
 -- no service, or the same one, in whatever slot
 abbrev pub SameServices : FormerControl.Control → Control → Type 0
@@ -78,7 +78,7 @@ pub record Same (t : Former.Store) (s : Store) : Type 0 where
   pub limit : s .shape .limit ≡ 1
   pub control : SameControl (t .control) (s .control)
   pub completions : t .completions ≡ s .completions
-  pub lanes : SameLanes (t .lanes) (s .lanes)
+  pub lanes : SameLanes (s .shape .n) (t .lanes) (s .lanes)
   pub blocks : t .blocks ≡ s .blocks
 
 -- a lane before W6 whose queues have two places and at most two messages
@@ -88,11 +88,11 @@ pub record ShortLane (p : Lane) : Type 0 where
   pub returnPlaces : length (p .returns .at) ≡ Former.capacity
   pub downPlaces : length (p .downs .at) ≡ Former.capacity
 
--- a store before W6 with eight such lanes; its shape had no limit, and has L = 1 here
+-- a store before W6 whose n lanes are such, in an array of eight; its shape had no limit, and has L = 1 here
 pub record Short (t : Former.Store) : Type 0 where
   pub limit : t .shape .limit ≡ 1
   pub lanes : length (t .lanes) ≡ 8
-  pub lane : (k : ℕ) → k < 8 → ShortLane (Former.laneAt t k)
+  pub lane : (k : ℕ) → k < 8 → k < t .shape .n → ShortLane (Former.laneAt t k)
 
 -- today's lane with the messages of a lane before W6: six places more in each queue
 abbrev pub widerLane : Lane → Lane
@@ -180,16 +180,16 @@ SameLast =
     Same (FormerCalls.run ins (Former.openOf shape .store) calls .store) (run ins (openOf shape .store) calls .store)
 
 -- whether one of a tape's records has kind 08, here among at most the given number of them
-unfoldable pub limitedFrom : ℕ → List ℕ → Bool
-limitedFrom zero tape = false
-limitedFrom (suc more) tape =
-    let rest = limitedFrom more (drop (parseOf tape .size) tape) in
+unfoldable pub hasLimitedOpenFrom : ℕ → List ℕ → Bool
+hasLimitedOpenFrom zero tape = false
+hasLimitedOpenFrom (suc more) tape =
+    let rest = hasLimitedOpenFrom more (drop (parseOf tape .size) tape) in
     cond (eqb (length tape) 0) false (eqb (field tape 0) 8 || rest)
 
 -- .. among all of them: a record takes a byte or more
-abbrev pub limitedIn : List ℕ → Bool
-limitedIn tape = limitedFrom (length tape) tape
+abbrev pub hasLimitedOpen : List ℕ → Bool
+hasLimitedOpen tape = hasLimitedOpenFrom (length tape) tape
 
 -- a tape that has no record of kind 08 prints the same bytes
 abbrev pub SameTape : Type 0
-SameTape = (tape : List ℕ) → limitedIn tape ≡ false → FormerTape.printed tape ≡ printed tape
+SameTape = (tape : List ℕ) → hasLimitedOpen tape ≡ false → FormerTape.printed tape ≡ printed tape

@@ -24,7 +24,7 @@ use Rattle.former.specs.Control.{Control, Free, busyOf}
 abbrev pub capacity : ℕ
 capacity = 2
 
--- a store; no definition of this crate looks at its shape's limit
+-- a store; no call's definition looks at its shape's limit
 pub record Store : Type 0 where
   pub shape : Shape
   pub control : Control

@@ -28,7 +28,7 @@ use Rattle.former.specs.Control.{Busy}
 use Rattle.former.specs.Stores as Former
 use Rattle.former.specs.Calls as FormerCalls
 use Rattle.former.specs.Tape as FormerTape
-use Rattle.former.specs.Same.{limitedIn}
+use Rattle.former.specs.Same.{hasLimitedOpen}
 
 -- a row of calls one after the other before W6, and of a tape's answers
 abbrev pub onBefore : Former.Store → List Turn → Row
@@ -95,7 +95,7 @@ rows =
     reads (9 ∷ []) (refused 2 ∷ []) ∷
     -- .. which tapes have a record of it: not one with 08 in a body, nor behind the last record
     record {
-      given = Flags (map limitedIn ((8 ∷ 2 ∷ 1 ∷ 1 ∷ 1 ∷ []) ∷ (8 ∷ []) ∷ (0 ∷ 2 ∷ 1 ∷ 8 ∷ []) ∷ (0 ∷ 2 ∷ 1 ∷ 8 ∷ 8 ∷ []) ∷ (9 ∷ 8 ∷ []) ∷ []));
+      given = Flags (map hasLimitedOpen ((8 ∷ 2 ∷ 1 ∷ 1 ∷ 1 ∷ []) ∷ (8 ∷ []) ∷ (0 ∷ 2 ∷ 1 ∷ 8 ∷ []) ∷ (0 ∷ 2 ∷ 1 ∷ 8 ∷ 8 ∷ []) ∷ (9 ∷ 8 ∷ []) ∷ []));
       wanted = Flags (true ∷ true ∷ false ∷ true ∷ false ∷ []);
     } ∷
     -- L = 1: with another block in service 10, as before; with L = 2 not

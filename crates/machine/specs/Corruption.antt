@@ -1,5 +1,5 @@
 -- 01, number 14 (spoilt), with 02, W1 and W6: the store breaks its own bounds. Looked at are the n lanes, their c lines, the m blocks, the messages
--- in the queues and the count of completions; what stands past them in the arrays is no part of the store. Assumes nothing.
+-- in the queues, the eight slots and the count of completions; what stands past them in the arrays is no part of the store. Assumes nothing.
 use Prim.Native.Nat.{ℕ}
 use mathlib.Core.Bool.{Bool, false, _||_, _&&_}
 use mathlib.Core.List.{List, [], _∷_}

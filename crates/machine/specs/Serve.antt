@@ -22,7 +22,7 @@ use Rattle.store.specs.declared.Block.{Block}
 use Rattle.store.specs.declared.Service.{Service}
 use Rattle.store.specs.declared.Control.{Control}
 use Rattle.store.specs.declared.Outcome.{Outcome}
-use Rattle.store.specs.Control.{engagedOf, withService}
+use Rattle.store.specs.Control.{busyFor, withService}
 use Rattle.store.specs.Stores.{laneAt, blockAt}
 use Rattle.store.specs.Blocks.{withPresent, withModified}
 use Rattle.store.specs.LaneSets.{nobody, only, goesTo, LaneSet, including, without, countOf}
@@ -77,7 +77,7 @@ abbrev pub readyWith : Waiting → Lane → ℕ → Control → Ready
 readyWith Idle l limit x = No NothingPending
 readyWith (Served o) l limit x = No NothingPending
 readyWith (Unserved o) l limit x =
-    cond (engagedOf limit x (blockOf (o .word))) (No ControlBusy) (cond (ltb 0 (l .returns .len)) (No ReturnsPending) (Go o))
+    cond (busyFor limit x (blockOf (o .word))) (No ControlBusy) (cond (ltb 0 (l .returns .len)) (No ReturnsPending) (Go o))
 
 unfoldable pub readyOf : Lane → ℕ → Control → Ready
 readyOf l limit x = readyWith (l .waiting) l limit x

@@ -16,7 +16,7 @@ use Rattle.lanes.specs.declared.Waiting.the-variants.{Idle, Unserved, Served}
 use Rattle.answers.specs.declared.Refusal.{Refusal}
 use Rattle.store.specs.declared.Store.{Store}
 use Rattle.store.specs.declared.Control.{Control}
-use Rattle.store.specs.Control.{engagedOf}
+use Rattle.store.specs.Control.{busyFor}
 use Rattle.store.specs.Stores.{laneAt}
 use Rattle.store.proofs.Services.{found}
 use Rattle.machine.specs.declared.Ready.the-variants.{Go, No}
@@ -33,7 +33,7 @@ ready-waits : (l : Lane) (limit : ℕ) (x : Control) (w : Waiting) (o : Operatio
 ready-waits l limit x Idle o e = absurd (no-go e)
 ready-waits l limit x (Served p) o e = absurd (no-go e)
 ready-waits l limit x (Unserved p) o e =
-    let f = skip (engagedOf limit x (blockOf (p .word))) e no-go .1 in
+    let f = skip (busyFor limit x (blockOf (p .word))) e no-go .1 in
     let g = skip (ltb 0 (l .returns .len)) f no-go .1 in
     cc
 

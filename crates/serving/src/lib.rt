@@ -91,7 +91,7 @@ pub fn check_ready(l: Lane, limit: u8, x: Control) -> Ready
         Waiting::Idle => Ready::No(Refusal::NothingPending),
         Waiting::Unserved(o) => {
             let a = o.word.block();
-            if x.engaged(limit, a) {
+            if x.busy_for(limit, a) {
                 return Ready::No(Refusal::ControlBusy);
             }
             if 0 < l.returns.len {

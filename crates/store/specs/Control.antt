@@ -58,8 +58,8 @@ abbrev pub busyOf : Control → Bool
 busyOf x = ltb 0 (openServices x)
 
 -- 10: the block is in service, or L services are open
-abbrev pub engagedOf : ℕ → Control → BlockNo → Bool
-engagedOf limit x a = ltb (slotOf x a) slotCount || leb limit (openServices x)
+abbrev pub busyFor : ℕ → Control → BlockNo → Bool
+busyFor limit x a = ltb (slotOf x a) slotCount || leb limit (openServices x)
 
 -- the lowest free slot, or slotCount where there is none
 unfoldable pub freeSlot : Control → ℕ

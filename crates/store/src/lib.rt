@@ -1,7 +1,7 @@
 // The store: main memory's blocks, the control with its services, the lanes.
 // Functions are for the crates above and not for others.
 ghost use mathlib.Core.Path.{_≡_};
-ghost use Rattle.store.specs.Control.{free, withSlot, isFor, slotOf, serviceOf, openServices, busyOf, engagedOf, freeSlot, withService, withUpdated, withoutService, answerOf};
+ghost use Rattle.store.specs.Control.{free, withSlot, isFor, slotOf, serviceOf, openServices, busyOf, busyFor, freeSlot, withService, withUpdated, withoutService, answerOf};
 use answers::Answer;
 use lanes::Command;
 use lanes::Lane;
@@ -24,6 +24,9 @@ pub struct Service {
     pub awaited: u8,
     pub bare: bool,
 }
+
+// The slots of the control.
+pub const SLOTS: u8 = 8;
 
 // A place for a service. Where it is not busy the service is not looked at.
 pub struct Slot {
@@ -83,7 +86,7 @@ impl Control {
         ensures { λ r. ⌜ r ≡ slotOf self a ⌝ }
     {
         let mut k: u8 = 0;
-        while k < 8 {
+        while k < SLOTS {
             let i = k as usize;
             let y = self.slots[i];
             if y.is_for(a) {
@@ -99,7 +102,7 @@ impl Control {
         ensures { λ r. ⌜ r ≡ freeSlot self ⌝ }
     {
         let mut k: u8 = 0;
-        while k < 8 {
+        while k < SLOTS {
             let i = k as usize;
             let y = self.slots[i];
             if y.busy {
@@ -117,7 +120,7 @@ impl Control {
     {
         let mut n: u8 = 0;
         let mut k: u8 = 0;
-        while k < 8 {
+        while k < SLOTS {
             let i = k as usize;
             let y = self.slots[i];
             n += y.busy as u8;
@@ -134,10 +137,10 @@ impl Control {
     }
 
     // 10: whether block a is in service, or as many services are under way as the limit allows.
-    pub fn engaged(self, limit: u8, a: BlockNo) -> bool
-        ensures { λ r. ⌜ r ≡ engagedOf limit self a ⌝ }
+    pub fn busy_for(self, limit: u8, a: BlockNo) -> bool
+        ensures { λ r. ⌜ r ≡ busyFor limit self a ⌝ }
     {
-        if self.find(a) < 8 {
+        if self.find(a) < SLOTS {
             return true;
         }
         limit <= self.services()
@@ -147,7 +150,7 @@ impl Control {
     fn with_slot(self, i: u8, y: Slot) -> Control
         ensures { λ r. ⌜ r ≡ withSlot i y self ⌝ }
     {
-        if 8 <= i {
+        if SLOTS <= i {
             return self;
         }
         let k = i as usize;
@@ -194,7 +197,7 @@ impl Control {
         ensures { λ r. ⌜ r ≡ serviceOf self a ⌝ }
     {
         let i = self.find(a);
-        if 8 <= i {
+        if SLOTS <= i {
             return Lookup::Nothing;
         }
         let k = i as usize;

@@ -53,7 +53,7 @@ pub fn next_call(s: &Store, style: &Style, rng: &mut Rng) -> Call {
 
 /// A call that is not refused in a store from an opening, if there is one.
 pub fn meaningful_call(s: &Store, style: &Style, rng: &mut Rng) -> Option<Call> {
-    let servable = |l: &Lane| l.unserved() && l.returns.is_empty() && !engaged(s, l);
+    let servable = |l: &Lane| l.unserved() && l.returns.is_empty() && !block_or_limit_busy(s, l);
     let candidates = [
         lanes_with(s, |l| l.waiting.is_none()),
         lanes_with(s, servable),
@@ -76,7 +76,7 @@ pub fn meaningful_call(s: &Store, style: &Style, rng: &mut Rng) -> Option<Call> 
 }
 
 /// Whether L services are open, or one of the block that the lane waits for.
-fn engaged(s: &Store, lane: &Lane) -> bool {
+fn block_or_limit_busy(s: &Store, lane: &Lane) -> bool {
     let in_service = lane.waiting.map_or(false, |w| s.slot_of(w.block()).is_some());
     in_service || s.open_services() >= usize::from(s.limit)
 }
@@ -166,7 +166,7 @@ pub fn odd_call(s: &Store, rng: &mut Rng) -> Call {
     if !early.is_empty() && rng.chance(30) {
         return Call::Serve(rng.pick(&early));
     }
-    let busy = lanes_with(s, |l| l.unserved() && engaged(s, l));
+    let busy = lanes_with(s, |l| l.unserved() && block_or_limit_busy(s, l));
     if !busy.is_empty() && rng.chance(20) {
         return Call::Serve(rng.pick(&busy));
     }

@@ -273,7 +273,7 @@ fn settle_gives_the_next_places_in_its_order() {
     }
 }
 
-/// Settle completes one operation and meets a stray answer then.
+/// Settle completes one operation and meets an unexpected answer then.
 #[test]
 fn a_refused_settle_leaves_the_count() {
     let mut s = store(41);

@@ -111,7 +111,7 @@ loop-again c =
 returns-3 : tie.Need-returns-3 Inv-loop μ-loop
 unfolding commitMove
 returns-3 c =
-    let at-loop = c .before .before .before .before .before in
+    let at-loop = c .before .before in
     let at-if1 = at-loop .before .before .before .before .before .before in
     let args = at-if1 .before .before .args in
     let none : at-loop .loop .left ≡ 0 = omega arith in

@@ -23,8 +23,8 @@ use Rattle.store.specs.declared.Service.{Service}
 use Rattle.store.specs.declared.Control.{Control}
 use Rattle.store.specs.declared.Slot.{Slot}
 use Rattle.store.specs.Opening.{blankControl}
-use Rattle.store.specs.Control.{slotAt, slotOf, openServices, engagedOf, freeSlot, free, busyWith, withSlot, withService, withUpdated, withoutService}
-use Rattle.store.proofs.Services.{Found, Distinct, slot-is, count-most-written, opened-distinct, updated-count, updated-distinct, closed-count, closed-distinct, not-engaged}
+use Rattle.store.specs.Control.{slotAt, slotOf, openServices, busyFor, freeSlot, free, busyWith, withSlot, withService, withUpdated, withoutService}
+use Rattle.store.proofs.Services.{Found, Distinct, slot-is, count-most-written, opened-distinct, updated-count, updated-distinct, closed-count, closed-distinct, not-busy-for}
 use Rattle.store.specs.declared.Outcome.{Outcome}
 use Rattle.store.specs.Stores.{laneAt, blockAt}
 use Rattle.store.specs.LaneSets.{nobody, goesTo, countOf}
@@ -146,11 +146,11 @@ ordered-fewer n b k x h l g =
 
 -- memory's part of serve
 pub serve-move-keeps : (h n c m limit : ℕ) (k : LaneNo) (o : Operation) (l : Lane) (b : Block) (x : Control) → n ≤ 8 → k .0 < n → blockOf (o .word) .0 < m →
-    engagedOf limit x (blockOf (o .word)) ≡ false → LaneFit h c m l → BlockSound n b → ControlSound n m limit x → MoveFit h n c m limit (serveMove k o l b x)
+    busyFor limit x (blockOf (o .word)) ≡ false → LaneFit h c m l → BlockSound n b → ControlSound n m limit x → MoveFit h n c m limit (serveMove k o l b x)
 serve-move-keeps h n c m limit k o l b x p q r a f g y =
     let t = with-served h c m l f o r in
     let z = ordered-fewer n b k (o .command) p q g in
-    let e = not-engaged limit x (blockOf (o .word)) a in
+    let e = not-busy-for limit x (blockOf (o .word)) a in
     serve-move-rule (MoveFit h n c m limit) k o l b x
     (λ _. close-keeps h n c m limit (serviceFor k o b (countOf (ordered b k (o .command)))) (withWaiting (Served o) l) b x q r t g y)
     (λ _. record {

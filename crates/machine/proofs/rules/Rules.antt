@@ -33,7 +33,7 @@ use Rattle.store.specs.declared.Store.{Store}
 use Rattle.store.specs.declared.Outcome.{Outcome}
 use Rattle.store.specs.Stores.{laneAt, blockAt}
 use Rattle.machine.specs.Begun.{begunIn, lastPlace, exhaustedOf}
-use Rattle.store.specs.Control.{engagedOf}
+use Rattle.store.specs.Control.{busyFor}
 use Rattle.machine.specs.declared.LaneAnswer.{LaneAnswer}
 use Rattle.machine.specs.declared.LaneAnswer.the-variants.{Value, Waits, Stepped}
 use Rattle.machine.specs.declared.LaneStep.{LaneStep}
@@ -123,7 +123,7 @@ pub record ServeReady (s : Store) (k : LaneNo) (o : Operation) : Type 0 where
   pub sound : corruptOf s ≡ false
   pub lane : k .0 < s .shape .n
   pub unserved : laneAt s (k .0) .waiting ≡ Unserved o
-  pub free : engagedOf (s .shape .limit) (s .control) (blockOf (o .word)) ≡ false
+  pub free : busyFor (s .shape .limit) (s .control) (blockOf (o .word)) ≡ false
   pub clear : laneAt s (k .0) .returns .len ≡ 0
 
 -- serve where nothing refuses it
@@ -138,7 +138,7 @@ serve-rule P s k stays next = guarded-rule P s k _ stays (λ c h. go c h (laneAt
     go c h Idle e = stays NothingPending
     go c h (Served o) e = stays NothingPending
     go c h (Unserved o) e =
-        pick (λ (y : Ready). P (serveReady y s k)) (engagedOf (s .shape .limit) (s .control) (blockOf (o .word))) _ _ (λ _. stays ControlBusy)
+        pick (λ (y : Ready). P (serveReady y s k)) (busyFor (s .shape .limit) (s .control) (blockOf (o .word))) _ _ (λ _. stays ControlBusy)
         (λ q. pick (λ (y : Ready). P (serveReady y s k)) (ltb 0 (laneAt s (k .0) .returns .len)) _ _ (λ _. stays ReturnsPending)
         (λ d. let p = ltb-false 0 (laneAt s (k .0) .returns .len) d in next o (record { sound = c; lane = h; unserved = e; free = q; clear = omega arith })))
 

@@ -22,9 +22,9 @@ use Rattle.answers.specs.Refusals.{refusedOf}
 use Rattle.store.specs.declared.Block.{Block}
 use Rattle.store.specs.declared.Service.{Service}
 use Rattle.store.specs.declared.Control.{Control}
-use Rattle.store.specs.Control.{slotAt, slotOf, engagedOf, freeSlot, free, busyWith, lowered, withSlot, withService, withUpdated, withoutService}
+use Rattle.store.specs.Control.{slotAt, slotOf, busyFor, freeSlot, free, busyWith, lowered, withSlot, withService, withUpdated, withoutService}
 use Rattle.store.specs.declared.Slot.{Slot}
-use Rattle.store.proofs.Services.{Found, Vacant, vacant, not-engaged, busy-there, opened-count, updated-count, closed-count}
+use Rattle.store.proofs.Services.{Found, Vacant, vacant, not-busy-for, busy-there, opened-count, updated-count, closed-count}
 use Rattle.store.specs.LaneSets.{nobody, only, goesTo, countOf}
 use Rattle.machine.specs.declared.Move.{Move}
 use Rattle.machine.specs.Serve.{orderOf, ordered, grantOf, close, serviceFor, serveMove}
@@ -108,11 +108,11 @@ module _ (x : Control) (v : Service) (f : Found x (v .block) v) where
 
 -- memory's part of serve
 pub serve-move-weighs : (n u limit : ℕ) (k : LaneNo) (o : Operation) (l : Lane) (b : Block) (x : Control) → n ≤ 8 → limit ≤ 8 → length (x .slots) ≡ 8 → k .0 < n → BlockSound n b →
-    l .waiting ≡ Unserved o → engagedOf limit x (blockOf (o .word)) ≡ false → Weighing n u 1 (countOf (ordered b k (o .command))) l x (serveMove k o l b x)
+    l .waiting ≡ Unserved o → busyFor limit x (blockOf (o .word)) ≡ false → Weighing n u 1 (countOf (ordered b k (o .command))) l x (serveMove k o l b x)
 serve-move-weighs n u limit k o l b x h w s i g e f _ =
     let a = served-weight u l o e in
     let c = ordered-count n b k (o .command) h g in
-    let p = not-engaged limit x (blockOf (o .word)) f .1 in
+    let p = not-busy-for limit x (blockOf (o .word)) f .1 in
     let y = vacant x (omega arith) in
     let d = opened-count x (serviceFor k o b (countOf (ordered b k (o .command)))) s y in
     serve-move-rule (Weighs n u 1 (countOf (ordered b k (o .command))) l x) k o l b x

@@ -26,7 +26,7 @@ use Rattle.store.specs.declared.Control.{Control}
 use Rattle.store.specs.declared.Counted.{Counted}
 use Rattle.store.specs.declared.Counted.the-variants.{Awaits, Closes}
 use Rattle.store.specs.declared.Outcome.{Outcome}
-use Rattle.store.specs.Control.{lowered, answerOf, engagedOf}
+use Rattle.store.specs.Control.{lowered, answerOf, busyFor}
 use Rattle.store.specs.Stores.{noLane, laneAt, blockAt}
 use Rattle.store.specs.LaneSets.{goesTo}
 use Rattle.machine.specs.declared.Move.{Move}
@@ -114,7 +114,7 @@ module _ (s : Store) (empty : (j : ℕ) → laneAt s j .downs .len ≡ 0) where
     unfolding close
     serve-move-goes o b y = serve-move-rule Goes k o l b y (λ _. record { answer = refl; downs = empty (k .0) }) (λ _. record { answer = refl; downs = empty (k .0) })
 
-    pub serve-goes : (o : Operation) → l .waiting ≡ Unserved o → engagedOf (s .shape .limit) (s .control) (blockOf (o .word)) ≡ false → l .returns .len ≡ 0 → refusedOf (serveOf s k .answer) ≡ false
+    pub serve-goes : (o : Operation) → l .waiting ≡ Unserved o → busyFor (s .shape .limit) (s .control) (blockOf (o .word)) ≡ false → l .returns .len ≡ 0 → refusedOf (serveOf s k .answer) ≡ false
     serve-goes o w c r =
         ap (λ (z : Outcome). refusedOf (z .answer)) (serve-is s k o (record { sound = i .sound; lane = h; unserved = w; free = c; clear = r })) ∙
         commit-goes k (blockOf (o .word)) (serveMove k o l (blockAt s (blockOf (o .word) .0)) (s .control)) (serve-move-goes o (blockAt s (blockOf (o .word) .0)) (s .control))

@@ -19,7 +19,7 @@ use Rattle.store.specs.declared.Store.{Store}
 use Rattle.store.specs.declared.Block.{Block}
 use Rattle.store.specs.declared.Service.{Service}
 use Rattle.store.specs.declared.Outcome.{Outcome}
-use Rattle.store.specs.Control.{engagedOf, withService}
+use Rattle.store.specs.Control.{busyFor, withService}
 use Rattle.store.specs.Stores.{laneAt, blockAt}
 use Rattle.store.specs.LaneSets.{only, countOf}
 use Rattle.machine.specs.declared.Move.{Move}
@@ -42,7 +42,7 @@ use Rattle.machine.proofs.rules.Rules.{serve-rule}
 use Rattle.machine.proofs.rules.RulesMemory.{serve-move-rule}
 
 module _ (s : Store) (f : List ℕ) (i : Consistent s f) (live : Live s) (k : LaneNo) (h : k .0 < s .shape .n) (o : Operation) (e : laneAt s (k .0) .waiting ≡ Unserved o)
-    (free : engagedOf (s .shape .limit) (s .control) (blockOf (o .word)) ≡ false) (clear : laneAt s (k .0) .returns .len ≡ 0) where
+    (free : busyFor (s .shape .limit) (s .control) (blockOf (o .word)) ≡ false) (clear : laneAt s (k .0) .returns .len ≡ 0) where
   -- the block of the operation, its entry, the lanes that orders go to, the service, the lane after it
   abbrev x : BlockNo
   x = blockOf (o .word)

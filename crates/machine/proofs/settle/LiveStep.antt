@@ -21,7 +21,7 @@ use Rattle.store.specs.declared.Outcome.{Outcome}
 use Rattle.store.specs.declared.Lookup.the-variants.{Nothing}
 use Rattle.store.specs.Stores.{laneAt}
 use Rattle.store.specs.Quiet.{activeOf, quietOf}
-use Rattle.store.specs.Control.{slotAt, slotOf, serviceOf, openServices, engagedOf}
+use Rattle.store.specs.Control.{slotAt, slotOf, serviceOf, openServices, busyFor}
 use Rattle.store.proofs.Services.{never, busy-found, for-none, none-found}
 use Rattle.machine.specs.Settle.{lane, settleStep}
 use Rattle.machine.proofs.laws.Sums.{count-zero}
@@ -83,7 +83,7 @@ module _ (s : Store) (f : List ℕ) (i : Consistent s f) (live : Live s) (spare 
       none-serves : (a : BlockNo) → serviceOf (s .control) a ≡ Nothing
       none-serves a = let e = none-for a in none-found (s .control) a (omega arith)
 
-      free : (a : BlockNo) → engagedOf (s .shape .limit) (s .control) a ≡ false
+      free : (a : BlockNo) → busyFor (s .shape .limit) (s .control) a ≡ false
       free a = let p = sound s (i .sound) .limit-low in rw (none-for a, none-open) (lt-leb (s .shape .limit) 0 (omega arith))
 
       -- .. and no operation is served

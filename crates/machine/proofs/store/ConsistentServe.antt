@@ -23,8 +23,8 @@ use Rattle.store.specs.declared.Store.{Store}
 use Rattle.store.specs.declared.Block.{Block}
 use Rattle.store.specs.declared.Service.{Service}
 use Rattle.store.specs.declared.Lookup.the-variants.{Of, Nothing}
-use Rattle.store.specs.Control.{slotOf, serviceOf, engagedOf, withService}
-use Rattle.store.proofs.Services.{Vacant, not-engaged, opened-own, opened-other}
+use Rattle.store.specs.Control.{slotOf, serviceOf, busyFor, withService}
+use Rattle.store.proofs.Services.{Vacant, not-busy-for, opened-own, opened-other}
 use Rattle.store.specs.Stores.{laneAt, blockAt}
 use Rattle.store.specs.LaneSets.{nobody, only, goesTo, countOf}
 use Rattle.machine.specs.Change.{commitMove}
@@ -74,7 +74,7 @@ pub only-length : (k : LaneNo) → length (only k) ≡ 8
 only-length k = length-set nobody (k .0) true
 
 module _ (s : Store) (f : List ℕ) (i : Consistent s f) (k : LaneNo) (h : k .0 < s .shape .n) (o : Operation) (e : laneAt s (k .0) .waiting ≡ Unserved o)
-    (free : engagedOf (s .shape .limit) (s .control) (blockOf (o .word)) ≡ false) (clear : laneAt s (k .0) .returns .len ≡ 0) where
+    (free : busyFor (s .shape .limit) (s .control) (blockOf (o .word)) ≡ false) (clear : laneAt s (k .0) .returns .len ≡ 0) where
   -- the block of the operation, its entry, the lanes that orders go to, the service
   abbrev x : BlockNo
   x = blockOf (o .word)
@@ -123,7 +123,7 @@ module _ (s : Store) (f : List ℕ) (i : Consistent s f) (k : LaneNo) (h : k .0 
   returned = rw clear
 
   none : slotOf (s .control) x ≡ 8
-  none = not-engaged (s .shape .limit) (s .control) x free .0
+  none = not-busy-for (s .shape .limit) (s .control) x free .0
 
   no-service : serviceOf (s .control) x ≡ Nothing
   no-service = served-none s x free

@@ -15,8 +15,8 @@ use Rattle.lanes.specs.declared.Waiting.the-variants.{Unserved, Served}
 use Rattle.lanes.specs.Lanes.{withWaiting}
 use Rattle.store.specs.declared.Store.{Store}
 use Rattle.store.specs.declared.Lookup.the-variants.{Nothing}
-use Rattle.store.specs.Control.{serviceOf, engagedOf}
-use Rattle.store.proofs.Services.{none-found, Vacant, vacant, not-engaged}
+use Rattle.store.specs.Control.{serviceOf, busyFor}
+use Rattle.store.proofs.Services.{none-found, Vacant, vacant, not-busy-for}
 use Rattle.store.specs.declared.Block.{Block}
 use Rattle.store.specs.Stores.{laneAt, blockAt}
 use Rattle.machine.specs.Corruption.{corruptOf}
@@ -45,9 +45,9 @@ module _ (s : Store) (k : LaneNo) (o : Operation) (c : corruptOf s ≡ false) (z
   served-sized = let l = z .lane (k .0) served-lane in record { lines = l .lines; order = l .order; returns = l .returns; downs = l .downs }
 
 -- where 10 does not refuse, fewer than L services are open, so there is a free slot
-pub served-room : (s : Store) (a : BlockNo) → corruptOf s ≡ false → engagedOf (s .shape .limit) (s .control) a ≡ false → Vacant (s .control)
-served-room s a e free = let p = not-engaged (s .shape .limit) (s .control) a free .1 in let q = sound s e .limit-high in vacant (s .control) (omega arith)
+pub served-room : (s : Store) (a : BlockNo) → corruptOf s ≡ false → busyFor (s .shape .limit) (s .control) a ≡ false → Vacant (s .control)
+served-room s a e free = let p = not-busy-for (s .shape .limit) (s .control) a free .1 in let q = sound s e .limit-high in vacant (s .control) (omega arith)
 
 -- .. and the block has no service
-pub served-none : (s : Store) (a : BlockNo) → engagedOf (s .shape .limit) (s .control) a ≡ false → serviceOf (s .control) a ≡ Nothing
-served-none s a free = let e = not-engaged (s .shape .limit) (s .control) a free .0 in none-found (s .control) a (omega arith)
+pub served-none : (s : Store) (a : BlockNo) → busyFor (s .shape .limit) (s .control) a ≡ false → serviceOf (s .control) a ≡ Nothing
+served-none s a free = let e = not-busy-for (s .shape .limit) (s .control) a free .0 in none-found (s .control) a (omega arith)

@@ -28,7 +28,7 @@ use Rattle.store.specs.declared.Block.{Block}
 use Rattle.store.specs.declared.Service.{Service}
 use Rattle.store.specs.declared.Outcome.{Outcome}
 use Rattle.store.specs.Control.{withService}
-use Rattle.store.proofs.Services.{not-engaged, opened-own}
+use Rattle.store.proofs.Services.{not-busy-for, opened-own}
 use Rattle.store.specs.Stores.{laneAt, blockAt}
 use Rattle.store.specs.LaneSets.{nobody, only, goesTo, countOf}
 use Rattle.machine.specs.declared.Move.{Move}
@@ -170,7 +170,7 @@ module _ (s : Store) (k : LaneNo) (o : Operation) (z : Sized s) (r : ServeReady 
     set = λ j h e. (record { message = sending .message; behind = sent-downs s k a sending m refl j (sym (bit j h) ∙ e); kind = order-order (o .command) }, refl);
     gains = λ j h g. bit j h ∙ gained s k a sending m refl j g .0;
     others = λ j h e n. kept j (sym (bit j h) ∙ e);
-    awaits = λ n. (v, opened-own (s .control) v (z .slots) (served-room s a (r .sound) (r .free)) (not-engaged (s .shape .limit) (s .control) a (r .free) .0), refl, sym bits, kept (k .0) (order-self b k (o .command)));
+    awaits = λ n. (v, opened-own (s .control) v (z .slots) (served-room s a (r .sound) (r .free)) (not-busy-for (s .shape .limit) (s .control) a (r .free) .0), refl, sym bits, kept (k .0) (order-self b k (o .command)));
     closed = λ e. absurd (some (sym bits ∙ e));
   }
     where

@@ -14,16 +14,16 @@ enum-known-w c = search needs
 block-requires : tie.Need-block-requires
 block-requires c κs = search needs
 
-engaged-requires : tie.Need-engaged-requires
-engaged-requires c κs = search needs
+busy-for-requires : tie.Need-busy-for-requires
+busy-for-requires c κs = search needs
 
 returns : tie.Need-returns
 unfolding readyOf
-returns c = rw (readyOf, c .before .before .before .before .w .given .1, ← c .before .before .block .ensures, ← c .before .engaged .ensures, c .if1 .taken)
+returns c = rw (readyOf, c .before .before .before .before .w .given .1, ← c .before .before .block .ensures, ← c .before .busy-for .ensures, c .if1 .taken)
 
 returns-2 : tie.Need-returns-2
 unfolding readyOf
-returns-2 c = rw (readyOf, c .before .before .before .before .before .before .w .given .1, ← c .before .before .before .before .block .ensures, ← c .before .before .before .engaged .ensures, c .before .before .if1 .left, lt-ltb _ _ (c .if2 .taken))
+returns-2 c = rw (readyOf, c .before .before .before .before .before .before .w .given .1, ← c .before .before .before .before .block .ensures, ← c .before .before .before .busy-for .ensures, c .before .before .if1 .left, lt-ltb _ _ (c .if2 .taken))
 
 enum-told-2 : tie.Need-enum-told-2
 enum-told-2 c = search needs
@@ -34,7 +34,7 @@ returns-3 c = rw (readyOf, c .enum-told .given .1)
 
 returns-4 : tie.Need-returns-4
 unfolding readyOf
-returns-4 c = rw (readyOf, c .before .before .before .before .before .before .w .given .1, ← c .before .before .before .before .block .ensures, ← c .before .before .before .engaged .ensures, c .before .before .if1 .left, le-ltb _ _ (c .if2 .left))
+returns-4 c = rw (readyOf, c .before .before .before .before .before .before .w .given .1, ← c .before .before .before .before .block .ensures, ← c .before .before .before .busy-for .ensures, c .before .before .if1 .left, le-ltb _ _ (c .if2 .left))
 
 returns-5 : tie.Need-returns-5
 unfolding readyOf
@@ -47,7 +47,7 @@ check-ready-spec =
     enum-told
     enum-known-w
     block-requires
-    engaged-requires
+    busy-for-requires
     returns
     returns-2
     enum-told-2
