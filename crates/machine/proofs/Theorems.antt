@@ -23,6 +23,7 @@ use Rattle.machine.specs.SameValues.{SameValues}
 use Rattle.machine.specs.ServeByte.{ServeByByte}
 use Rattle.machine.specs.LoadBeside.{LoadBesideWait, LoadStandsAhead}
 use Rattle.machine.specs.Completion.{AlwaysSettles, SettleBound}
+use Rattle.machine.specs.NeverFull.{NeverFull, TapesNeverFull, QueuesStayShort}
 use Rattle.machine.specs.Sized.{Sized}
 use Rattle.machine.specs.PictureOrder.{PictureInOrder, OneOrder, SamePictures}
 pub use Rattle.machine.proofs.Table.{cases}
@@ -39,6 +40,8 @@ use Rattle.machine.proofs.store.SameOperations.{same-operations}
 use Rattle.machine.proofs.store.ServeByte.{serve-by-byte}
 use Rattle.machine.proofs.store.LoadBeside.{beside-wait, stand-ahead}
 use Rattle.machine.proofs.settle.LiveSettle.{always-settles, all-complete}
+use Rattle.machine.proofs.settle.LiveNever.{never-full, stay-short}
+use Rattle.machine.proofs.settle.LiveTape.{tapes-never-full}
 
 -- Demand 3: the order of completion is the order of memory.
 --
@@ -117,6 +120,19 @@ pub begun-completes : (ins : Insertion) (shape : Shape) (calls : List Call) → 
     List·Memᴰ b (begun (run ins (openOf shape .store) (calls ++ (Settle ∷ [])) .history)) →
     List·Memᴰ b (operations (run ins (openOf shape .store) (calls ++ (Settle ∷ [])) .history))
 begun-completes = all-complete
+
+-- 02, W7: a queue is never full. For every opening and every list of calls no answer of the history is 12, settle's included (`NeverFull`, specs/NeverFull.antt),
+pub never-full-from-opening : NeverFull
+never-full-from-opening = never-full
+
+-- .. so no line of a tape is `refused 12`, whatever the tape is,
+pub no-tape-prints-12 : TapesNeverFull
+no-tape-prints-12 = tapes-never-full
+
+-- .. and the figures: each queue of every lane has at most one more message than the smaller of L and n − 1, and so have a lane's two queues together
+-- (`queueMost`, specs/NeverFull.antt). Rows of the table meet it with equality, a return queue and a down queue.
+pub queues-stay-short : QueuesStayShort
+queues-stay-short = stay-short
 
 -- 01's bound: the count of a settle that isn't refused is at most R + G + 2 × Q + S + 2 × n × U (`boundOf`, specs/Settle.antt), on every
 -- store, be it one that no opening gives; its arrays have their declared lengths, as every store of the program has (`SettleBound`,

@@ -26,4 +26,5 @@ pub mod Potential
 pub mod ServeByte
 pub mod LoadBeside
 pub mod PictureOrder
+pub mod NeverFull
 pub mod Table

@@ -1,10 +1,10 @@
 -- A rule for each call, by which the proofs go: what holds of every refusal, and of the step where nothing refuses it, holds of the call.
--- Most proofs go by these and not by the calls' text. Assumes nothing.
+-- Most proofs go by these and not by the calls' text. A rule with `checks` in its name says of a refusal that it isn't 12. Assumes nothing.
 use Prim.Native.Nat.{ℕ, _<_, _*_}
 use mathlib.Core.Path.{_≡_, refl, ap, _∙_}
 use mathlib.Core.Bool.{Bool, true, false, cond, _||_, _&&_}
 use mathlib.Core.Logic.{_≢_}
-use lib.Dec.{leb, ltb}
+use lib.Dec.{leb, ltb, eqb}
 use lib.ListN.{set}
 use borrow.Author.Tests.{lt-leb, leb-true, leb-false, ltb-false, eqb-false, ne-eqb}
 use native.Mathlib.Omega.{arith}
@@ -28,7 +28,7 @@ use Rattle.answers.specs.declared.Answer.{Answer}
 use Rattle.answers.specs.declared.Answer.the-variants.{Opened, Done, Wait, Step, Refused}
 use Rattle.answers.specs.declared.Refusal.{Refusal}
 use Rattle.answers.specs.declared.Refusal.the-variants.{Corrupt, NoSuchLane, NoSuchWord, LaneBusy, NothingPending, ControlBusy, ReturnsPending, QueueFull, PlacesExhausted}
-use Rattle.answers.specs.Refusals.{refusedOf}
+use Rattle.answers.specs.Refusals.{numberOf, refusedOf}
 use Rattle.store.specs.declared.Store.{Store}
 use Rattle.store.specs.declared.Outcome.{Outcome}
 use Rattle.store.specs.Stores.{laneAt, blockAt}
@@ -47,12 +47,16 @@ use Rattle.machine.specs.Return.{returnMove, returnOf}
 use Rattle.machine.specs.Deliver.{deliverLane, deliverOf}
 use Rattle.machine.proofs.bounds.KeepsLane.{clash}
 
+-- a number that is checked before a call's part: 12 is none, since only the part itself finds a queue full
+abbrev pub Checked : Refusal → Type 0
+Checked x = eqb (numberOf x) 12 ≡ false
+
 -- 14, then 6
-guarded-rule : (P : Outcome → Type 0) (s : Store) (k : LaneNo) (r : Outcome) → ((x : Refusal) → P (refuse x s)) → (corruptOf s ≡ false → k .0 < s .shape .n → P r) →
+guarded-checks : (P : Outcome → Type 0) (s : Store) (k : LaneNo) (r : Outcome) → ((x : Refusal) → Checked x → P (refuse x s)) → (corruptOf s ≡ false → k .0 < s .shape .n → P r) →
     P (guarded s k r)
-guarded-rule P s k r stays next =
-    pick P (corruptOf s) (refuse Corrupt s) (cond (leb (s .shape .n) (k .0)) (refuse NoSuchLane s) r) (λ _. stays Corrupt)
-    (λ e. pick P (leb (s .shape .n) (k .0)) (refuse NoSuchLane s) r (λ _. stays NoSuchLane) (λ q. next e (leb-false _ _ q)))
+guarded-checks P s k r stays next =
+    pick P (corruptOf s) (refuse Corrupt s) (cond (leb (s .shape .n) (k .0)) (refuse NoSuchLane s) r) (λ _. stays Corrupt refl)
+    (λ e. pick P (leb (s .shape .n) (k .0)) (refuse NoSuchLane s) r (λ _. stays NoSuchLane refl) (λ q. next e (leb-false _ _ q)))
 
 guarded-is : (s : Store) (k : LaneNo) (r : Outcome) → corruptOf s ≡ false → k .0 < s .shape .n → guarded s k r ≡ r
 guarded-is s k r e h = pick (λ (x : Outcome). x ≡ r) (corruptOf s) _ _ (λ q. clash (cc)) (λ _. pick (λ (x : Outcome). x ≡ r) (leb (s .shape .n) (k .0)) _ _ (λ q. above q) (λ _. refl))
@@ -95,14 +99,14 @@ pub record BeginReady (s : Store) (k : LaneNo) (op : Op) (w : WordNo) : Type 0 w
   pub admits : Admitted (s .shape .c) op w (laneAt s (k .0))
   pub left : begunIn s ≢ lastPlace
 
-pub begin-rule : (P : Outcome → Type 0) (s : Store) (k : LaneNo) (op : Op) (w : WordNo) → ((x : Refusal) → P (refuse x s)) →
+pub begin-checks : (P : Outcome → Type 0) (s : Store) (k : LaneNo) (op : Op) (w : WordNo) → ((x : Refusal) → Checked x → P (refuse x s)) →
     (BeginReady s k op w → P (commitLane s k (beginLane capacity (s .shape .c) op w (laneAt s (k .0))))) → P (beginOf s k op w)
 unfolding beginOf
-begin-rule P s k op w stays next =
-    guarded-rule P s k _ stays
-    (λ c h. pick P (leb (4 * s .shape .m) (w .0)) _ _ (λ _. stays NoSuchWord)
+begin-checks P s k op w stays next =
+    guarded-checks P s k _ stays
+    (λ c h. pick P (leb (4 * s .shape .m) (w .0)) _ _ (λ _. stays NoSuchWord refl)
     (λ e. pick P (admitsOf (s .shape .c) op w (laneAt s (k .0))) _ _
-    (λ q. pick P (exhaustedOf s) _ _ (λ _. stays PlacesExhausted)
+    (λ q. pick P (exhaustedOf s) _ _ (λ _. stays PlacesExhausted refl)
     (λ d. next (record {
       sound = c;
       lane = h;
@@ -110,7 +114,11 @@ begin-rule P s k op w stays next =
       admits = admitted (s .shape .c) op w (laneAt s (k .0)) q;
       left = eqb-false _ _ d;
     })))
-    (λ _. stays LaneBusy)))
+    (λ _. stays LaneBusy refl)))
+
+pub begin-rule : (P : Outcome → Type 0) (s : Store) (k : LaneNo) (op : Op) (w : WordNo) → ((x : Refusal) → P (refuse x s)) →
+    (BeginReady s k op w → P (commitLane s k (beginLane capacity (s .shape .c) op w (laneAt s (k .0))))) → P (beginOf s k op w)
+begin-rule P s k op w stays next = begin-checks P s k op w (λ x _. stays x) next
 
 -- begin where 14, 6 and 7 do not refuse it
 pub begin-is : (s : Store) (k : LaneNo) (op : Op) (w : WordNo) → corruptOf s ≡ false → k .0 < s .shape .n → w .0 < 4 * s .shape .m →
@@ -130,17 +138,20 @@ pub record ServeReady (s : Store) (k : LaneNo) (o : Operation) : Type 0 where
 abbrev pub served : Store → LaneNo → Operation → Outcome
 served s k o = commitMove s k (blockOf (o .word)) (serveMove k o (laneAt s (k .0)) (blockAt s (blockOf (o .word) .0)) (s .control))
 
-pub serve-rule : (P : Outcome → Type 0) (s : Store) (k : LaneNo) → ((x : Refusal) → P (refuse x s)) → ((o : Operation) → ServeReady s k o → P (served s k o)) → P (serveOf s k)
+pub serve-checks : (P : Outcome → Type 0) (s : Store) (k : LaneNo) → ((x : Refusal) → Checked x → P (refuse x s)) → ((o : Operation) → ServeReady s k o → P (served s k o)) → P (serveOf s k)
 unfolding serveOf readyOf
-serve-rule P s k stays next = guarded-rule P s k _ stays (λ c h. go c h (laneAt s (k .0) .waiting) refl)
+serve-checks P s k stays next = guarded-checks P s k _ stays (λ c h. go c h (laneAt s (k .0) .waiting) refl)
   where
     go : corruptOf s ≡ false → k .0 < s .shape .n → (w : Waiting) → laneAt s (k .0) .waiting ≡ w → P (serveReady (readyWith w (laneAt s (k .0)) (s .shape .limit) (s .control)) s k)
-    go c h Idle e = stays NothingPending
-    go c h (Served o) e = stays NothingPending
+    go c h Idle e = stays NothingPending refl
+    go c h (Served o) e = stays NothingPending refl
     go c h (Unserved o) e =
-        pick (λ (y : Ready). P (serveReady y s k)) (busyFor (s .shape .limit) (s .control) (blockOf (o .word))) _ _ (λ _. stays ControlBusy)
-        (λ q. pick (λ (y : Ready). P (serveReady y s k)) (ltb 0 (laneAt s (k .0) .returns .len)) _ _ (λ _. stays ReturnsPending)
+        pick (λ (y : Ready). P (serveReady y s k)) (busyFor (s .shape .limit) (s .control) (blockOf (o .word))) _ _ (λ _. stays ControlBusy refl)
+        (λ q. pick (λ (y : Ready). P (serveReady y s k)) (ltb 0 (laneAt s (k .0) .returns .len)) _ _ (λ _. stays ReturnsPending refl)
         (λ d. let p = ltb-false 0 (laneAt s (k .0) .returns .len) d in next o (record { sound = c; lane = h; unserved = e; free = q; clear = omega arith })))
+
+pub serve-rule : (P : Outcome → Type 0) (s : Store) (k : LaneNo) → ((x : Refusal) → P (refuse x s)) → ((o : Operation) → ServeReady s k o → P (served s k o)) → P (serveOf s k)
+serve-rule P s k stays next = serve-checks P s k (λ x _. stays x) next
 
 pub serve-is : (s : Store) (k : LaneNo) (o : Operation) → ServeReady s k o → serveOf s k ≡ served s k o
 unfolding serveOf readyOf
@@ -158,21 +169,28 @@ returned s k =
     let x = headReturn (laneAt s (k .0) .returns) in
     commitMove s k (x .block) (returnMove k x (laneAt s (k .0)) (blockAt s (x .block .0)) (s .control))
 
-pub return-rule : (P : Outcome → Type 0) (s : Store) (k : LaneNo) → ((x : Refusal) → P (refuse x s)) → (ReturnReady s k → P (returned s k)) → P (returnOf s k)
+pub return-checks : (P : Outcome → Type 0) (s : Store) (k : LaneNo) → ((x : Refusal) → Checked x → P (refuse x s)) → (ReturnReady s k → P (returned s k)) → P (returnOf s k)
 unfolding returnOf
-return-rule P s k stays next =
-    guarded-rule P s k _ stays
-    (λ c h. pick P (emptyAt (laneAt s (k .0) .returns .len)) _ _ (λ _. stays NothingPending) (λ e. next (record { sound = c; lane = h; filled = eqb-false _ _ e })))
+return-checks P s k stays next =
+    guarded-checks P s k _ stays
+    (λ c h. pick P (emptyAt (laneAt s (k .0) .returns .len)) _ _ (λ _. stays NothingPending refl) (λ e. next (record { sound = c; lane = h; filled = eqb-false _ _ e })))
+
+pub return-rule : (P : Outcome → Type 0) (s : Store) (k : LaneNo) → ((x : Refusal) → P (refuse x s)) → (ReturnReady s k → P (returned s k)) → P (returnOf s k)
+return-rule P s k stays next = return-checks P s k (λ x _. stays x) next
 
 pub return-is : (s : Store) (k : LaneNo) → ReturnReady s k → returnOf s k ≡ returned s k
 unfolding returnOf
 return-is s k r = guarded-is s k _ (r .sound) (r .lane) ∙ rw (ne-eqb _ _ (r .filled)) refl
 
 -- deliver: 9 is the lane's own
-pub deliver-rule : (ins : Insertion) (P : Outcome → Type 0) (s : Store) (k : LaneNo) → ((x : Refusal) → P (refuse x s)) →
+pub deliver-checks : (ins : Insertion) (P : Outcome → Type 0) (s : Store) (k : LaneNo) → ((x : Refusal) → Checked x → P (refuse x s)) →
     (corruptOf s ≡ false → k .0 < s .shape .n → P (commitLane s k (deliverLane capacity ins (s .shape .c) (laneAt s (k .0))))) → P (deliverOf ins s k)
 unfolding deliverOf
-deliver-rule ins P s k stays next = guarded-rule P s k _ stays next
+deliver-checks ins P s k stays next = guarded-checks P s k _ stays next
+
+pub deliver-rule : (ins : Insertion) (P : Outcome → Type 0) (s : Store) (k : LaneNo) → ((x : Refusal) → P (refuse x s)) →
+    (corruptOf s ≡ false → k .0 < s .shape .n → P (commitLane s k (deliverLane capacity ins (s .shape .c) (laneAt s (k .0))))) → P (deliverOf ins s k)
+deliver-rule ins P s k stays next = deliver-checks ins P s k (λ x _. stays x) next
 
 pub deliver-is : (ins : Insertion) (s : Store) (k : LaneNo) → corruptOf s ≡ false → k .0 < s .shape .n → deliverOf ins s k ≡ commitLane s k (deliverLane capacity ins (s .shape .c) (laneAt s (k .0)))
 unfolding deliverOf

@@ -42,7 +42,6 @@ use Rattle.machine.specs.Deliver.{reply, updateAt, purgeAt, fillAt, gran
 use Rattle.machine.specs.Settle.{isOrder}
 use Rattle.machine.specs.Flat.{flatBlock}
 use Rattle.machine.proofs.laws.Tests.{on, or-never}
-use Rattle.machine.proofs.laws.Counts.{step-most}
 use Rattle.machine.proofs.bounds.KeepsLane.{clash}
 use Rattle.machine.proofs.bounds.KeepsBegin.{all-valid}
 use Rattle.machine.proofs.bounds.Sound.{sound}
@@ -55,7 +54,7 @@ use Rattle.machine.proofs.projection.SeenBegin.{held-line}
 use Rattle.machine.proofs.store.Consistent.{Consistent}
 use Rattle.machine.proofs.store.ConsistentLane.{lane-sized}
 use Rattle.machine.proofs.settle.Live.{hasRoom, Live}
-use Rattle.machine.proofs.settle.LiveOwing.{owed-seven, queue-length, returns-split}
+use Rattle.machine.proofs.settle.LiveShort.{unserved-none, answer-room}
 use Rattle.machine.proofs.rules.Rules.{deliver-is, answer-goes}
 
 -- an answer joins a return queue with room
@@ -85,10 +84,6 @@ status-found : (c : ℕ) (a : BlockNo) (l : Lane) → held (seen c a l .line) �
 unfolding seen
 status-found c a l e q = clash (cc (rw q at e))
 
--- an unserved operation is served on no block
-unserved-none : (o : Operation) (a : BlockNo) → servedCount (waitingOn a (Unserved o)) ≡ 0
-unserved-none o a = by-cond (λ (w : Waiting). servedCount w ≡ 0) (eqb (blockOf (o .word) .0) (a .0)) _ _ refl refl
-
 module _ (ins : Insertion) (s : Store) (f : List ℕ) (i : Consistent s f) (live : Live s) (k : LaneNo) (h : k .0 < s .shape .n) (filled : laneAt s (k .0) .downs .len ≢ 0) where
   abbrev l : Lane
   l = laneAt s (k .0)
@@ -115,20 +110,6 @@ module _ (ins : Insertion) (s : Store) (f : List ℕ) (i : Consistent s f) (live
       let e = take-downs (l .downs) (lane-sized s f i (k .0) h .downs) filled (sound s (i .sound) .lane (k .0) h .downs .short) in
       ap (keepIf (downAbout a)) e ∙ keep-head (downAbout a) x (queuedDowns (takeDown (l .downs) .queue)) (eq-eqb (a .0) (a .0) refl)
 
-  -- an order is owed beside the answers on their way, all of them at most 7, and at most one ejection is: its answer finds room
-  order-room : isOrder (x .kind) ≡ true → l .returns .len < capacity
-  order-room o =
-      let z = lane-sized s f i (k .0) h in
-      let g = sound s (i .sound) .lane (k .0) h in
-      let p = g .returns .short in
-      let y = queue-length (l .returns .len) (l .returns .at) (omega (arith, z .returns)) in
-      let r = returns-split (queuedReturns (l .returns)) in
-      let d : orderCount (queuedDowns (l .downs)) ≡ 1 + orderCount (queuedDowns (takeDown (l .downs) .queue)) = rw (take-downs (l .downs) (z .downs) filled (g .downs .short), o) in
-      let a = owed-seven s f i live (k .0) h in
-      let e = live .lane (k .0) .ejects in
-      let u = step-most (unservedOf (l .waiting)) in
-      omega arith
-
   -- a grant is for the operation that its lane waits for
   grant-served : isOrder (x .kind) ≡ false → (o : Operation) × (l .waiting ≡ Served o) × (blockOf (o .word) .0 ≡ a .0)
   unfolding seen
@@ -146,14 +127,18 @@ module _ (ins : Insertion) (s : Store) (f : List ℕ) (i : Consistent s f) (live
       go (Served o) e =
           on (eqb (blockOf (o .word) .0) (a .0)) (λ y. (o, e, eqb-true _ _ y)) (λ y. absurd (some (ap (λ (w : Waiting). servedCount (waitingOn a w)) e ∙ rw y)))
 
-  -- each kind
-  update-goes : isOrder (x .kind) ≡ true → (r : Found) → refusedIn (updateAt capacity r a t .answer) ≡ false
-  update-goes o (At j) = reply-goes _ _ (order-room o)
-  update-goes o Nothing = reply-goes _ _ (order-room o)
+  -- an answer finds room
+  room : l .returns .len < capacity
+  room = answer-room s f i live (k .0) h filled
 
-  purge-goes : isOrder (x .kind) ≡ true → (r : Found) → refusedIn (purgeAt capacity r a t .answer) ≡ false
-  purge-goes o (At j) = reply-goes _ _ (order-room o)
-  purge-goes o Nothing = reply-goes _ _ (order-room o)
+  -- each kind
+  update-goes : (r : Found) → refusedIn (updateAt capacity r a t .answer) ≡ false
+  update-goes (At j) = reply-goes _ _ room
+  update-goes Nothing = reply-goes _ _ room
+
+  purge-goes : (r : Found) → refusedIn (purgeAt capacity r a t .answer) ≡ false
+  purge-goes (At j) = reply-goes _ _ room
+  purge-goes Nothing = reply-goes _ _ room
 
   module _ (o : Operation) (w : l .waiting ≡ Served o) (b : blockOf (o .word) .0 ≡ a .0) where
     fill-goes : searchOf l (s .shape .c) a ≡ Nothing → (r : Found) → vacantOf l (s .shape .c) ≡ r → refusedIn (fillAt ins r (s .shape .c) x o t .answer) ≡ false
@@ -181,8 +166,8 @@ module _ (ins : Insertion) (s : Store) (f : List ℕ) (i : Consistent s f) (live
     served-go = ap (λ (y : Waiting). servedOn y a) w ∙ rw (eq-eqb (blockOf (o .word) .0) (a .0) b)
 
   kind-goes : (y : DownKind) → x .kind ≡ y → refusedIn (deliverKind capacity ins y (s .shape .c) x t .answer) ≡ false
-  kind-goes Update q = update-goes (ap isOrder q) (searchOf l (s .shape .c) a)
-  kind-goes Purge q = purge-goes (ap isOrder q) (searchOf l (s .shape .c) a)
+  kind-goes Update q = update-goes (searchOf l (s .shape .c) a)
+  kind-goes Purge q = purge-goes (searchOf l (s .shape .c) a)
   kind-goes Grant q =
       let o = grant-served (ap isOrder q) in
       ap (λ (r : Ready). refusedIn (grantTo ins r (s .shape .c) x t .answer)) (served-go (o .0) (o .1) (o .2)) ∙ words-goes (o .0) (o .1) (o .2) q (searchOf l (s .shape .c) a) refl
@@ -190,8 +175,10 @@ module _ (ins : Insertion) (s : Store) (f : List ℕ) (i : Consistent s f) (live
       let o = grant-served (ap isOrder q) in
       ap (λ (r : Ready). refusedIn (bareTo r (s .shape .c) x t .answer)) (served-go (o .0) (o .1) (o .2)) ∙ bare-goes (o .0) (o .1) (o .2) q (searchOf l (s .shape .c) a) refl
 
+  pub deliver-lane-goes : refusedIn (deliverLane capacity ins (s .shape .c) l .answer) ≡ false
+  unfolding deliverLane
+  deliver-lane-goes = pick (λ (r : LaneStep). refusedIn (r .answer) ≡ false) (emptyAt (l .downs .len)) _ _ (λ e. absurd (filled (eqb-true _ _ e))) (λ _. kind-goes (x .kind) refl)
+
   pub deliver-goes : refusedOf (deliverOf ins s k .answer) ≡ false
-  unfolding deliverLane commitLane
-  deliver-goes =
-      ap (λ (r : Outcome). refusedOf (r .answer)) (deliver-is ins s k (i .sound) h) ∙ answer-goes k _ (deliverLane capacity ins (s .shape .c) l .answer) ∙
-      pick (λ (r : LaneStep). refusedIn (r .answer) ≡ false) (emptyAt (l .downs .len)) _ _ (λ e. absurd (filled (eqb-true _ _ e))) (λ _. kind-goes (x .kind) refl)
+  unfolding commitLane
+  deliver-goes = ap (λ (r : Outcome). refusedOf (r .answer)) (deliver-is ins s k (i .sound) h) ∙ answer-goes k _ (deliverLane capacity ins (s .shape .c) l .answer) ∙ deliver-lane-goes

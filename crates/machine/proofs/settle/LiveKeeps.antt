@@ -1,4 +1,4 @@
--- An opening gives a live store, and every call keeps a consistent one live; so does every list of calls. Assumes nothing.
+-- An opening gives a live store, and every call keeps a consistent one live. Assumes nothing.
 use Prim.Native.Nat.{ℕ, suc, _<_, _≤_}
 use mathlib.Core.Path.{_≡_, refl, sym, _∙_}
 use mathlib.Core.List.{List}
@@ -21,8 +21,7 @@ use Rattle.machine.specs.Change.{commitLane}
 use Rattle.machine.specs.Begin.{beginOf}
 use Rattle.machine.specs.Deliver.{deliverOf}
 use Rattle.machine.specs.Settle.{settleStep, boundOf, Progress, advance, repeatStep, Settlement, settleOf, lane}
-use Rattle.machine.specs.Calls.{Call, Begin, Serve, Return, Deliver, Settle, callOf, run}
-use Rattle.machine.specs.Flat.{flatOf}
+use Rattle.machine.specs.Calls.{Call, Begin, Serve, Return, Deliver, Settle, callOf}
 use Rattle.machine.proofs.laws.Sets.{set-cases}
 use Rattle.machine.proofs.bounds.KeepsLane.{clash}
 use Rattle.machine.proofs.bounds.Sound.{sound}
@@ -31,12 +30,10 @@ use Rattle.machine.proofs.protocol.BlockState.{seen, blockNo}
 use Rattle.machine.proofs.protocol.Invariant.{owed}
 use Rattle.machine.proofs.projection.SeenBegin.{begin-case}
 use Rattle.machine.proofs.projection.SeenDeliver.{deliver-case}
-use Rattle.machine.proofs.list.OuterRun.{run-pays}
-use Rattle.machine.proofs.store.Consistent.{Consistent, pendingIn}
+use Rattle.machine.proofs.store.Consistent.{Consistent}
 use Rattle.machine.proofs.store.ConsistentLane.{lane-sized}
-use Rattle.machine.proofs.store.ConsistentOpen.{each-lane, blank-service, opened-fresh, open-consistent}
+use Rattle.machine.proofs.store.ConsistentOpen.{each-lane, blank-service, opened-fresh}
 use Rattle.machine.proofs.store.ConsistentSettle.{serve-leads, return-leads, deliver-leads}
-use Rattle.machine.proofs.store.OrderOfMemory.{call-consistent}
 use Rattle.machine.proofs.settle.Live.{LaneLive, Live}
 use Rattle.machine.proofs.settle.LiveLane.{begin-lane-live, deliver-lane-live}
 use Rattle.machine.proofs.settle.LiveOwed.{OwesLess, begin-owed, deliver-owed}
@@ -136,9 +133,3 @@ call-live ins s f (Serve k) i live = serve-live s f k i live
 call-live ins s f (Return k) i live = return-live s f k i live
 call-live ins s f (Deliver k) i live = deliver-live ins s f k i live
 call-live ins s f Settle i live = settle-live ins s f i live
-
--- any list of calls from an opening
-pub run-live : (ins : Insertion) (shape : Shape) (calls : List Call) → openOf shape .answer ≡ Opened → Live (run ins (openOf shape .store) calls .store)
-run-live ins shape calls e =
-    run-pays ins (λ (s : Store) (f : List ℕ). Consistent s f × Live s) pendingIn (λ s f x r. let q = call-consistent ins s f x (r .0) in (q .0, (q .1, call-live ins s f x (r .0) (r .1)), q .2))
-    (openOf shape .store) (flatOf (shape .m)) calls (open-consistent shape e, open-live shape e) .1 .1

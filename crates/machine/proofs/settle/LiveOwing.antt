@@ -1,5 +1,6 @@
 -- OWED: what a lane owes over all blocks, orders to take and answers on their way, is no more than the services of other lanes. LANES: services
--- are of different lanes, so it is at most 7. And a lane has at most one grant on its way. Assumes nothing.
+-- are of different lanes, each of which has a served operation; so it is less than n, and at most L. And a lane has no grant on its way but for its
+-- served operation. Assumes nothing.
 use Prim.Native.Nat.{ℕ, zero, suc, _+_, _<_, _≤_}
 use mathlib.Core.Logic.{_⊎_, inl, inr, _≢_}
 use mathlib.Core.Path.{_≡_, refl, sym, ap, _∙_, subst}
@@ -20,6 +21,7 @@ use Rattle.lanes.specs.declared.Lane.{Lane}
 use Rattle.lanes.specs.declared.Operation.{Operation}
 use Rattle.lanes.specs.declared.Waiting.{Waiting}
 use Rattle.lanes.specs.declared.Waiting.the-variants.{Idle, Unserved, Served}
+use Rattle.lanes.specs.Waits.{unservedOf}
 use Rattle.store.specs.declared.Store.{Store}
 use Rattle.store.specs.declared.Service.{Service}
 use Rattle.store.specs.declared.Lookup.the-variants.{Of}
@@ -202,7 +204,7 @@ tally-grants (x ∷ xs) = go (isOrder (x .kind)) (tally-grants xs)
     go false e = omega arith
 
 -- what waits on block a, served
-served-on : (w : Waiting) (a : BlockNo) → servedCount (waitingOn a w) ≢ 0 → (o : Operation) × (w ≡ Served o) × (blockOf (o .word) .0 ≡ a .0)
+pub served-on : (w : Waiting) (a : BlockNo) → servedCount (waitingOn a w) ≢ 0 → (o : Operation) × (w ≡ Served o) × (blockOf (o .word) .0 ≡ a .0)
 served-on Idle a n = absurd (n refl)
 served-on (Unserved o) a n = absurd (n (by-cond (λ (x : Waiting). servedCount x ≡ 0) (eqb (blockOf (o .word) .0) (a .0)) (Unserved o) Idle refl refl))
 served-on (Served o) a n = go (eqb (blockOf (o .word) .0) (a .0)) refl
@@ -228,6 +230,12 @@ and-second : (a b : Bool) → (a && b) ≡ true → b ≡ true
 and-second true b e = e
 and-second false b e = absurd (true≢false (sym e))
 
+-- .. are no more than one
+fewer : (a b : Bool) → cond (a && b) 1 0 ≤ cond a 1 0
+fewer true true = omega arith
+fewer true false = omega arith
+fewer false b = omega arith
+
 -- what a lane owes over all blocks
 abbrev pub owedAll : Lane → ℕ
 owedAll l = answerCount (queuedReturns (l .returns)) + orderCount (queuedDowns (l .downs))
@@ -237,7 +245,7 @@ module _ (s : Store) (f : List ℕ) (i : Consistent s f) (live : Live s) where
   serviceAt j = slotAt (s .control) j .service
 
   -- what the invariant says of the service of block a
-  fits : (a : ℕ) (h : a < s .shape .m) (v : Service) → serviceOf (s .control) (blockNo a) ≡ Of v → ServiceFits (i .block a h .0) (project s a .lane) v
+  pub fits : (a : ℕ) (h : a < s .shape .m) (v : Service) → serviceOf (s .control) (blockNo a) ≡ Of v → ServiceFits (i .block a h .0) (project s a .lane) v
   fits a h v e = subst (ServedWell (i .block a h .0) (project s a .lane)) e (i .block a h .1 .service)
 
   -- the service in slot j: its block is one of the store's, and its lane waits for it
@@ -277,30 +285,55 @@ module _ (s : Store) (f : List ℕ) (i : Consistent s f) (live : Live s) where
     other-busy : (j : ℕ) → others j ≡ true → slotAt (s .control) j .busy ≡ true
     other-busy j e = and-first (slotAt (s .control) j .busy) (not (eqb (serviceAt j .lane .0) k)) e
 
-    -- they are at most 7
-    others-seven : countTo others 8 ≤ 7
-    others-seven =
-        let a = count-by others (λ j. serviceAt j .lane .0) 8 8 (λ j l e. slot-lane j l (other-busy j e)) in
-        let b = sum-up (λ d. countTo (λ j. others j && eqb (serviceAt j .lane .0) d) 8) (λ d. cond (not (eqb d k)) 1 0) 8 (λ d _. each d) in
-        let c = count-sum (λ d. not (eqb d k)) 8 in
-        let z = count-less (λ d. not (eqb d k)) 8 k k-below (ap not (eq-eqb k k refl)) in
+    -- the other lanes that may have a service: none that waits unserved
+    abbrev lanes : ℕ → Bool
+    lanes d = not (eqb d k) && not (unservedOf (laneAt s d .waiting))
+
+    other-lane : (j : ℕ) → j < 8 → others j ≡ true → lanes (serviceAt j .lane .0) ≡ true
+    other-lane j l e =
+        let p = slot-served j l (other-busy j e) in
+        let u = served-on (laneAt s (serviceAt j .lane .0) .waiting) (serviceAt j .block) (λ z. absurd (omega arith)) in
+        rw (and-second (slotAt (s .control) j .busy) (not (eqb (serviceAt j .lane .0) k)) e, u .1)
+
+    -- the services of other lanes are no more than these
+    others-lanes : countTo others 8 ≤ countTo lanes (s .shape .n)
+    others-lanes =
+        let a = count-by others (λ j. serviceAt j .lane .0) (s .shape .n) 8 (λ j l e. sound s (i .sound) .control .services j l (other-busy j e) .lane) in
+        let b = sum-up (λ d. countTo (λ j. others j && eqb (serviceAt j .lane .0) d) 8) (λ d. cond (lanes d) 1 0) (s .shape .n) (λ d _. each d) in
+        let c = count-sum lanes (s .shape .n) in
         omega arith
       where
         both : (j d : ℕ) → (others j && eqb (serviceAt j .lane .0) d) ≡ true → (others j ≡ true) × (serviceAt j .lane .0 ≡ d)
         both j d e = (and-first (others j) (eqb (serviceAt j .lane .0) d) e, eqb-true _ _ (and-second (others j) (eqb (serviceAt j .lane .0) d) e))
 
-        each : (d : ℕ) → countTo (λ j. others j && eqb (serviceAt j .lane .0) d) 8 ≤ cond (not (eqb d k)) 1 0
-        each d = go (same? d k)
+        each : (d : ℕ) → countTo (λ j. others j && eqb (serviceAt j .lane .0) d) 8 ≤ cond (lanes d) 1 0
+        each d = go (lanes d) refl
           where
-            go : (d ≡ k) ⊎ (d ≢ k) → countTo (λ j. others j && eqb (serviceAt j .lane .0) d) 8 ≤ cond (not (eqb d k)) 1 0
-            go (inl q) =
+            go : (b : Bool) → lanes d ≡ b → countTo (λ j. others j && eqb (serviceAt j .lane .0) d) 8 ≤ cond b 1 0
+            go true q =
+                count-unique (λ j. others j && eqb (serviceAt j .lane .0) d) 8
+                (λ p q l m e g. let y = both p d e in let w = both q d g in one-lane p q l m (other-busy p (y .0)) (other-busy q (w .0)) (y .1 ∙ sym (w .1)))
+            go false q =
                 let z = count-zero (λ j. others j && eqb (serviceAt j .lane .0) d) 8
-                (λ j _. never _ (λ e. let y = both j d e in absurd (true≢false (sym (and-second (slotAt (s .control) j .busy) (not (eqb (serviceAt j .lane .0) k)) (y .0)) ∙ ap not (eq-eqb _ _ (y .1 ∙ q)))))) in
+                (λ j l. never _ (λ e. let y = both j d e in absurd (true≢false (sym (other-lane j l (y .0)) ∙ ap lanes (y .1) ∙ q)))) in
                 omega arith
-            go (inr n) =
-                let z = count-unique (λ j. others j && eqb (serviceAt j .lane .0) d) 8
-                (λ p q l m e g. let y = both p d e in let w = both q d g in one-lane p q l m (other-busy p (y .0)) (other-busy q (w .0)) (y .1 ∙ sym (w .1))) in
-                rw (ne-eqb d k n) z
+
+    -- .. fewer than n
+    others-fewer : countTo others 8 + 1 ≤ s .shape .n
+    others-fewer =
+        let a = others-lanes in
+        let b = count-less lanes (s .shape .n) k h (rw (eq-eqb k k refl)) in
+        omega arith
+
+    -- .. and by two where another lane waits unserved
+    others-two-fewer : (d : ℕ) → d < s .shape .n → d ≢ k → unservedOf (laneAt s d .waiting) ≡ true → countTo others 8 + 2 ≤ s .shape .n
+    others-two-fewer d l n u =
+        let a = others-lanes in
+        let b = count-sum lanes (s .shape .n) in
+        let c = sum-less (λ e. cond (lanes e) 1 0) (λ e. cond (not (eqb e k)) 1 0) (s .shape .n) d l (λ e. fewer (not (eqb e k)) (not (unservedOf (laneAt s e .waiting)))) (rw (ne-eqb d k n, u) (omega arith)) in
+        let e = count-sum (λ e. not (eqb e k)) (s .shape .n) in
+        let z = count-less (λ e. not (eqb e k)) (s .shape .n) k h (ap not (eq-eqb k k refl)) in
+        omega arith
 
     others-open : countTo others 8 ≤ openServices (s .control)
     unfolding openServices
@@ -309,11 +342,6 @@ module _ (s : Store) (f : List ℕ) (i : Consistent s f) (live : Live s) where
         let b = count-sum (λ j. slotAt (s .control) j .busy) 8 in
         let c = sum-up (λ j. cond (others j) 1 0) (λ j. cond (slotAt (s .control) j .busy) 1 0) 8 (λ j _. fewer (slotAt (s .control) j .busy) (not (eqb (serviceAt j .lane .0) k))) in
         omega arith
-      where
-        fewer : (a b : Bool) → cond (a && b) 1 0 ≤ cond a 1 0
-        fewer true true = omega arith
-        fewer true false = omega arith
-        fewer false b = omega arith
 
     -- what the lane owes a block has its service in a slot, and that is of another lane
     owed-slot : (d : ℕ) → d < s .shape .m → owed (project s d .lane k) ≢ 0 → (j : ℕ) × (j < 8) × (others j ≡ true) × (serviceAt j .block .0 ≡ d)
@@ -368,44 +396,48 @@ module _ (s : Store) (f : List ℕ) (i : Consistent s f) (live : Live s) where
                 let q = tally-orders (keepIf (downAbout (serviceAt j .block)) (queuedDowns (laneAt s k .downs))) in
                 omega arith
 
-    pub owed-seven : owedAll (laneAt s k) ≤ 7
-    owed-seven = let a = owed-others in let b = others-seven in omega arith
+    pub owed-fewer : owedAll (laneAt s k) + 1 ≤ s .shape .n
+    owed-fewer = let a = owed-others in let b = others-fewer in omega arith
 
-    pub owed-open : owedAll (laneAt s k) ≤ openServices (s .control)
-    owed-open = let a = owed-others in let b = others-open in omega arith
+    pub owed-two-fewer : (d : ℕ) → d < s .shape .n → d ≢ k → unservedOf (laneAt s d .waiting) ≡ true → owedAll (laneAt s k) + 2 ≤ s .shape .n
+    owed-two-fewer d l n u = let a = owed-others in let b = others-two-fewer d l n u in omega arith
+
+    pub owed-limit : owedAll (laneAt s k) ≤ s .shape .limit
+    owed-limit = let a = owed-others in let b = others-open in let c = sound s (i .sound) .control .most in omega arith
+
+    -- the blocks of the lane's grants
+    grants-inside : Within downBlock granting (s .shape .m) (queuedDowns (laneAt s k .downs))
+    grants-inside = within downBlock granting noDown (s .shape .m) (laneAt s k .downs .len) (laneAt s k .downs .at) (sound s (i .sound) .lane k h .downs .inside)
 
     -- a grant is for the operation that is served
-    grant-on : (d : ℕ) → d < s .shape .m → grantCount (project s d .lane k .downs) ≢ 0 → servedCount (waitingOn (blockNo d) (laneAt s k .waiting)) ≢ 0
+    grant-on : (d : ℕ) → d < s .shape .m → part downBlock granting d (queuedDowns (laneAt s k .downs)) ≢ 0 → servedCount (waitingOn (blockNo d) (laneAt s k .waiting)) ≢ 0
     unfolding seen
-    grant-on d b n z = let g = i .block d b .1 .grant k in n (omega arith)
+    grant-on d b n z = let g = i .block d b .1 .grant k in n (tally-grants (keepIf (downAbout (blockNo d)) (queuedDowns (laneAt s k .downs))) ∙ omega arith)
 
-    -- so there is at most one
-    pub grants-one : grantCount (queuedDowns (laneAt s k .downs)) ≤ 1
-    unfolding seen sumTo
-    grants-one = go (laneAt s k .waiting) refl
-      where
-        inside : Within downBlock granting (s .shape .m) (queuedDowns (laneAt s k .downs))
-        inside = within downBlock granting noDown (s .shape .m) (laneAt s k .downs .len) (laneAt s k .downs .at) (sound s (i .sound) .lane k h .downs .inside)
+    -- so where none is, there is no grant
+    pub grants-none : ((a : BlockNo) → servedCount (waitingOn a (laneAt s k .waiting)) ≡ 0) → grantCount (queuedDowns (laneAt s k .downs)) ≡ 0
+    unfolding sumTo
+    grants-none z =
+        let a = tally-most downBlock granting 0 (s .shape .m) (λ j. 0) (λ j. true) (queuedDowns (laneAt s k .downs)) grants-inside (λ d b n. absurd (grant-on d b n (z (blockNo d)))) in
+        let b = tally-grants (queuedDowns (laneAt s k .downs)) in
+        omega arith
 
-        some : (d : ℕ) → d < s .shape .m → part downBlock granting d (queuedDowns (laneAt s k .downs)) ≢ 0 → servedCount (waitingOn (blockNo d) (laneAt s k .waiting)) ≢ 0
-        some d b z = grant-on d b (λ q. z (tally-grants (keepIf (downAbout (blockNo d)) (queuedDowns (laneAt s k .downs))) ∙ q))
+    -- .. and where one is, they are about its block
+    pub grants-about : (o : Operation) → laneAt s k .waiting ≡ Served o → grantCount (queuedDowns (laneAt s k .downs)) ≤ grantCount (project s (blockOf (o .word) .0) .lane k .downs)
+    unfolding sumTo seen
+    grants-about o e =
+        let d = blockOf (o .word) .0 in
+        let a = tally-most downBlock granting 1 (s .shape .m) (λ j. d) (λ j. true) (queuedDowns (laneAt s k .downs)) grants-inside
+        (λ c b n. let u = served-on (laneAt s k .waiting) (blockNo c) (grant-on c b n) in (0, omega arith, refl, ap (λ (x : Operation). blockOf (x .word) .0) (served-inj o (u .0) (sym e ∙ u .1)) ∙ u .2)) in
+        let b = tally-grants (queuedDowns (laneAt s k .downs)) in
+        let p = tally-grants (keepIf (downAbout (blockNo d)) (queuedDowns (laneAt s k .downs))) in
+        omega arith
 
-        none : (w : Waiting) → laneAt s k .waiting ≡ w → ((a : BlockNo) → servedCount (waitingOn a w) ≡ 0) → grantCount (queuedDowns (laneAt s k .downs)) ≤ 1
-        none w e z =
-            let a = tally-most downBlock granting 0 (s .shape .m) (λ j. 0) (λ j. true) (queuedDowns (laneAt s k .downs)) inside
-            (λ d b n. absurd (some d b n (ap (λ (x : Waiting). servedCount (waitingOn (blockNo d) x)) e ∙ z (blockNo d)))) in
-            let b = tally-grants (queuedDowns (laneAt s k .downs)) in
-            omega arith
-
-        go : (w : Waiting) → laneAt s k .waiting ≡ w → grantCount (queuedDowns (laneAt s k .downs)) ≤ 1
-        go Idle e = none Idle e (λ a. refl)
-        go (Unserved o) e = none (Unserved o) e (λ a. by-cond (λ (x : Waiting). servedCount x ≡ 0) (eqb (blockOf (o .word) .0) (a .0)) (Unserved o) Idle refl refl)
-        go (Served o) e =
-            let d = blockOf (o .word) .0 in
-            let a = tally-most downBlock granting 1 (s .shape .m) (λ j. d) (λ j. true) (queuedDowns (laneAt s k .downs)) inside
-            (λ c b n. let u = served-on (laneAt s k .waiting) (blockNo c) (some c b n) in (0, omega arith, refl, ap (λ (x : Operation). blockOf (x .word) .0) (served-inj o (u .0) (sym e ∙ u .1)) ∙ u .2)) in
-            let b = tally-grants (queuedDowns (laneAt s k .downs)) in
-            let g = i .block d (sound s (i .sound) .lane k h .served o e) .1 .grant k in
-            let p = tally-grants (keepIf (downAbout (blockNo d)) (queuedDowns (laneAt s k .downs))) in
-            let m = served-most (laneAt s k .waiting) (blockNo d) in
-            omega arith
+    -- at most one
+    pub grants-one : (o : Operation) → laneAt s k .waiting ≡ Served o → grantCount (queuedDowns (laneAt s k .downs)) ≤ 1
+    unfolding seen
+    grants-one o e =
+        let a = grants-about o e in
+        let g = i .block (blockOf (o .word) .0) (sound s (i .sound) .lane k h .served o e) .1 .grant k in
+        let m = served-most (laneAt s k .waiting) (blockOf (o .word)) in
+        omega arith

@@ -15,29 +15,18 @@ use Rattle.store.specs.Opening.{openOf}
 use Rattle.store.specs.Quiet.{quietOf}
 use Rattle.machine.specs.declared.Settled.the-variants.{Steps}
 use Rattle.machine.specs.Corruption.{corruptOf}
-use Rattle.machine.specs.Settle.{settleStep, boundOf, Progress, advance, ended, repeatStep, Settlement, unlessRefused, reached, settleOf}
+use Rattle.machine.specs.Settle.{boundOf, Progress, advance, ended, repeatStep, Settlement, unlessRefused, reached, settleOf}
 use Rattle.machine.specs.Calls.{Call, Settle, callOf, run}
 use Rattle.machine.specs.Attribution.{Begun}
 use Rattle.machine.specs.Demand3.{begun, operations}
 use Rattle.machine.specs.Completion.{Settles, AlwaysSettles}
 use Rattle.machine.proofs.bounds.KeepsLane.{clash}
 use Rattle.machine.proofs.settle.FallsSettle.{startAt, lastOf, last-quiet}
-use Rattle.machine.proofs.store.Consistent.{Consistent}
-use Rattle.machine.proofs.store.ConsistentSettle.{step-leads}
-use Rattle.machine.proofs.store.OrderOfMemory.{reaches, order-of-memory}
-use Rattle.machine.proofs.settle.Live.{Live}
-use Rattle.machine.proofs.settle.LiveSpare.{Spare, open-spare, step-spare, run-spare}
-use Rattle.machine.proofs.settle.LiveKeeps.{settle-step-live, run-live}
+use Rattle.machine.proofs.store.OrderOfMemory.{order-of-memory}
+use Rattle.machine.proofs.settle.Lively.{Lively, open-lively, step-lively, run-lively}
 use Rattle.machine.proofs.settle.LiveStep.{step-goes}
 use Rattle.machine.proofs.rules.RulesSettle.{repeat-rule}
 use Rattle.machine.proofs.list.Joined.{run-more}
-
--- what a store has on which settle is never refused
-pub record Lively (s : Store) : Type 0 where
-  pub flat : List ℕ
-  pub consistent : Consistent s flat
-  pub live : Live s
-  pub spare : Spare s
 
 -- an answer that is no refusal
 unless-goes : (a : Answer) (s : Store) (r : Settlement) → refusedOf a ≡ false → unlessRefused a s r ≡ r
@@ -52,12 +41,6 @@ settle-steps : (ins : Insertion) (s : Store) → corruptOf s ≡ false → refus
     settleOf ins s ≡ record { answer = Steps (lastOf ins s .count); completions = lastOf ins s .completions; store = lastOf ins s .store }
 unfolding settleOf
 settle-steps ins s e h q = rw e (unless-goes (lastOf ins s .answer) s (reached s (lastOf ins s)) h ∙ rw q)
-
--- a step of settle
-pub step-lively : (ins : Insertion) (s : Store) → Lively s → Lively (settleStep ins s .store)
-step-lively ins s l =
-    let r = step-leads ins s (l .flat) (l .consistent) in
-    record { flat = r .0; consistent = r .1; live = settle-step-live ins s (l .flat) (l .consistent) (l .live); spare = step-spare ins s (l .spare) }
 
 -- no step is refused
 repeat-goes : (ins : Insertion) (n : ℕ) (p : Progress) → refusedOf (p .answer) ≡ false → Lively (p .store) → refusedOf (repeatStep ins n p .answer) ≡ false
@@ -79,15 +62,9 @@ settle-goes ins s l =
     let z = settle-steps ins s e h q in
     record { count = lastOf ins s .count; answer = ap (λ (r : Settlement). r .answer) z; quiet = ap (λ (r : Settlement). quietOf (r .store)) z ∙ q }
 
--- what any list of calls reaches
-run-lively : (ins : Insertion) (shape : Shape) (calls : List Call) → openOf shape .answer ≡ Opened → Lively (run ins (openOf shape .store) calls .store)
-run-lively ins shape calls e =
-    let r = reaches ins shape calls e in
-    record { flat = r .0; consistent = r .1 .consistent; live = run-live ins shape calls e; spare = run-spare ins (openOf shape .store) calls (open-spare shape) }
-
 -- settle is never refused, and leaves a quiet store
 pub always-settles : AlwaysSettles
-always-settles ins shape calls e = settle-goes ins (run ins (openOf shape .store) calls .store) (run-lively ins shape calls e)
+always-settles ins shape calls e = settle-goes ins (run ins (openOf shape .store) calls .store) (run-lively ins (openOf shape .store) calls (open-lively shape e))
 
 settled-quiet : (ins : Insertion) (shape : Shape) (calls : List Call) → openOf shape .answer ≡ Opened → quietOf (run ins (openOf shape .store) (calls ++ (Settle ∷ [])) .store) ≡ true
 unfolding run callOf

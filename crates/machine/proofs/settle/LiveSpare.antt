@@ -3,7 +3,7 @@
 use Prim.Native.Nat.{ℕ, zero, suc, _<_, _≤_}
 use mathlib.Core.Path.{_≡_, refl, sym, ap, _∙_}
 use mathlib.Core.Bool.{Bool, true, false}
-use mathlib.Core.List.{List, [], _∷_}
+use mathlib.Core.List.{List}
 use lib.ListN.{getD, set}
 use lib.Seq.{getD-set-other}
 use native.Mathlib.Omega.{arith}
@@ -36,7 +36,7 @@ use Rattle.machine.specs.Serve.{close, serveMove, serveOf}
 use Rattle.machine.specs.Return.{returnMove, returnOf}
 use Rattle.machine.specs.Deliver.{deliverOf}
 use Rattle.machine.specs.Settle.{settleStep, boundOf, Progress, advance, repeatStep, Settlement, settleOf, lane}
-use Rattle.machine.specs.Calls.{Call, Begin, Serve, Return, Deliver, Settle, callOf, run}
+use Rattle.machine.specs.Calls.{Call, Begin, Serve, Return, Deliver, Settle, callOf}
 use Rattle.machine.proofs.laws.Tests.{on}
 use Rattle.machine.proofs.bounds.KeepsLane.{clash}
 use Rattle.machine.proofs.bounds.Sound.{BlockSound, ControlSound, service-sound, sound}
@@ -152,7 +152,7 @@ repeat-spare ins n p e = repeat-rule ins (λ (r : Progress). Spare (r .store)) (
 settle-spare : (ins : Insertion) (s : Store) → Spare s → Spare (settleOf ins s .store)
 settle-spare ins s e = settle-rule ins (λ (r : Settlement). Spare (r .store)) s (λ _. e) (λ _ _ _. repeat-spare ins (suc (boundOf s)) (startAt s) e)
 
--- every call, and every list of calls
+-- every call
 pub call-spare : (ins : Insertion) (s : Store) (x : Call) → Spare s → Spare (callOf ins s x .store)
 unfolding callOf
 call-spare ins s (Begin k op w) e = begin-spare s k op w e
@@ -160,8 +160,3 @@ call-spare ins s (Serve k) e = serve-spare s k e
 call-spare ins s (Return k) e = return-spare s k e
 call-spare ins s (Deliver k) e = deliver-spare ins s k e
 call-spare ins s Settle e = settle-spare ins s e
-
-pub run-spare : (ins : Insertion) (s : Store) (calls : List Call) → Spare s → Spare (run ins s calls .store)
-unfolding run
-run-spare ins s [] e = e
-run-spare ins s (x ∷ calls) e = run-spare ins (callOf ins s x .store) calls (call-spare ins s x e)

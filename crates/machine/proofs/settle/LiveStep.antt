@@ -110,6 +110,6 @@ module _ (s : Store) (f : List ℕ) (i : Consistent s f) (live : Live s) (spare 
   pub step-goes : (ins : Insertion) → quietOf s ≡ false → refusedOf (settleStep ins s .answer) ≡ false
   step-goes ins active =
       step-rule ins (λ (r : Outcome). refusedOf (r .answer) ≡ false) s (λ k h e. deliver-goes ins s f i live (lane k) h e)
-      (λ d k h e. return-goes s (all-downs d) f i (lane k) h e)
-      (λ d r k h e. let o = unserved-some _ e in serve-goes s (all-downs d) f i (lane k) h (o .0) (o .1) (free d r (blockOf (o .0 .word))) (all-returns d r k))
+      (λ _ k h e. return-goes s f i live (lane k) h e)
+      (λ d r k h e. let o = unserved-some _ e in serve-goes s f i live (lane k) h (o .0) (record { sound = i .sound; lane = h; unserved = o .1; free = free d r (blockOf (o .0 .word)); clear = all-returns d r k }))
       (λ d r u. clash (cc (quiet d r u)))

@@ -1,0 +1,129 @@
+-- No line of a tape is `refused 12` (02, W7): before an opening every call is refused by 3, and after it the store is one that an opening and calls give.
+-- What it says is in specs/NeverFull.antt. Assumes nothing.
+use Prim.Native.Nat.{ℕ, zero, suc, _+_, _*_, _-_}
+use mathlib.Core.Logic.{_⊎_, inl, inr, _≢_}
+use mathlib.Core.Path.{_≡_, refl, sym, ap, _∙_}
+use mathlib.Core.Bool.{false, true, not, true≢false}
+use mathlib.Core.List.{List, [], _∷_, List·Memᴰ, List·Memᴰ·not-nil, List·Memᴰ·cases-cons}
+use lib.Dec.{eqb}
+use lib.ListN.{length, getD, drop}
+use borrow.Author.Tests.{eqb-false}
+use native.Mathlib.Omega.{arith}
+use Rattle.words.specs.declared.Shape.{Shape}
+use Rattle.words.proofs.Folds.{pick}
+use Rattle.records.specs.declared.Record.{Record}
+use Rattle.records.specs.declared.Record.the-variants as Record
+use Rattle.records.specs.Records.{parseOf}
+use Rattle.lanes.specs.UseOrder.{LoadsOldest}
+use Rattle.answers.specs.declared.Answer.{Answer}
+use Rattle.answers.specs.declared.Answer.the-variants.{Opened, Done, Wait, Step, Refused}
+use Rattle.answers.specs.declared.Refusal.{Refusal}
+use Rattle.answers.specs.declared.Refusal.the-variants.{Truncated, UnknownKind, NotOpen, AlreadyOpen, InvalidShape, NoSuchLane, NoSuchWord, LaneBusy, NothingPending, ControlBusy, ReturnsPending, QueueFull, TapeTooLong, Corrupt, BufferTooShort, Unexpected, PlacesExhausted, InvalidLimit}
+use Rattle.answers.specs.Refusals.{numberOf}
+use Rattle.store.specs.declared.Store.{Store}
+use Rattle.store.specs.declared.Outcome.{Outcome}
+use Rattle.store.specs.Opening.{badShape, badLimit, freshOf, blankStore, openOf}
+use Rattle.machine.specs.Change.{refuse}
+use Rattle.machine.specs.Calls.{Call, Begin, Serve, Return, Deliver, Answers, callOf}
+use Rattle.machine.specs.Tape.{isOpen, openRecord, whenOpen, recordOf, replayFrom, replayOf}
+use Rattle.machine.specs.Text.{decimalIn, refusedText, answerText}
+use Rattle.machine.specs.NeverFull.{refusalIn, TapesNeverFull}
+use Rattle.machine.proofs.settle.Lively.{Lively, open-lively, call-lively}
+use Rattle.machine.proofs.settle.LiveNever.{call-free}
+
+-- no opening was read yet, or the store is one that an opening and calls give
+abbrev Read : Store → Type 0
+Read s = (s .shape .n ≡ 0) ⊎ Lively s
+
+-- an answer that isn't 12, and such a store after it
+record Goes (r : Outcome) : Type 0 where
+  answer : refusalIn (r .answer) ≢ 12
+  store : Read (r .store)
+
+refuse-goes : (s : Store) (x : Refusal) → eqb (numberOf x) 12 ≡ false → Read s → Goes (refuse x s)
+refuse-goes s x e r = record { answer = eqb-false (numberOf x) 12 e; store = r }
+
+-- an opening
+fresh-lively : (shape : Shape) → badShape shape ≡ false → badLimit shape ≡ false → Lively (freshOf shape)
+unfolding openOf
+fresh-lively shape e f = let a : openOf shape .answer ≡ Opened = rw (e, f) in let l = open-lively shape a in rw (e, f) at l
+
+open-goes : (s : Store) (shape : Shape) → Read s → Goes (openRecord s shape)
+unfolding openRecord
+open-goes s shape r =
+    pick Goes (isOpen s) _ _ (λ _. refuse-goes s AlreadyOpen refl r)
+    (λ _. pick Goes (badShape shape) _ _ (λ _. refuse-goes s InvalidShape refl r)
+    (λ e. pick Goes (badLimit shape) _ _ (λ _. refuse-goes s InvalidLimit refl r)
+    (λ f. record { answer = λ q. absurd (omega arith); store = inr (fresh-lively shape e f) })))
+
+-- a call: 3 before an opening
+when-goes : (s : Store) (x : Outcome) → Read s → (Lively s → Goes x) → Goes (whenOpen s x)
+when-goes s x (inl e) g = pick Goes (isOpen s) _ _ (λ o. absurd (true≢false (sym o ∙ ap (λ (n : ℕ). not (eqb n 0)) e))) (λ _. refuse-goes s NotOpen refl (inl e))
+when-goes s x (inr l) g = pick Goes (isOpen s) _ _ (λ _. g l) (λ _. refuse-goes s NotOpen refl (inr l))
+
+record-goes : (s : Store) (x : Record) → Read s → Goes (recordOf s x)
+unfolding recordOf callOf
+record-goes s Record.Unknown r = refuse-goes s UnknownKind refl r
+record-goes s Record.Truncated r = refuse-goes s Truncated refl r
+record-goes s (Record.Open shape) r = open-goes s shape r
+record-goes s (Record.Begin k op w) r = when-goes s _ r (λ l. record { answer = call-free s l LoadsOldest (Begin k op w); store = inr (call-lively LoadsOldest s (Begin k op w) l) })
+record-goes s (Record.Serve k) r = when-goes s _ r (λ l. record { answer = call-free s l LoadsOldest (Serve k); store = inr (call-lively LoadsOldest s (Serve k) l) })
+record-goes s (Record.Return k) r = when-goes s _ r (λ l. record { answer = call-free s l LoadsOldest (Return k); store = inr (call-lively LoadsOldest s (Return k) l) })
+record-goes s (Record.Deliver k) r = when-goes s _ r (λ l. record { answer = call-free s l LoadsOldest (Deliver k); store = inr (call-lively LoadsOldest s (Deliver k) l) })
+
+-- the answers to a tape's records
+replay-free : (more : ℕ) (s : Store) (tape : List ℕ) → Read s → (a : Answer) → List·Memᴰ a (replayFrom more s tape) → refusalIn a ≢ 12
+unfolding replayFrom
+replay-free zero s tape r a m = absurd (List·Memᴰ·not-nil m)
+replay-free (suc more) s tape r a m =
+    let g = record-goes s (parseOf tape .rec) r in
+    pick (λ (xs : List Answer). List·Memᴰ a xs → refusalIn a ≢ 12) (eqb (length tape) 0) _ _ (λ _ n. absurd (List·Memᴰ·not-nil n))
+    (λ _ n. first (recordOf s (parseOf tape .rec)) (g .answer) (List·Memᴰ·cases-cons n) (replay-free more (recordOf s (parseOf tape .rec) .store) (drop (parseOf tape .size) tape) (g .store) a)) m
+  where
+    first : (x : Outcome) {xs : List Answer} → refusalIn (x .answer) ≢ 12 → (a ≡ x .answer) ⊎ List·Memᴰ a xs → (List·Memᴰ a xs → refusalIn a ≢ 12) → refusalIn a ≢ 12
+    first x h (inl q) rest = λ z. h (ap refusalIn (sym q) ∙ z)
+    first x h (inr n) rest = rest n
+
+-- the number that a text says behind `refused`: of one digit or two
+abbrev digits : List ℕ → ℕ
+digits [] = 0
+digits (a ∷ []) = a - 48
+digits (a ∷ (b ∷ rest)) = 10 * (a - 48) + (b - 48)
+
+reads-back : (r : Refusal) → digits (drop 8 (refusedText r)) ≡ numberOf r
+unfolding decimalIn
+reads-back Truncated = refl
+reads-back UnknownKind = refl
+reads-back NotOpen = refl
+reads-back AlreadyOpen = refl
+reads-back InvalidShape = refl
+reads-back NoSuchLane = refl
+reads-back NoSuchWord = refl
+reads-back LaneBusy = refl
+reads-back NothingPending = refl
+reads-back ControlBusy = refl
+reads-back ReturnsPending = refl
+reads-back QueueFull = refl
+reads-back TapeTooLong = refl
+reads-back Corrupt = refl
+reads-back BufferTooShort = refl
+reads-back Unexpected = refl
+reads-back PlacesExhausted = refl
+reads-back InvalidLimit = refl
+
+-- so a text of another number is another text; and what isn't refused begins with another letter
+text-free : (a : Answer) → refusalIn a ≢ 12 → answerText a ≢ refusedText QueueFull
+unfolding answerText
+text-free Opened n e = let q = ap (λ (xs : List ℕ). getD xs 0 0) e in absurd (omega arith)
+text-free (Done x) n e = let q = ap (λ (xs : List ℕ). getD xs 0 0) e in absurd (omega arith)
+text-free Wait n e = let q = ap (λ (xs : List ℕ). getD xs 0 0) e in absurd (omega arith)
+text-free Step n e = let q = ap (λ (xs : List ℕ). getD xs 0 0) e in absurd (omega arith)
+text-free (Refused r) n e = n (sym (reads-back r) ∙ ap (λ (xs : List ℕ). digits (drop 8 xs)) e ∙ reads-back QueueFull)
+
+blank-read : Read blankStore
+unfolding freshOf
+blank-read = inl refl
+
+pub tapes-never-full : TapesNeverFull
+unfolding replayOf
+tapes-never-full tape a m = text-free a (replay-free (length tape) blankStore tape blank-read a m)
