@@ -1,6 +1,6 @@
 -- 01, "The contracts and the cases": the rows that are shown from the definitions, what each gives and what it must give; then a row or
 -- more for each of 01's races, for each store that it shuts out, and for other sentences of it. Assumes nothing.
-use Prim.Native.Nat.{ℕ}
+use Prim.Native.Nat.{ℕ, _+_, _-_, _*_}
 use mathlib.Core.Bool.{Bool, true, false, cond}
 use mathlib.Core.List.{List, [], _∷_, _++_, map}
 use lib.ListN.{length, replicate, drop}
@@ -26,7 +26,7 @@ use Rattle.lanes.specs.UseOrder.{Insertion, Newest, LoadsOldest}
 use Rattle.lanes.specs.Lanes.{withWaiting, withReturns, withDowns, withLine, withOrder}
 use Rattle.answers.specs.declared.Answer.{Answer}
 use Rattle.answers.specs.declared.Answer.the-variants.{Opened, Done, Wait, Step, Refused}
-use Rattle.answers.specs.declared.Refusal.the-variants.{Corrupt, BufferTooShort}
+use Rattle.answers.specs.declared.Refusal.the-variants.{QueueFull, Corrupt, BufferTooShort}
 use Rattle.answers.specs.declared.Completion.{Completion}
 use Rattle.answers.specs.Completions.{completionOf}
 use Rattle.answers.specs.Refusals.{numberOf}
@@ -44,6 +44,7 @@ use Rattle.machine.specs.Change.{posted}
 use Rattle.machine.specs.LaneBytes.{bitsIn, ordersByte, lanesOf}
 use Rattle.machine.specs.Settle.{lane, downsOf, boundOf}
 use Rattle.machine.specs.Flags.{lineIn}
+use Rattle.machine.specs.NeverFull.{refusedBy, queueMost}
 use Rattle.machine.specs.Calls.{Call, Begin, Serve, Return, Deliver, Settle, Reply, Entry, run, historyOf}
 use Rattle.machine.specs.Attribution.{Begun}
 use Rattle.machine.specs.Flat.{flatOf, flatValues}
@@ -51,7 +52,7 @@ use Rattle.machine.specs.Demand3.{operations, valuesIn}
 use Rattle.machine.specs.Fill.{Filling}
 use Rattle.machine.specs.Picture.{pictureOf}
 use Rattle.machine.specs.Tape.{replayOf}
-use Rattle.machine.specs.Text.{printed, textMost, printOf}
+use Rattle.machine.specs.Text.{refusedText, printed, textMost, printOf}
 use Rattle.store.specs.LaneSets.{LaneSet, nobody, including}
 
 -- an answer in 01's words: open; done with lane, value and place; wait; step; refused with the number; a settle with its count and its completions
@@ -518,24 +519,24 @@ sentences =
 abbrev pub block : ℕ → BlockNo
 block a = record { 0 = a }
 
-abbrev pub gone : ℕ → ℕ → Store → Store
+unfoldable pub gone : ℕ → ℕ → Store → Store
 gone k a s = withLane s k (withReturns (pushReturn capacity (laneAt s k .returns) (bareReturn Gone (block a)) .queue) (laneAt s k))
 
-abbrev pub sent : DownKind → ℕ → ℕ → Store → Store
+unfoldable pub sent : DownKind → ℕ → ℕ → Store → Store
 sent x k a s = withLane s k (posted capacity (bareDown x (block a)) (laneAt s k))
 
 -- .. with a return queue of len GONEs of block a, with a down queue of len PURGEs of it
-abbrev pub answering : ℕ → ℕ → ℕ → Store → Store
+unfoldable pub answering : ℕ → ℕ → ℕ → Store → Store
 answering len k a s = withLane s k (withReturns (record { len = len; at = replicate 8 (bareReturn Gone (block a)) }) (laneAt s k))
 
-abbrev pub purging : ℕ → ℕ → ℕ → Store → Store
+unfoldable pub purging : ℕ → ℕ → ℕ → Store → Store
 purging len k a s = withLane s k (withDowns (record { len = len; at = replicate 8 (bareDown Purge (block a)) }) (laneAt s k))
 
-abbrev pub serving : ℕ → ℕ → ℕ → Store → Store
+unfoldable pub serving : ℕ → ℕ → ℕ → Store → Store
 serving k a awaited s =
     withControl s (withService (record { lane = lane k; block = block a; command = ReadExclusive; awaited = awaited; bare = false }) (s .control))
 
-abbrev pub copied : ℕ → ℕ → ℕ → ℕ → Store → Store
+unfoldable pub copied : ℕ → ℕ → ℕ → ℕ → Store → Store
 copied k i a w s = withLane s k (withLine (line i) (filledLine (block a) (w ∷ 0 ∷ 0 ∷ 0 ∷ [])) (laneAt s k))
 
 abbrev pub filled : ℕ → ℕ → Store → Store
@@ -546,13 +547,13 @@ filled k a s = copied k 0 a 0 s
 abbrev pub operation : ℕ → Operation
 operation w = record { command = ReadShared; op = Op.Load; word = record { 0 = w } }
 
-abbrev pub waits : ℕ → Waiting → Store → Store
+unfoldable pub waits : ℕ → Waiting → Store → Store
 waits k x s = withLane s k (withWaiting x (laneAt s k))
 
-abbrev pub returning : ℕ → Store → Store
+unfoldable pub returning : ℕ → Store → Store
 returning len s = withLane s 0 (withReturns (record { len = len; at = laneAt s 0 .returns .at }) (laneAt s 0))
 
-abbrev pub sending : ℕ → Store → Store
+unfoldable pub sending : ℕ → Store → Store
 sending len s = withLane s 0 (withDowns (record { len = len; at = laneAt s 0 .downs .at }) (laneAt s 0))
 
 abbrev pub ordered : List ℕ → Store → Store
@@ -560,7 +561,7 @@ ordered is s =
     let l = laneAt s 0 in
     withLane s 0 (withOrder (map line is ++ drop (length is) (l .order)) l)
 
-abbrev pub flagged : ℕ → Store → Store
+unfoldable pub flagged : ℕ → Store → Store
 flagged k s = let b = blockAt s 0 in withBlock s 0 (withPresent (including (lane k) (b .present)) b)
 
 -- settle's bound R + G + 2 × Q + S + 2 × n × U of a store
@@ -861,13 +862,21 @@ waitingByte s k (Served o) = 0
 abbrev pub awaitedBy : Control → List ℕ
 awaitedBy x = gatherTo (λ i. cond (slotAt x i .busy) (slotAt x i .service .awaited ∷ []) []) slotCount
 
+-- .. of lane k of a store
+unfoldable pub unservedByte : ℕ → Store → ℕ
+unservedByte k t = waitingByte t k (laneAt t k .waiting)
+
+-- how many orders, or grants, are on their way to each of four lanes
+unfoldable pub downsEach : Bool → Store → List ℕ
+downsEach orders t = map (λ j. downsOf orders (laneAt t j .downs)) (0 ∷ 1 ∷ 2 ∷ 3 ∷ [])
+
 -- serve k of four lanes after an operation that waits: its byte; after it, what the service awaits, if there is one, and the orders and the grants in each down queue
 abbrev pub servedByByte : Store → Call → ℕ → ℕ → List ℕ → List ℕ → List ℕ → List Row
 servedByByte s x k byte awaited orders grants =
-    record { given = Number (waitingByte (after s (x ∷ [])) k (laneAt (after s (x ∷ [])) k .waiting)); wanted = Number byte } ∷
+    record { given = Number (unservedByte k (after s (x ∷ []))); wanted = Number byte } ∷
     record { given = Bytes (awaitedBy (after s (x ∷ serve k ∷ []) .control)); wanted = Bytes awaited } ∷
-    record { given = Bytes (map (λ j. downsOf true (laneAt (after s (x ∷ serve k ∷ [])) j .downs)) (0 ∷ 1 ∷ 2 ∷ 3 ∷ [])); wanted = Bytes orders } ∷
-    record { given = Bytes (map (λ j. downsOf false (laneAt (after s (x ∷ serve k ∷ [])) j .downs)) (0 ∷ 1 ∷ 2 ∷ 3 ∷ [])); wanted = Bytes grants } ∷
+    record { given = Bytes (downsEach true (after s (x ∷ serve k ∷ []))); wanted = Bytes orders } ∷
+    record { given = Bytes (downsEach false (after s (x ∷ serve k ∷ []))); wanted = Bytes grants } ∷
     []
 
 -- lanes 1 and 2 have a copy of block 0
@@ -1002,7 +1011,7 @@ abbrev pub openingWith : ℕ → ℕ → ℕ → ℕ → Shown
 openingWith n c m limit = let r = openOf (limited n c m limit) in limitOf (r .answer) (r .store)
 
 -- lane 2 has a copy of block 0 and lane 3 one of block 1, with their flags; lanes 0 and 1 wait to store into words 0 and 4
-abbrev pub flaggedIn : ℕ → ℕ → Store → Store
+unfoldable pub flaggedIn : ℕ → ℕ → Store → Store
 flaggedIn a k s = let b = blockAt s a in withBlock s a (withPresent (including (lane k) (b .present)) b)
 
 abbrev pub storing : ℕ → ℕ → ℕ → Store → Store
@@ -1052,6 +1061,44 @@ services =
     on (unserved 0 (serving 3 2 1 (openedWith 4 1 3 1))) (Settle says refused 10 ∷ []) ∷
     []
 
+-- 02, W7. Lane 0 loads blocks 0 to q − 1, one after the other
+abbrev pub holding : ℕ → List Call
+holding q = gatherTo (λ a. load 0 (4 * a) ∷ serve 0 ∷ deliver 0 ∷ []) q
+
+-- lanes 1 to q store to a block each of them; all are in service at once, and each sends lane 0 an order
+abbrev pub ordering : ℕ → List Call
+ordering q = gatherTo (λ a. store (1 + a) (4 * a) 7 ∷ serve (1 + a) ∷ []) q
+
+-- lane 0 gives up its oldest line for one block more, then answers an order for each block: EJECT and q answers
+abbrev pub longReturns : ℕ → ℕ → ℕ → ℕ
+longReturns n limit q = laneAt (after (openedWith n q (1 + q) limit) (holding q ++ (load 0 (4 * q) ∷ (ordering q ++ replicate q (deliver 0))))) 0 .returns .len
+
+-- lane 0 is granted the last of q blocks, takes nothing, and is sent an order for each: the grant and q orders
+abbrev pub longDowns : ℕ → ℕ → ℕ → ℕ
+longDowns n limit q = laneAt (after (openedWith n q q limit) (holding (q - 1) ++ (load 0 (4 * (q - 1)) ∷ serve 0 ∷ ordering q))) 0 .downs .len
+
+-- a return queue, a down queue, and the figure that they meet
+abbrev pub longest : ℕ → ℕ → ℕ → List ℕ → Row
+longest n limit q lengths = record { given = Numbers (longReturns n limit q ∷ longDowns n limit q ∷ queueMost (limited n q q limit) ∷ []); wanted = Numbers lengths }
+
+-- the numbers that calls are refused by, 0 for the others
+abbrev pub refusedEach : Store → List Call → List ℕ → Row
+refusedEach s cs numbers = record { given = Numbers (map (λ (e : Entry). refusedBy (e .reply)) (run LoadsOldest s cs .history)); wanted = Numbers numbers }
+
+abbrev pub longQueues : List Row
+longQueues =
+    -- L = 1 with two lanes and with four; L = 2 and L = 3, the smaller of the two with four lanes; n − 1 the smaller
+    longest 2 1 1 (2 ∷ 2 ∷ 2 ∷ []) ∷
+    longest 4 1 1 (2 ∷ 2 ∷ 2 ∷ []) ∷
+    longest 4 2 2 (3 ∷ 3 ∷ 3 ∷ []) ∷
+    longest 4 3 3 (4 ∷ 4 ∷ 4 ∷ []) ∷
+    longest 2 3 1 (2 ∷ 2 ∷ 2 ∷ []) ∷
+    -- 12 remains for stores that came from no opening: a begin, a deliver and a settle; and its text
+    refusedEach (answering 8 0 0 (filled 0 0 (opened 2 1 2))) (load 0 4 ∷ load 0 0 ∷ load 0 8 ∷ []) (12 ∷ 0 ∷ 7 ∷ []) ∷
+    refusedEach (sent Purge 0 0 (answering 8 0 0 (filled 0 0 (opened 2 1 2)))) (deliver 0 ∷ Settle ∷ []) (12 ∷ 12 ∷ []) ∷
+    record { given = Bytes (refusedText QueueFull); wanted = Bytes (114 ∷ 101 ∷ 102 ∷ 117 ∷ 115 ∷ 101 ∷ 100 ∷ 32 ∷ 49 ∷ 50 ∷ []) } ∷
+    []
+
 -- the table
 unfoldable pub rows : List Row
-rows = casesOf01 ++ races ++ shutOut ++ bounds ++ sentences ++ pictures ++ corruptStores ++ heldStores ++ places ++ insertions ++ serveBytes ++ loadsBeside ++ services
+rows = casesOf01 ++ races ++ shutOut ++ bounds ++ sentences ++ pictures ++ corruptStores ++ heldStores ++ places ++ insertions ++ serveBytes ++ loadsBeside ++ services ++ longQueues

@@ -1,7 +1,7 @@
 //! A reference of the lane store of document 01 with W1, W2, W3, W5 and W6 of document
 //! 02, written from the documents and their readings only, with generators of
-//! tapes, of lists of calls and of held stores. W4 changes no answer; answers are
-//! held to it.
+//! tapes, of lists of calls and of held stores. W4 and W7 change no answer;
+//! answers are held to them.
 
 pub mod beside;
 pub mod bounds;
@@ -10,6 +10,8 @@ pub mod conditions;
 pub mod cover;
 pub mod damage;
 pub mod events;
+pub mod figure;
+pub mod figure_faults;
 pub mod fills;
 pub mod flat;
 pub mod held;
@@ -20,6 +22,7 @@ pub mod list_services;
 pub mod lists;
 pub mod load_maker;
 pub mod loads;
+pub mod longest;
 pub mod machine;
 pub mod order_maker;
 pub mod orders;

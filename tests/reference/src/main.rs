@@ -8,8 +8,8 @@ use reference::serves::Serves;
 use reference::services::Services;
 use reference::stores::Case;
 use reference::summary::{Cases, Tapes};
-use reference::{bounds, choice, held, judge, list_maker, lists, stores, tape, tapes};
-use reference::{load_maker, serve_byte, serve_maker, service_maker};
+use reference::{bounds, choice, figure, held, judge, list_maker, lists, longest};
+use reference::{load_maker, serve_byte, serve_maker, service_maker, stores, tape, tapes};
 use std::fs;
 use std::io::{self, BufWriter, Read, Write};
 use std::path::{Path, PathBuf};
@@ -34,10 +34,12 @@ const USAGE: &str = "usage:
   reference lists < LISTS
   reference make-lists SEED COUNT FILE
   reference draw-lists SEED COUNT FILE
+  reference make-longest FILE
   reference count-lists LISTS
   reference cover-lists LISTS
   reference judge-lists LISTS ANSWERS
   reference bound-lists LISTS ANSWERS
+  reference figure-lists LISTS ANSWERS
   reference differ-lists LISTS ANSWERS";
 
 type Outcome = Result<(), String>;
@@ -47,6 +49,7 @@ fn main() -> ExitCode {
     let args: Vec<&str> = args.iter().map(String::as_str).collect();
     match args[..] {
         ["byte-held", cases, answers] => exit_code(byte_held(cases, answers), 1),
+        ["figure-lists", lists, answers] => exit_code(figure_lists(lists, answers), 1),
         _ => exit_code(run(&args), 2),
     }
 }
@@ -82,6 +85,7 @@ fn run(args: &[&str]) -> Outcome {
         ["lists"] => run_lists(),
         ["make-lists", seed, count, file] => make_lists(seed, count, file, in_turn),
         ["draw-lists", seed, count, file] => make_lists(seed, count, file, list_maker::drawn_index),
+        ["make-longest", file] => make_longest(Path::new(file)),
         ["count-lists", lists] => count_lists(lists).map(|_| ()),
         ["cover-lists", lists] => cover_lists(lists),
         ["judge-lists", lists, answers] => judge_lists(lists, answers),
@@ -286,6 +290,17 @@ fn make_lists(seed: &str, count: &str, file: &str, choice: Choice) -> Outcome {
     out.flush().map_err(text)
 }
 
+/// Fails if a list's queue does not meet W7's figure.
+fn make_longest(file: &Path) -> Outcome {
+    let all = longest::all();
+    all.iter().try_for_each(longest::Longest::check)?;
+    let records = longest::records(&all);
+    let bytes: Vec<u8> = records.iter().flat_map(|record| record.bytes()).collect();
+    fs::write(file, bytes).map_err(text)?;
+    print!("{}", figure::judge(&longest::answered(&records))?);
+    Ok(())
+}
+
 /// Prints what the lists met.
 fn count_lists(file: &str) -> Result<Cover, String> {
     let cover = cover::cover(&lists::records(&fs::read(file).map_err(text)?)?);
@@ -312,6 +327,12 @@ fn judge_lists(file: &str, answers: &str) -> Outcome {
 fn bound_lists(file: &str, answers: &str) -> Outcome {
     let (input, answers) = (fs::read(file).map_err(text)?, fs::read(answers).map_err(text)?);
     print!("{}", bounds::of_lists(&lists::read(&input, &answers)?)?);
+    Ok(())
+}
+
+fn figure_lists(file: &str, answers: &str) -> Outcome {
+    let (input, answers) = (fs::read(file).map_err(text)?, fs::read(answers).map_err(text)?);
+    print!("{}", figure::judge(&lists::read(&input, &answers)?)?);
     Ok(())
 }
 

@@ -10,18 +10,18 @@ use crate::settle::{self, Settled};
 
 const RULE: Rule = Rule::LoadFillsOldest;
 
-type Stepped = Result<Answer, u8>;
+pub(crate) type Stepped = Result<Answer, u8>;
 
 /// The parts of a machine that a wrong one has another of.
 pub struct Machine {
     pub name: &'static str,
     /// Condition 14.
-    corrupt: fn(&Store) -> bool,
+    pub(crate) corrupt: fn(&Store) -> bool,
     /// A call that 14 and 6 do not refuse.
-    step: fn(&mut Store, Call) -> Stepped,
+    pub(crate) step: fn(&mut Store, Call) -> Stepped,
     /// Settle's next step.
-    next: fn(&Store) -> Option<Call>,
-    bound: fn(&Store) -> u32,
+    pub(crate) next: fn(&Store) -> Option<Call>,
+    pub(crate) bound: fn(&Store) -> u32,
 }
 
 pub const RIGHT: Machine = Machine {
@@ -61,7 +61,7 @@ pub const WRONG: [Machine; 26] = [
     Machine { name: "settle serves a higher lane past 10", next: past_busy, ..RIGHT },
 ];
 
-fn right_step(s: &mut Store, call: Call) -> Stepped {
+pub(crate) fn right_step(s: &mut Store, call: Call) -> Stepped {
     machine::step(s, call, RULE)
 }
 
@@ -152,7 +152,7 @@ fn close_frees_all(s: &mut Store, call: Call) -> Stepped {
     })
 }
 
-fn gained_grant(was: &Lane, is: &Lane) -> bool {
+pub(crate) fn gained_grant(was: &Lane, is: &Lane) -> bool {
     let last = is.down.messages().last();
     is.down.length > was.down.length && last.map_or(false, |m| !m.kind.is_order())
 }
@@ -186,11 +186,11 @@ fn busy_above_limit(s: &mut Store, call: Call) -> Stepped {
     })
 }
 
-fn limit_never(s: &mut Store, call: Call) -> Stepped {
+pub(crate) fn limit_never(s: &mut Store, call: Call) -> Stepped {
     serve_unless(s, call, |s, _, block| in_service(s, block))
 }
 
-fn block_never(s: &mut Store, call: Call) -> Stepped {
+pub(crate) fn block_never(s: &mut Store, call: Call) -> Stepped {
     serve_unless(s, call, |s, _, _| at_limit(s))
 }
 
@@ -227,11 +227,11 @@ fn corrupt_but_for(s: &Store, reasons: &[&str]) -> bool {
     conditions::corrupt_reasons(s).iter().any(|reason| !reasons.contains(reason))
 }
 
-fn same_block_passes(s: &Store) -> bool {
+pub(crate) fn same_block_passes(s: &Store) -> bool {
     corrupt_but_for(s, &["two services of one block"])
 }
 
-fn exceeding_passes(s: &Store) -> bool {
+pub(crate) fn exceeding_passes(s: &Store) -> bool {
     corrupt_but_for(s, &["services exceed L"])
 }
 
@@ -270,7 +270,7 @@ pub fn lengths(s: &Store) -> Vec<u8> {
     lanes.flat_map(|lane| [lane.returns.length, lane.down.length]).collect()
 }
 
-fn seven_places(s: &mut Store, call: Call) -> Stepped {
+pub(crate) fn seven_places(s: &mut Store, call: Call) -> Stepped {
     let before = lengths(s);
     let answer = right_step(s, call)?;
     let grown = lengths(s).into_iter().zip(before).any(|(is, was)| is == 8 && was == 7);
