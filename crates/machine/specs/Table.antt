@@ -722,7 +722,7 @@ heldStores =
     []
 
 -- a store that has completed so many operations
-abbrev pub counting : ℕ → Store → Store
+unfoldable pub counting : ℕ → Store → Store
 counting number s = withCompletions s number
 
 -- 02, W1: places at their end, 4,294,967,295. Below, the sum is completions so far plus operations waiting
@@ -859,7 +859,7 @@ waitingByte s k (Unserved o) = ordersByte (blockAt s (blockOf (o .word) .0)) (la
 waitingByte s k (Served o) = 0
 
 -- the answers that each service awaits, by slot
-abbrev pub awaitedBy : Control → List ℕ
+unfoldable pub awaitedBy : Control → List ℕ
 awaitedBy x = gatherTo (λ i. cond (slotAt x i .busy) (slotAt x i .service .awaited ∷ []) []) slotCount
 
 -- .. of lane k of a store
