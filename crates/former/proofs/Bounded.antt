@@ -11,7 +11,7 @@ use Rattle.lanes.specs.UseOrder.{Insertion}
 use Rattle.answers.specs.declared.Answer.the-variants.{Opened}
 use Rattle.store.specs.declared.Store.{Store}
 use Rattle.store.specs.Stores.{laneAt}
-use Rattle.store.specs.Opening.{badShape, badLimit, openOf}
+use Rattle.store.specs.Opening.{badShape, badLimit, freshOf, openOf}
 use Rattle.machine.specs.Settle.{settleStep}
 use Rattle.machine.specs.Calls.{Call, Called, callOf, run}
 use Rattle.machine.proofs.laws.Tests.{on}
@@ -28,9 +28,10 @@ use Rattle.former.proofs.Refused.{refused-history}
 pub record Bounded : Type 1 where
   pub Lively : Store → Type 0
   pub open-lively : (shape : Shape) → openOf shape .answer ≡ Opened → Lively (openOf shape .store)
+  pub fresh-lively : (shape : Shape) → badShape shape ≡ false → badLimit shape ≡ false → Lively (freshOf shape)
   pub call-lively : (ins : Insertion) (s : Store) (x : Call) → Lively s → Lively (callOf ins s x .store)
   pub step-lively : (ins : Insertion) (s : Store) → Lively s → Lively (settleStep ins s .store)
-  pub lively-short : (s : Store) → Lively s → s .shape .limit ≡ 1 → (k : ℕ) → (laneAt s k .returns .len ≤ 2) × (laneAt s k .downs .len ≤ 2)
+  pub lively-two : (s : Store) → Lively s → s .shape .limit ≡ 1 → (k : ℕ) → (laneAt s k .returns .len ≤ 2) × (laneAt s k .downs .len ≤ 2)
 
 -- an opening in range
 opens : (shape : Shape) → badShape shape ≡ false → badLimit shape ≡ false → openOf shape .answer ≡ Opened
@@ -40,7 +41,7 @@ opens shape e f = rw (e, f)
 module _ (b : Bounded) where
   -- no queue has three messages, now
   pub not-long : (s : Store) → b .Lively s → Long s → ⊥
-  not-long s l h = let m = b .lively-short s l (h .limit) (h .lane) in go m (h .long)
+  not-long s l h = let m = b .lively-two s l (h .limit) (h .lane) in go m (h .long)
     where
       go : (laneAt s (h .lane) .returns .len ≤ 2) × (laneAt s (h .lane) .downs .len ≤ 2) → (3 ≤ laneAt s (h .lane) .returns .len) ⊎ (3 ≤ laneAt s (h .lane) .downs .len) → ⊥
       go m (inl z) = omega (arith, m .0, z)

@@ -126,17 +126,13 @@ module _ (b : Bounded) where
   open-test t s (inl e) = ap (λ (n : ℕ). not (eqb n 0)) (e .0 ∙ sym (e .1))
   open-test t s (inr e) = ap (λ (z : Shape). not (eqb (z .n) 0)) (e .0 .shape)
 
-  open-lively-store : (shape : Shape) → badShape shape ≡ false → badLimit shape ≡ false → b .Lively (freshOf shape)
-  unfolding openOf
-  open-lively-store shape e f = let a : openOf shape .answer ≡ Opened = rw (e, f) in let l = b .open-lively shape a in rw (e, f) at l
-
   open-same : (t : Former.Store) (s : Store) (shape : Shape) → shape .limit ≡ 1 → Tapes t s → Answered (FormerTape.openRecord t shape) (openRecord s shape)
   unfolding FormerTape.openRecord openRecord
   open-same t s shape one e =
       let l = limit-fits shape one in
       both Answered (FormerTape.isOpen t) (isOpen s) (open-test t s e) (λ _. refused-same t s AlreadyOpen e)
       (λ _. both Answered (badShape shape) (badShape shape) refl (λ _. refused-same t s InvalidShape e)
-      (λ f. rw l (record { answer = refl; stores = inr (fresh-same shape one, open-lively-store shape f l) })))
+      (λ f. rw l (record { answer = refl; stores = inr (fresh-same shape one, b .fresh-lively shape f l) })))
 
   -- a call on open stores
   result-same : (s : Store) (r : Former.Outcome) (q : Outcome) → b .Lively (q .store) → Result r q → Answered r q

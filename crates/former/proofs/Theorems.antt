@@ -1,6 +1,6 @@
 -- The theorems, by name and type: W6's sentence, as specs/Same.antt states it. This file only states; the proofs are where it points. One more is
 -- passed on by its name, `exceptions`: in each of W6's exceptions the two machines differ (specs/Table.antt). Assumes nothing.
-use Rattle.machine.proofs.settle.Lively.{Lively, open-lively, call-lively, step-lively}
+use Rattle.machine.proofs.settle.Lively.{Lively, open-lively, fresh-lively, call-lively, step-lively}
 use Rattle.machine.proofs.settle.LiveNever.{lively-two}
 use Rattle.former.specs.Same.{SameStore, SameCall, SamePicture, SameList, SameOpenings, SameHistory, SameLast, SameTape}
 use Rattle.former.proofs.Bounded.{Bounded}
@@ -32,7 +32,7 @@ same-openings = Calls.same-openings
 
 -- from an opening with L = 1 no queue has three messages: W7's figure is then 2 (crates/machine, proofs/settle/LiveNever.antt)
 bounded : Bounded
-bounded = record { Lively = Lively; open-lively = open-lively; call-lively = call-lively; step-lively = step-lively; lively-short = lively-two }
+bounded = record { Lively = Lively; open-lively = open-lively; fresh-lively = fresh-lively; call-lively = call-lively; step-lively = step-lively; lively-two = lively-two }
 
 -- a list of calls from an opening with L = 1, with no exception
 pub same-history : SameHistory

@@ -22,16 +22,16 @@ use Rattle.machine.specs.Tape.{replayOf}
 use Rattle.machine.specs.Text.{refusedText, answerText}
 
 -- the number that an answer is refused by; 0, which is no refusal's, where it isn't
-abbrev pub refusalIn : Answer → ℕ
-refusalIn Opened = 0
-refusalIn (Done x) = 0
-refusalIn Wait = 0
-refusalIn Step = 0
-refusalIn (Refused r) = numberOf r
+abbrev pub refusalNumber : Answer → ℕ
+refusalNumber Opened = 0
+refusalNumber (Done x) = 0
+refusalNumber Wait = 0
+refusalNumber Step = 0
+refusalNumber (Refused r) = numberOf r
 
 -- .. and the reply of a call, settle's included
 abbrev pub refusedBy : Reply → ℕ
-refusedBy (Answers a) = refusalIn a
+refusedBy (Answers a) = refusalNumber a
 refusedBy (SettledWith (Steps count) cs) = 0
 refusedBy (SettledWith (Settled.Refused r) cs) = numberOf r
 

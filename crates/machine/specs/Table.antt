@@ -858,13 +858,13 @@ waitingByte s k Idle = 0
 waitingByte s k (Unserved o) = ordersByte (blockAt s (blockOf (o .word) .0)) (lane k) (o .command)
 waitingByte s k (Served o) = 0
 
--- the answers that each service awaits, by slot
-unfoldable pub awaitedBy : Control → List ℕ
-awaitedBy x = gatherTo (λ i. cond (slotAt x i .busy) (slotAt x i .service .awaited ∷ []) []) slotCount
-
 -- .. of lane k of a store
 unfoldable pub unservedByte : ℕ → Store → ℕ
 unservedByte k t = waitingByte t k (laneAt t k .waiting)
+
+-- the answers that each service awaits, by slot
+unfoldable pub awaitedBy : Control → List ℕ
+awaitedBy x = gatherTo (λ i. cond (slotAt x i .busy) (slotAt x i .service .awaited ∷ []) []) slotCount
 
 -- how many orders, or grants, are on their way to each of four lanes
 unfoldable pub downsEach : Bool → Store → List ℕ
@@ -1065,7 +1065,7 @@ services =
 abbrev pub holding : ℕ → List Call
 holding q = gatherTo (λ a. load 0 (4 * a) ∷ serve 0 ∷ deliver 0 ∷ []) q
 
--- lanes 1 to q store to a block each of them; all are in service at once, and each sends lane 0 an order
+-- each of lanes 1 to q stores to a block of its own; all are in service at once, and each sends lane 0 an order
 abbrev pub ordering : ℕ → List Call
 ordering q = gatherTo (λ a. store (1 + a) (4 * a) 7 ∷ serve (1 + a) ∷ []) q
 
@@ -1087,12 +1087,13 @@ refusedEach s cs numbers = record { given = Numbers (map (λ (e : Entry). refuse
 
 abbrev pub longQueues : List Row
 longQueues =
-    -- L = 1 with two lanes and with four; L = 2 and L = 3, the smaller of the two with four lanes; n − 1 the smaller
+    -- L = 1 with two lanes and with four; L = 2 and L = 3, the smaller of the two with four lanes; n − 1 the smaller, with two lanes and with three
     longest 2 1 1 (2 ∷ 2 ∷ 2 ∷ []) ∷
     longest 4 1 1 (2 ∷ 2 ∷ 2 ∷ []) ∷
     longest 4 2 2 (3 ∷ 3 ∷ 3 ∷ []) ∷
     longest 4 3 3 (4 ∷ 4 ∷ 4 ∷ []) ∷
     longest 2 3 1 (2 ∷ 2 ∷ 2 ∷ []) ∷
+    longest 3 8 2 (3 ∷ 3 ∷ 3 ∷ []) ∷
     -- 12 remains for stores that came from no opening: a begin, a deliver and a settle; and its text
     refusedEach (answering 8 0 0 (filled 0 0 (opened 2 1 2))) (load 0 4 ∷ load 0 0 ∷ load 0 8 ∷ []) (12 ∷ 0 ∷ 7 ∷ []) ∷
     refusedEach (sent Purge 0 0 (answering 8 0 0 (filled 0 0 (opened 2 1 2)))) (deliver 0 ∷ Settle ∷ []) (12 ∷ 12 ∷ []) ∷

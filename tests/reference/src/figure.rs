@@ -17,9 +17,10 @@ const NAMED: usize = 20;
 /// What is held to the figure: each queue of a lane, and both together.
 pub const HELD: [&str; 3] = ["return queue", "down queue", "two queues together"];
 
-/// The places of the first two in `HELD`.
+/// Their places in `HELD`.
 pub const RETURN: usize = 0;
 pub const DOWN: usize = 1;
+pub const TOGETHER: usize = 2;
 
 /// The figure for n and L.
 pub type Figure = fn(u8, u8) -> u8;
@@ -138,7 +139,7 @@ impl Lengths {
 
 impl Display for Lengths {
     fn fmt(&self, f: &mut Formatter) -> fmt::Result {
-        let [returns, down, together] = [0, 1, 2].map(|i| self.met[i].len());
+        let [returns, down, together] = [RETURN, DOWN, TOGETHER].map(|i| self.met[i].len());
         writeln!(
             f,
             "lists {}, and {} with nothing to hold, whose opening was refused",

@@ -107,7 +107,7 @@ impl Maker {
         let blocks = self.n - 1;
         self.fill(blocks);
         self.begin(self.holder, self.own, blocks);
-        self.begin_in_vain(blocks + 1);
+        self.begin_refused(blocks + 1);
         self.call(Call::Serve(self.holder));
         self.others_ask();
         self.records.push(Record::Show);
@@ -123,7 +123,7 @@ impl Maker {
         self.fill(if bare { blocks } else { blocks - 1 });
         self.begin(self.holder, op, blocks - 1);
         self.call(Call::Serve(self.holder));
-        self.begin_in_vain(blocks);
+        self.begin_refused(blocks);
         self.others_ask();
     }
 
@@ -136,7 +136,7 @@ impl Maker {
     }
 
     /// The holder waits already: 8.
-    fn begin_in_vain(&mut self, block: u8) {
+    fn begin_refused(&mut self, block: u8) {
         self.begin(self.holder, self.own, block);
     }
 

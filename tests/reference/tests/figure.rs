@@ -1,6 +1,9 @@
 //! W7: no 12 from an opening, and each queue within one more than the smaller of L and
 //! n - 1. The judge of it, the lists that meet it, made lists and made tapes.
 
+mod common;
+
+use common::{begin, bytes, longest_opened_by_08, SETTLE};
 use reference::figure::{self, figure, Figure, Lengths, DOWN, RETURN};
 use reference::held::{self, HeldAnswer, HeldCall};
 use reference::lists::{self, Given, Record};
@@ -14,22 +17,6 @@ use std::collections::BTreeSet;
 use std::fs;
 use std::path::Path;
 use std::process;
-
-const SETTLE: Record = Record::Call(HeldCall::Settle);
-
-fn begin(lane: u8, op: Op, word: u8) -> Record {
-    Record::Call(HeldCall::Machine(Call::Begin { lane, op, word }))
-}
-
-fn bytes(records: &[Record]) -> Vec<u8> {
-    records.iter().flat_map(|record| record.bytes()).collect()
-}
-
-/// The list of make-longest with this n, L and queue, opened by kind 08.
-fn longest_list(n: u8, limit: u8, queue: usize) -> Longest {
-    let wanted = |list: &Longest| (list.n, list.limit, list.queue) == (n, limit, queue);
-    longest::all().into_iter().rev().find(wanted).expect("made")
-}
 
 fn pairs() -> impl Iterator<Item = (u8, u8)> {
     (2..=8).flat_map(|n| (1..=8).map(move |limit| (n, limit)))
@@ -112,7 +99,7 @@ fn changed(list: &Longest, change: impl Fn(&mut Vec<(Record, Given)>)) -> Length
 /// Any answer of any call, and of settle, changed to 12 is told.
 #[test]
 fn the_judge_finds_12() {
-    let list = longest_list(4, 2, RETURN);
+    let list = longest_opened_by_08(4, 2, RETURN);
     assert_eq!(changed(&list, |_| {}).faults, 0);
     for (index, record) in list.records.iter().enumerate() {
         let full = Given::Answer(HeldAnswer::Refused(FULL));
@@ -130,8 +117,8 @@ fn the_judge_finds_12() {
 }
 
 /// Lengths raised in the first store shown; none of a lane from n on counts.
-fn raised(n: u8, limit: u8, lane: usize, lengths: [u8; 2]) -> Lengths {
-    changed(&longest_list(n, limit, RETURN), |all| {
+fn raised(list: &Longest, lane: usize, lengths: [u8; 2]) -> Lengths {
+    changed(list, |all| {
         let shown = all.iter_mut().find_map(|(_, given)| match given {
             Given::Store(store) => Some(store),
             _ => None,
@@ -141,23 +128,24 @@ fn raised(n: u8, limit: u8, lane: usize, lengths: [u8; 2]) -> Lengths {
     })
 }
 
+/// In lists opened by kind 08 and by kind 00.
 #[test]
 fn the_judge_finds_long_queues() {
-    for (n, limit) in pairs() {
-        let most = figure(n, limit);
+    for list in longest::all().iter().filter(|list| list.queue == RETURN) {
+        let (n, limit, most) = (list.n, list.limit, figure(list.n, list.limit));
         for lane in 0..usize::from(n) {
             for lengths in [[most, 0], [0, most], [1, most - 1], [most - 1, 1]] {
-                assert_eq!(raised(n, limit, lane, lengths).faults, 0, "{n} {limit} {lengths:?}");
+                assert_eq!(raised(list, lane, lengths).faults, 0, "{n} {limit} {lengths:?}");
             }
             // One above, alone and so together; or together only.
             for (lengths, faults) in [([most + 1, 0], 2), ([0, most + 1], 2), ([1, most], 1)] {
-                let held = raised(n, limit, lane, lengths);
+                let held = raised(list, lane, lengths);
                 assert_eq!(held.faults, faults, "{n} {limit} {lengths:?}");
                 assert_eq!(held.within, 2);
             }
         }
         if n < 8 {
-            assert_eq!(raised(n, limit, 7, [255, 255]).faults, 0);
+            assert_eq!(raised(list, 7, [255, 255]).faults, 0);
         }
     }
 }

@@ -264,13 +264,20 @@ fn all_stores_of_three_lanes_with_two_lines() {
     assert_eq!((stores[6], stores[8]), (333_424, 641_505));
 }
 
-/// The figure is met wherever there are blocks enough: one for each service that L and
-/// n - 1 let be open and, for a return queue, one more than lines.
+/// Stores meet the figure where there are blocks enough: one for each service that L and
+/// n - 1 let be open and, for a return queue, one more than lines. Elsewhere none does:
+/// such shapes are gone through in whole, the others up to 100,000 stores.
 #[test]
-fn equality_is_met() {
+fn the_figure_is_met_where_there_are_blocks_enough() {
     let all = (2..=3).flat_map(|n| (1..=2).flat_map(move |c| shapes(n, c)));
-    for shape in all.filter(|&(n, c, m, limit)| m > c && m >= limit.min(n - 1)) {
-        assert_eq!(longest(shape), [usize::from(figure(shape.0, shape.3)); 3], "{shape:?}");
+    for shape @ (n, c, m, limit) in all {
+        let enough = m >= limit.min(n - 1);
+        let said = [enough && m > c, enough, enough];
+        let everywhere = said == [true; 3];
+        let explored = explore(&RIGHT, shape, if everywhere { 100_000 } else { 1_000_000 });
+        let met = explored.longest.map(|length| length == usize::from(figure(n, limit)));
+        assert_eq!(met, said, "{shape:?}");
+        assert!(explored.whole || everywhere, "{shape:?}");
     }
 }
 

@@ -1,23 +1,15 @@
 //! Wrong machines of W7, and which lists tell them by the figure or by 12.
 
-use reference::figure::{self, figure, Lengths, DOWN, HELD, RETURN};
+mod common;
+
+use common::{begin, bytes, call, longest_opened_by_08, SETTLE};
+use reference::figure::{self, figure, Lengths, DOWN, HELD, RETURN, TOGETHER};
 use reference::figure_faults::{answers, BEGINS_UNSERVED, ORDERS_TO_ALL, WRONG};
-use reference::held::HeldCall;
 use reference::list_maker;
 use reference::lists::{self, Record};
 use reference::longest::{self, Longest};
 use reference::parts::*;
 use reference::service_faults::{Machine, RIGHT};
-
-const SETTLE: Record = Record::Call(HeldCall::Settle);
-
-fn call(call: Call) -> Record {
-    Record::Call(HeldCall::Machine(call))
-}
-
-fn begin(lane: u8, op: Op, block: u8) -> Record {
-    call(Call::Begin { lane, op, word: 4 * block })
-}
 
 fn wrong(name: &str) -> &'static Machine {
     WRONG.iter().find(|machine| machine.name == name).expect("a wrong machine")
@@ -25,8 +17,7 @@ fn wrong(name: &str) -> &'static Machine {
 
 /// What the judge says to a machine's answers, from their bytes.
 fn held(machine: &Machine, records: &[Record]) -> Lengths {
-    let input: Vec<u8> = records.iter().flat_map(|record| record.bytes()).collect();
-    let read = lists::read(&input, &answers(machine, records)).expect("well formed");
+    let read = lists::read(&bytes(records), &answers(machine, records)).expect("well formed");
     figure::hold(&read, figure)
 }
 
@@ -56,18 +47,12 @@ fn of_longest(test: fn(u8, u8, usize) -> bool) -> Vec<(u8, u8, usize)> {
     all
 }
 
-fn list(n: u8, limit: u8, queue: usize) -> Vec<Record> {
-    let wanted = |list: &Longest| (list.n, list.limit, list.queue) == (n, limit, queue);
-    longest::all().into_iter().find(wanted).expect("made").records
-}
-
 /// The right machine keeps to the figure in all lists used here.
 #[test]
 fn the_right_machine_is_told_by_none() {
     let records = longest::records(&longest::all());
     assert_eq!(held(&RIGHT, &records).faults, 0);
-    let input: Vec<u8> = records.iter().flat_map(|record| record.bytes()).collect();
-    assert!(answers(&RIGHT, &records) == lists::answers(&input).expect("well formed"));
+    assert!(answers(&RIGHT, &records) == lists::answers(&bytes(&records)).expect("well formed"));
 }
 
 /// 12 comes with n = 8 and L of 7 or 8, in both queues, and nowhere else.
@@ -76,9 +61,9 @@ fn seven_places_are_told() {
     let name = "queues of 7 places";
     assert_eq!(told(name), of_longest(|n, limit, _| n == 8 && limit >= 7));
     for limit in [7, 8] {
-        told_by(name, &list(8, limit, RETURN), "Deliver(");
-        told_by(name, &list(8, limit, DOWN), "Serve(");
-        told_by(name, &list(8, limit, DOWN), "refused by 12");
+        told_by(name, &longest_opened_by_08(8, limit, RETURN).records, "Deliver(");
+        told_by(name, &longest_opened_by_08(8, limit, DOWN).records, "Serve(");
+        told_by(name, &longest_opened_by_08(8, limit, DOWN).records, "refused by 12");
     }
 }
 
@@ -87,9 +72,9 @@ fn seven_places_are_told() {
 fn two_evictions_are_told() {
     let name = "a begin evicts two lines";
     assert_eq!(told(name), of_longest(|n, _, queue| n > 2 && queue == RETURN));
-    told_by(name, &list(3, 1, RETURN), HELD[RETURN]);
+    told_by(name, &longest_opened_by_08(3, 1, RETURN).records, HELD[RETURN]);
     // The ninth message of a queue.
-    told_by(name, &list(8, 8, RETURN), "refused by 12");
+    told_by(name, &longest_opened_by_08(8, 8, RETURN).records, "refused by 12");
 }
 
 /// A lane that has its bare grant queued begins once more and evicts a line: the eject
@@ -98,7 +83,7 @@ fn two_evictions_are_told() {
 fn a_second_begin_is_told() {
     let name = "a begin while the lane waits";
     assert_eq!(told(name), of_longest(|_, limit, queue| limit % 4 == 3 && queue == DOWN));
-    told_by(name, &list(2, 3, DOWN), HELD[2]);
+    told_by(name, &longest_opened_by_08(2, 3, DOWN).records, HELD[TOGETHER]);
     // The grant is refused by 16 from then on and stays, with all behind it.
     let mut records = vec![Record::OpenLimit { n: 2, c: 1, m: 4, limit: 1 }];
     for block in 0..3 {
@@ -152,7 +137,7 @@ fn two_ask_for_one_block(n: u8, limit: u8) -> Vec<Record> {
 fn two_services_of_a_block_are_told() {
     let name = "10 for the block never";
     let records = two_ask_for_one_block(4, 2);
-    told_by(name, &records, HELD[2]);
+    told_by(name, &records, HELD[TOGETHER]);
     told_by(name, &records, HELD[RETURN]);
     // In the lists of make-longest each lane asks for a block of its own.
     assert_eq!(told(name), vec![]);
@@ -163,8 +148,8 @@ fn two_services_of_a_block_are_told() {
 fn no_limit_is_told() {
     let name = "10 for L never";
     assert_eq!(told(name), of_longest(|n, limit, _| limit < n - 1));
-    told_by(name, &list(3, 1, RETURN), HELD[RETURN]);
-    told_by(name, &list(3, 1, DOWN), HELD[DOWN]);
+    told_by(name, &longest_opened_by_08(3, 1, RETURN).records, HELD[RETURN]);
+    told_by(name, &longest_opened_by_08(3, 1, DOWN).records, HELD[DOWN]);
 }
 
 /// The eject and the grant are there at once: neither queue is too long, but both are
@@ -173,8 +158,9 @@ fn no_limit_is_told() {
 fn a_serve_before_the_returns_is_told() {
     let name = "11 never";
     assert_eq!(told(name), of_longest(|_, _, queue| queue == RETURN));
-    let found = held(wrong(name), &list(2, 1, RETURN));
-    assert!(found.named.iter().all(|fault| fault.contains(HELD[2])), "{:?}", found.named);
+    let found = held(wrong(name), &longest_opened_by_08(2, 1, RETURN).records);
+    assert!(found.faults > 0);
+    assert!(found.named.iter().all(|fault| fault.contains(HELD[TOGETHER])), "{:?}", found.named);
 }
 
 /// Lane 1 asks for one block after another, with its services open still.

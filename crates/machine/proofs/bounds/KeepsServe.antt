@@ -125,7 +125,7 @@ unfolding ordered
 ordered-absent n b k x g j p l =
     by-cond (λ (r : List Bool). getD r j false ≡ false) (sendsOf x (b .modified)) _ _ (reset-absent n (k .0) (b .present) (g .absent) j p l) (nobody-absent j l)
 
-pub ordered-self : (b : Block) (k : LaneNo) (x : Command) → k .0 < 8 → goesTo (ordered b k x) (k .0) ≡ false
+ordered-self : (b : Block) (k : LaneNo) (x : Command) → k .0 < 8 → goesTo (ordered b k x) (k .0) ≡ false
 unfolding ordered
 ordered-self b k x l =
     by-cond (λ (r : List Bool). getD r (k .0) false ≡ false) (sendsOf x (b .modified)) _ _

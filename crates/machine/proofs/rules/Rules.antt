@@ -47,12 +47,15 @@ use Rattle.machine.specs.Return.{returnMove, returnOf}
 use Rattle.machine.specs.Deliver.{deliverLane, deliverOf}
 use Rattle.machine.proofs.bounds.KeepsLane.{clash}
 
--- a number that is checked before a call's part: 12 is none, since only the part itself finds a queue full
-abbrev pub Checked : Refusal → Type 0
-Checked x = eqb (numberOf x) 12 ≡ false
+-- a refusal by another number than 12, as those are that a call checks before its part: only the part finds a queue full
+abbrev pub OtherThan12 : Refusal → Type 0
+OtherThan12 x = eqb (numberOf x) 12 ≡ false
+
+pub other-than-12 : (x : Refusal) → OtherThan12 x → numberOf x ≢ 12
+other-than-12 x e = eqb-false (numberOf x) 12 e
 
 -- 14, then 6
-guarded-checks : (P : Outcome → Type 0) (s : Store) (k : LaneNo) (r : Outcome) → ((x : Refusal) → Checked x → P (refuse x s)) → (corruptOf s ≡ false → k .0 < s .shape .n → P r) →
+guarded-checks : (P : Outcome → Type 0) (s : Store) (k : LaneNo) (r : Outcome) → ((x : Refusal) → OtherThan12 x → P (refuse x s)) → (corruptOf s ≡ false → k .0 < s .shape .n → P r) →
     P (guarded s k r)
 guarded-checks P s k r stays next =
     pick P (corruptOf s) (refuse Corrupt s) (cond (leb (s .shape .n) (k .0)) (refuse NoSuchLane s) r) (λ _. stays Corrupt refl)
@@ -99,7 +102,7 @@ pub record BeginReady (s : Store) (k : LaneNo) (op : Op) (w : WordNo) : Type 0 w
   pub admits : Admitted (s .shape .c) op w (laneAt s (k .0))
   pub left : begunIn s ≢ lastPlace
 
-pub begin-checks : (P : Outcome → Type 0) (s : Store) (k : LaneNo) (op : Op) (w : WordNo) → ((x : Refusal) → Checked x → P (refuse x s)) →
+pub begin-checks : (P : Outcome → Type 0) (s : Store) (k : LaneNo) (op : Op) (w : WordNo) → ((x : Refusal) → OtherThan12 x → P (refuse x s)) →
     (BeginReady s k op w → P (commitLane s k (beginLane capacity (s .shape .c) op w (laneAt s (k .0))))) → P (beginOf s k op w)
 unfolding beginOf
 begin-checks P s k op w stays next =
@@ -138,7 +141,7 @@ pub record ServeReady (s : Store) (k : LaneNo) (o : Operation) : Type 0 where
 abbrev pub served : Store → LaneNo → Operation → Outcome
 served s k o = commitMove s k (blockOf (o .word)) (serveMove k o (laneAt s (k .0)) (blockAt s (blockOf (o .word) .0)) (s .control))
 
-pub serve-checks : (P : Outcome → Type 0) (s : Store) (k : LaneNo) → ((x : Refusal) → Checked x → P (refuse x s)) → ((o : Operation) → ServeReady s k o → P (served s k o)) → P (serveOf s k)
+pub serve-checks : (P : Outcome → Type 0) (s : Store) (k : LaneNo) → ((x : Refusal) → OtherThan12 x → P (refuse x s)) → ((o : Operation) → ServeReady s k o → P (served s k o)) → P (serveOf s k)
 unfolding serveOf readyOf
 serve-checks P s k stays next = guarded-checks P s k _ stays (λ c h. go c h (laneAt s (k .0) .waiting) refl)
   where
@@ -169,7 +172,7 @@ returned s k =
     let x = headReturn (laneAt s (k .0) .returns) in
     commitMove s k (x .block) (returnMove k x (laneAt s (k .0)) (blockAt s (x .block .0)) (s .control))
 
-pub return-checks : (P : Outcome → Type 0) (s : Store) (k : LaneNo) → ((x : Refusal) → Checked x → P (refuse x s)) → (ReturnReady s k → P (returned s k)) → P (returnOf s k)
+pub return-checks : (P : Outcome → Type 0) (s : Store) (k : LaneNo) → ((x : Refusal) → OtherThan12 x → P (refuse x s)) → (ReturnReady s k → P (returned s k)) → P (returnOf s k)
 unfolding returnOf
 return-checks P s k stays next =
     guarded-checks P s k _ stays
@@ -183,7 +186,7 @@ unfolding returnOf
 return-is s k r = guarded-is s k _ (r .sound) (r .lane) ∙ rw (ne-eqb _ _ (r .filled)) refl
 
 -- deliver: 9 is the lane's own
-pub deliver-checks : (ins : Insertion) (P : Outcome → Type 0) (s : Store) (k : LaneNo) → ((x : Refusal) → Checked x → P (refuse x s)) →
+pub deliver-checks : (ins : Insertion) (P : Outcome → Type 0) (s : Store) (k : LaneNo) → ((x : Refusal) → OtherThan12 x → P (refuse x s)) →
     (corruptOf s ≡ false → k .0 < s .shape .n → P (commitLane s k (deliverLane capacity ins (s .shape .c) (laneAt s (k .0))))) → P (deliverOf ins s k)
 unfolding deliverOf
 deliver-checks ins P s k stays next = guarded-checks P s k _ stays next

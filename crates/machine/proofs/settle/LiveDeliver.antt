@@ -13,7 +13,7 @@ use Rattle.words.specs.declared.LaneNo.{LaneNo}
 use Rattle.words.specs.declared.BlockNo.{BlockNo}
 use Rattle.words.specs.Units.{blockOf}
 use Rattle.words.specs.Lines.{noLine, holdsOf}
-use Rattle.words.proofs.Folds.{any-never, by-cond, pick}
+use Rattle.words.proofs.Folds.{any-never, pick}
 use Rattle.queues.specs.declared.ReturnMessage.{ReturnMessage}
 use Rattle.queues.specs.declared.DownMessage.{DownMessage}
 use Rattle.queues.specs.declared.DownKind.{DownKind}
@@ -26,7 +26,6 @@ use Rattle.lanes.specs.declared.Waiting.the-variants.{Idle, Unserved, Served}
 use Rattle.lanes.specs.declared.Found.{Found}
 use Rattle.lanes.specs.declared.Found.the-variants.{At, Nothing}
 use Rattle.lanes.specs.Search.{searchOf, vacantOf}
-use Rattle.lanes.specs.Waits.{unservedOf}
 use Rattle.lanes.specs.UseOrder.{Insertion}
 use Rattle.lanes.specs.Lanes.{withDowns}
 use Rattle.answers.specs.Refusals.{refusedOf}
@@ -41,20 +40,21 @@ use Rattle.machine.specs.Begin.{completeWith}
 use Rattle.machine.specs.Deliver.{reply, updateAt, purgeAt, fillAt, grantAt, bareAt, servedOn, grantTo, bareTo, deliverKind, deliverLane, deliverOf}
 use Rattle.machine.specs.Settle.{isOrder}
 use Rattle.machine.specs.Flat.{flatBlock}
-use Rattle.machine.proofs.laws.Tests.{on, or-never}
+use Rattle.machine.proofs.laws.Tests.{or-never}
 use Rattle.machine.proofs.bounds.KeepsLane.{clash}
 use Rattle.machine.proofs.bounds.KeepsBegin.{all-valid}
 use Rattle.machine.proofs.bounds.Sound.{sound}
 use Rattle.machine.proofs.protocol.BlockState.{Invalid, held, keepIf, downAbout, waitingOn, seen, project}
-use Rattle.machine.proofs.projection.Queued.{queuedReturns, queuedDowns, take-downs, keep-head}
-use Rattle.machine.proofs.protocol.Invariant.{orderCount, grantCount, servedCount}
+use Rattle.machine.proofs.projection.Queued.{queuedDowns, take-downs, keep-head}
+use Rattle.machine.proofs.protocol.Invariant.{grantCount, servedCount}
 use Rattle.machine.proofs.protocol.LaneMovesDeliver.{head-due, bare-held}
 use Rattle.machine.proofs.projection.Searches.{same-block, none-holds}
 use Rattle.machine.proofs.projection.SeenBegin.{held-line}
 use Rattle.machine.proofs.store.Consistent.{Consistent}
 use Rattle.machine.proofs.store.ConsistentLane.{lane-sized}
 use Rattle.machine.proofs.settle.Live.{hasRoom, Live}
-use Rattle.machine.proofs.settle.LiveShort.{unserved-none, answer-room}
+use Rattle.machine.proofs.settle.LiveOwing.{served-on}
+use Rattle.machine.proofs.settle.LiveShort.{answer-room}
 use Rattle.machine.proofs.rules.Rules.{deliver-is, answer-goes}
 
 -- an answer joins a return queue with room
@@ -113,19 +113,13 @@ module _ (ins : Insertion) (s : Store) (f : List ℕ) (i : Consistent s f) (live
   -- a grant is for the operation that its lane waits for
   grant-served : isOrder (x .kind) ≡ false → (o : Operation) × (l .waiting ≡ Served o) × (blockOf (o .word) .0 ≡ a .0)
   unfolding seen
-  grant-served q = go (l .waiting) refl
+  grant-served q = served-on (l .waiting) a some
     where
       some : servedCount (waitingOn a (l .waiting)) ≢ 0
       some z =
           let g = i .block (a .0) block-below .1 .grant (k .0) in
           let n : grantCount (seen (s .shape .c) a l .downs) ≡ 1 + grantCount rest = rw (has-head, q) in
           omega arith
-
-      go : (w : Waiting) → l .waiting ≡ w → (o : Operation) × (l .waiting ≡ Served o) × (blockOf (o .word) .0 ≡ a .0)
-      go Idle e = absurd (some (ap (λ (w : Waiting). servedCount (waitingOn a w)) e))
-      go (Unserved o) e = absurd (some (ap (λ (w : Waiting). servedCount (waitingOn a w)) e ∙ unserved-none o a))
-      go (Served o) e =
-          on (eqb (blockOf (o .word) .0) (a .0)) (λ y. (o, e, eqb-true _ _ y)) (λ y. absurd (some (ap (λ (w : Waiting). servedCount (waitingOn a w)) e ∙ rw y)))
 
   -- an answer finds room
   room : l .returns .len < capacity

@@ -83,7 +83,7 @@ module _ (s : Store) (f : List ℕ) (i : Consistent s f) (k : LaneNo) (h : k .0 
   oldest-below : placeAt (laneAt s (k .0) .order) 0 .0 < s .shape .c
   oldest-below = sound s (i .sound) .lane (k .0) h .order .named 0 (sound s (i .sound) .c-low)
 
-pub begin-live : (s : Store) (f : List ℕ) (k : LaneNo) (op : Op) (w : WordNo) → Consistent s f → Live s → Live (beginOf s k op w .store)
+begin-live : (s : Store) (f : List ℕ) (k : LaneNo) (op : Op) (w : WordNo) → Consistent s f → Live s → Live (beginOf s k op w .store)
 begin-live s f k op w i live =
     begin-rule (λ (r : Outcome). Live (r .store)) s k op w (λ _. live)
     (λ r.
@@ -94,7 +94,7 @@ begin-live s f k op w i live =
     lane-commits s k _ live (begin-lane-live (s .shape .c) op w (laneAt s (k .0)) z c o (r .admits) (live .lane (k .0)))
     (begin-owed (s .shape .c) op w (laneAt s (k .0)) _ (begin-case (s .shape .c) op w (laneAt s (k .0)) z c (i .unique (k .0)) o (r .admits))))
 
-pub deliver-live : (ins : Insertion) (s : Store) (f : List ℕ) (k : LaneNo) → Consistent s f → Live s → Live (deliverOf ins s k .store)
+deliver-live : (ins : Insertion) (s : Store) (f : List ℕ) (k : LaneNo) → Consistent s f → Live s → Live (deliverOf ins s k .store)
 deliver-live ins s f k i live =
     deliver-rule ins (λ (r : Outcome). Live (r .store)) s k (λ _. live)
     (λ _ h.
@@ -122,7 +122,7 @@ repeat-runs ins n p r = repeat-rule ins (λ (q : Progress). Running (q .store)) 
 pub settle-step-live : (ins : Insertion) (s : Store) (f : List ℕ) → Consistent s f → Live s → Live (settleStep ins s .store)
 settle-step-live ins s f i live = step-runs ins s (f, i, live) .2
 
-pub settle-live : (ins : Insertion) (s : Store) (f : List ℕ) → Consistent s f → Live s → Live (settleOf ins s .store)
+settle-live : (ins : Insertion) (s : Store) (f : List ℕ) → Consistent s f → Live s → Live (settleOf ins s .store)
 settle-live ins s f i live =
     settle-rule ins (λ (r : Settlement). Live (r .store)) s (λ _. live) (λ _ _ _. repeat-runs ins (suc (boundOf s)) (startAt s) (f, i, live) .2)
 

@@ -7,7 +7,6 @@ use mathlib.Core.Bool.{Bool, true, false, _&&_, true≢false}
 use mathlib.Core.List.{List}
 use lib.Dec.{eqb}
 use lib.ListN.{getD, set}
-use lib.Seq.{getD-set-other}
 use borrow.Author.Tests.{ne-eqb, lt-leb}
 use native.Mathlib.Omega.{arith}
 use Rattle.words.specs.declared.LaneNo.{LaneNo}
@@ -37,18 +36,19 @@ use Rattle.machine.specs.Return.{takenBy, isAnswer, countedMove, returnM
 use Rattle.machine.proofs.laws.Tests.{and-never}
 use Rattle.machine.proofs.laws.Sets.{same?, set-cases}
 use Rattle.machine.proofs.bounds.Sound.{sound}
-use Rattle.machine.proofs.bounds.KeepsServe.{ordered-absent, ordered-self}
+use Rattle.machine.proofs.bounds.KeepsServe.{ordered-absent}
 use Rattle.machine.proofs.protocol.BlockState.{keepIf, returnAbout, seen}
-use Rattle.machine.proofs.protocol.Directories.{nobody-none}
+use Rattle.machine.proofs.protocol.Directories.{nobody-none, order-self}
 use Rattle.machine.proofs.projection.Queued.{queuedReturns}
 use Rattle.machine.proofs.protocol.Invariant.{answerCount, owed}
 use Rattle.machine.proofs.store.Consistent.{Consistent}
 use Rattle.machine.proofs.store.ConsistentLane.{lane-below}
 use Rattle.machine.proofs.store.ConsistentReturn.{has-head}
+use Rattle.machine.proofs.store.ServeByte.{only-other}
 use Rattle.machine.proofs.settle.Live.{Live}
 use Rattle.machine.proofs.settle.LiveAwaited.{Awaited, owed-awaited}
 use Rattle.machine.proofs.settle.LiveShort.{order-room, own-room, service-room}
-use Rattle.machine.proofs.rules.Rules.{ServeReady, return-is, serve-is}
+use Rattle.machine.proofs.rules.Rules.{ServeReady, served, serve-is, returned, return-is}
 use Rattle.machine.proofs.rules.RulesMemory.{serve-move-rule}
 
 -- a message to one lane goes to no other
@@ -57,7 +57,7 @@ only-lane d j g = go (same? j (d .0))
   where
     go : (j ≡ d .0) ⊎ (j ≢ d .0) → j ≡ d .0
     go (inl e) = e
-    go (inr n) = absurd (true≢false (sym g ∙ getD-set-other nobody (d .0) j true false n ∙ nobody-none j))
+    go (inr n) = absurd (true≢false (sym g ∙ only-other d j n))
 
 module _ (s : Store) (f : List ℕ) (i : Consistent s f) (live : Live s) (k : LaneNo) (h : k .0 < s .shape .n) where
   abbrev l : Lane
@@ -131,10 +131,11 @@ module _ (s : Store) (f : List ℕ) (i : Consistent s f) (live : Live s) (k : La
         (λ e. answer-goes (withReturns (takeReturn (l .returns) .queue) l) (takenBy (x .kind) (x .words) k b) refl (answer-awaited e))
         (λ _. nothing-goes _ refl refl refl)
 
+    pub returned-goes : refusedOf (returned s k .answer) ≡ false
+    returned-goes = commit-goes a (returnMove k x l b (s .control)) return-move-goes
+
     pub return-goes : refusedOf (returnOf s k .answer) ≡ false
-    return-goes =
-        ap (λ (r : Outcome). refusedOf (r .answer)) (return-is s k (record { sound = i .sound; lane = h; filled = filled })) ∙
-        commit-goes a (returnMove k x l b (s .control)) return-move-goes
+    return-goes = ap (λ (r : Outcome). refusedOf (r .answer)) (return-is s k (record { sound = i .sound; lane = h; filled = filled })) ∙ returned-goes
 
   -- orders go to other lanes, and lane k waits unserved
   orders-go : (o : Operation) → ServeReady s k o → (v : Move) → refusedOf (v .answer) ≡ false → v .lane .downs ≡ l .downs → v .to ≡ ordered (blockAt s (blockOf (o .word) .0)) k (o .command) → Goes v
@@ -145,7 +146,7 @@ module _ (s : Store) (f : List ℕ) (i : Consistent s f) (live : Live s) (k : La
           let z = sound s (i .sound) in
           let y = z .block (blockOf (o .word) .0) (z .lane (k .0) h .unserved o (r .unserved)) in
           let p : j < s .shape .n = below (below? j (s .shape .n)) (λ q. absurd (true≢false (sym g ∙ ordered-absent (s .shape .n) _ k (o .command) y j q b))) in
-          order-room s f i live j p (k .0) h (λ q. absurd (true≢false (sym g ∙ ap (goesTo (ordered (blockAt s (blockOf (o .word) .0)) k (o .command))) (sym q) ∙ ordered-self _ k (o .command) (lane-below s f i (k .0) h)))) (ap unservedOf (r .unserved))
+          order-room s f i live j p (k .0) h (λ q. absurd (true≢false (sym g ∙ ap (goesTo (ordered (blockAt s (blockOf (o .word) .0)) k (o .command))) (sym q) ∙ order-self _ k (o .command)))) (ap unservedOf (r .unserved))
         where
           below : (j < s .shape .n) ⊎ (s .shape .n ≤ j) → (s .shape .n ≤ j → j < s .shape .n) → j < s .shape .n
           below (inl q) n = q
@@ -157,7 +158,8 @@ module _ (s : Store) (f : List ℕ) (i : Consistent s f) (live : Live s) (k : La
       serve-move-rule Goes k o l (blockAt s (blockOf (o .word) .0)) (s .control) (λ _. one-goes _ k refl refl refl (own-room s f i live (k .0) h o (r .unserved) (r .clear)))
       (λ _. orders-go o r _ refl refl refl)
 
+  pub served-goes : (o : Operation) → ServeReady s k o → refusedOf (served s k o .answer) ≡ false
+  served-goes o r = commit-goes (blockOf (o .word)) (serveMove k o l (blockAt s (blockOf (o .word) .0)) (s .control)) (serve-move-goes o r)
+
   pub serve-goes : (o : Operation) → ServeReady s k o → refusedOf (serveOf s k .answer) ≡ false
-  serve-goes o r =
-      ap (λ (z : Outcome). refusedOf (z .answer)) (serve-is s k o r) ∙
-      commit-goes (blockOf (o .word)) (serveMove k o l (blockAt s (blockOf (o .word) .0)) (s .control)) (serve-move-goes o r)
+  serve-goes o r = ap (λ (z : Outcome). refusedOf (z .answer)) (serve-is s k o r) ∙ served-goes o r

@@ -30,9 +30,10 @@ use Rattle.store.specs.Stores.{laneAt}
 use Rattle.store.proofs.Services.{found, busy-found, never}
 use Rattle.machine.specs.Return.{isAnswer}
 use Rattle.machine.specs.Settle.{isOrder}
+use Rattle.machine.proofs.laws.Tests.{and-both}
 use Rattle.machine.proofs.laws.Sets.{same?}
 use Rattle.machine.proofs.laws.Counts.{count-less}
-use Rattle.machine.proofs.laws.Sums.{count-sum, count-zero}
+use Rattle.machine.proofs.laws.Sums.{count-sum, count-zero, sum-up, sum-less, sums-up, count-by, count-unique}
 use Rattle.machine.proofs.bounds.Sound.{sound}
 use Rattle.machine.proofs.protocol.BlockState.{keepIf, returnAbout, downAbout, waitingOn, seen, blockNo, project}
 use Rattle.machine.proofs.protocol.Invariant.{answerCount, orderCount, grantCount, servedCount, owed, ServedWell, ServiceFits}
@@ -41,60 +42,7 @@ use Rattle.machine.proofs.store.Consistent.{Consistent}
 use Rattle.machine.proofs.settle.Live.{ejectCount, Live}
 use Rattle.machine.proofs.settle.LiveAwaited.{owed-awaited}
 
--- ---- sums
--- no term of two sums together is more than one of a third
-sums-up : (f g h : ℕ → ℕ) (n : ℕ) → ((j : ℕ) → j < n → f j + g j ≤ h j) → sumTo f n + sumTo g n ≤ sumTo h n
-unfolding sumTo
-sums-up f g h zero e = omega arith
-sums-up f g h (suc n) e = let a = sums-up f g h n (λ j l. e j (omega arith)) in let b = e n (omega arith) in omega arith
-
-sum-up : (f g : ℕ → ℕ) (n : ℕ) → ((j : ℕ) → j < n → f j ≤ g j) → sumTo f n ≤ sumTo g n
-unfolding sumTo
-sum-up f g zero e = omega arith
-sum-up f g (suc n) e = let a = sum-up f g n (λ j l. e j (omega arith)) in let b = e n (omega arith) in omega arith
-
--- .. and one is less
-sum-less : (f g : ℕ → ℕ) (n k : ℕ) → k < n → ((j : ℕ) → f j ≤ g j) → f k + 1 ≤ g k → sumTo f n + 1 ≤ sumTo g n
-unfolding sumTo
-sum-less f g zero k l h e = absurd (omega arith)
-sum-less f g (suc n) k l h e = go (same? k n) (λ m. sum-less f g n k m h e)
-  where
-    go : (k ≡ n) ⊎ (k ≢ n) → (k < n → sumTo f n + 1 ≤ sumTo g n) → sumTo f n + f n + 1 ≤ sumTo g n + g n
-    go (inl q) r = let a = sum-up f g n (λ j _. h j) in let b : f n + 1 ≤ g n = rw (← q) e in omega arith
-    go (inr q) r = let a = r (omega (arith, q)) in let b = h n in omega arith
-
--- those that pass a test, by a number that each has
-count-by : (p : ℕ → Bool) (f : ℕ → ℕ) (m n : ℕ) → ((i : ℕ) → i < n → p i ≡ true → f i < m) → countTo p n ≤ sumTo (λ j. countTo (λ i. p i && eqb (f i) j) n) m
-unfolding countTo
-count-by p f m zero h = omega arith
-count-by p f m (suc n) h = go (p n) refl (count-by p f m n (λ i l. h i (omega arith)))
-  where
-    more : (j : ℕ) → countTo (λ i. p i && eqb (f i) j) n ≤ countTo (λ i. p i && eqb (f i) j) n + cond (p n && eqb (f n) j) 1 0
-    more j = omega arith
-
-    go : (b : Bool) → p n ≡ b → countTo p n ≤ sumTo (λ j. countTo (λ i. p i && eqb (f i) j) n) m →
-        countTo p n + cond (p n) 1 0 ≤ sumTo (λ j. countTo (λ i. p i && eqb (f i) j) n + cond (p n && eqb (f n) j) 1 0) m
-    go false e r = let a = sum-up (λ j. countTo (λ i. p i && eqb (f i) j) n) (λ j. countTo (λ i. p i && eqb (f i) j) n + cond (p n && eqb (f n) j) 1 0) m (λ j _. more j) in
-        let z : _≡_ {A = ℕ} (cond (p n) 1 0) 0 = rw e in omega arith
-    go true e r =
-        let here : _≡_ {A = ℕ} (cond (p n && eqb (f n) (f n)) 1 0) 1 = rw (e, eq-eqb (f n) (f n) refl) in
-        let a = sum-less (λ j. countTo (λ i. p i && eqb (f i) j) n) (λ j. countTo (λ i. p i && eqb (f i) j) n + cond (p n && eqb (f n) j) 1 0) m (f n) (h n (omega arith) e) more (omega arith) in
-        let z : _≡_ {A = ℕ} (cond (p n) 1 0) 1 = rw e in
-        omega arith
-
--- at most one passes
-count-unique : (p : ℕ → Bool) (n : ℕ) → ((i j : ℕ) → i < n → j < n → p i ≡ true → p j ≡ true → i ≡ j) → countTo p n ≤ 1
-unfolding countTo
-count-unique p zero h = omega arith
-count-unique p (suc n) h = go (p n) refl (count-unique p n (λ i j l m. h i j (omega arith) (omega arith)))
-  where
-    go : (b : Bool) → p n ≡ b → countTo p n ≤ 1 → countTo p n + cond (p n) 1 0 ≤ 1
-    go false e r = rw e (omega arith)
-    go true e r =
-        let z = count-zero p n (λ j l. never (p j) (λ q. let y = h j n (omega arith) (omega arith) q e in absurd (omega arith))) in
-        rw e (omega arith)
-
--- ---- messages: those of a kind, by their blocks
+-- messages of a kind, by their blocks
 module _ {A : Type 0} (block : A → ℕ) (p : A → Bool) where
   -- how many are of the kind, and how many of these are about block d
   abbrev tally : List A → ℕ
@@ -130,7 +78,7 @@ module _ {A : Type 0} (block : A → ℕ) (p : A → Bool) where
         go true = part-more (slot i) x xs
         go false = omega arith
 
-    pub tally-most : (xs : List A) → Within m xs → ((d : ℕ) → d < m → part d xs ≢ 0 → At d) → tally xs ≤ sumTo (share xs) n
+    tally-most : (xs : List A) → Within m xs → ((d : ℕ) → d < m → part d xs ≢ 0 → At d) → tally xs ≤ sumTo (share xs) n
     tally-most [] w h = omega arith
     tally-most (x ∷ xs) w h = go (p x) refl (tally-most xs (w .1) (λ d l z. h d l (λ q. let a = part-more d x xs in z (omega arith))))
       where
@@ -143,7 +91,7 @@ module _ {A : Type 0} (block : A → ℕ) (p : A → Bool) where
             rw e (omega arith)
 
 -- the blocks of a queue's messages
-pub within : {A : Type 0} (block : A → ℕ) (p : A → Bool) (none : A) (m len : ℕ) (xs : List A) → ((i : ℕ) → i < len → block (getD xs i none) < m) → Within block p m (messages len xs)
+within : {A : Type 0} (block : A → ℕ) (p : A → Bool) (none : A) (m len : ℕ) (xs : List A) → ((i : ℕ) → i < len → block (getD xs i none) < m) → Within block p m (messages len xs)
 within block p none m zero xs h = tt
 within block p none m (suc len) [] h = tt
 within block p none m (suc len) (x ∷ xs) h = (h 0 (omega arith), within block p none m len xs (λ i l. h (suc i) (omega arith)))
@@ -203,10 +151,14 @@ tally-grants (x ∷ xs) = go (isOrder (x .kind)) (tally-grants xs)
     go true e = omega arith
     go false e = omega arith
 
+-- an unserved operation is served on no block
+pub unserved-none : (o : Operation) (a : BlockNo) → servedCount (waitingOn a (Unserved o)) ≡ 0
+unserved-none o a = by-cond (λ (w : Waiting). servedCount w ≡ 0) (eqb (blockOf (o .word) .0) (a .0)) _ _ refl refl
+
 -- what waits on block a, served
 pub served-on : (w : Waiting) (a : BlockNo) → servedCount (waitingOn a w) ≢ 0 → (o : Operation) × (w ≡ Served o) × (blockOf (o .word) .0 ≡ a .0)
 served-on Idle a n = absurd (n refl)
-served-on (Unserved o) a n = absurd (n (by-cond (λ (x : Waiting). servedCount x ≡ 0) (eqb (blockOf (o .word) .0) (a .0)) (Unserved o) Idle refl refl))
+served-on (Unserved o) a n = absurd (n (unserved-none o a))
 served-on (Served o) a n = go (eqb (blockOf (o .word) .0) (a .0)) refl
   where
     go : (b : Bool) → eqb (blockOf (o .word) .0) (a .0) ≡ b → (u : Operation) × (Served o ≡ Served u) × (blockOf (u .word) .0 ≡ a .0)
@@ -221,16 +173,7 @@ served-most (Served o) a = by-cond (λ (x : Waiting). servedCount x ≤ 1) (eqb 
 served-inj : (o u : Operation) → _≡_ {A = Waiting} (Served o) (Served u) → o ≡ u
 served-inj o u e = cc
 
--- both tests pass
-and-first : (a b : Bool) → (a && b) ≡ true → a ≡ true
-and-first true b e = refl
-and-first false b e = e
-
-and-second : (a b : Bool) → (a && b) ≡ true → b ≡ true
-and-second true b e = e
-and-second false b e = absurd (true≢false (sym e))
-
--- .. are no more than one
+-- both tests pass no more often than one
 fewer : (a b : Bool) → cond (a && b) 1 0 ≤ cond a 1 0
 fewer true true = omega arith
 fewer true false = omega arith
@@ -252,9 +195,6 @@ module _ (s : Store) (f : List ℕ) (i : Consistent s f) (live : Live s) where
   module _ (j : ℕ) (l : j < 8) (b : slotAt (s .control) j .busy ≡ true) where
     slot-block : serviceAt j .block .0 < s .shape .m
     slot-block = sound s (i .sound) .control .services j l b .block
-
-    slot-lane : serviceAt j .lane .0 < 8
-    slot-lane = let p = sound s (i .sound) .control .services j l b .lane in let q = sound s (i .sound) .n-high in omega arith
 
     slot-served : servedCount (waitingOn (serviceAt j .block) (laneAt s (serviceAt j .lane .0) .waiting)) ≡ 1
     unfolding seen
@@ -283,7 +223,7 @@ module _ (s : Store) (f : List ℕ) (i : Consistent s f) (live : Live s) where
     others j = slotAt (s .control) j .busy && not (eqb (serviceAt j .lane .0) k)
 
     other-busy : (j : ℕ) → others j ≡ true → slotAt (s .control) j .busy ≡ true
-    other-busy j e = and-first (slotAt (s .control) j .busy) (not (eqb (serviceAt j .lane .0) k)) e
+    other-busy j e = and-both (slotAt (s .control) j .busy) (not (eqb (serviceAt j .lane .0) k)) e .0
 
     -- the other lanes that may have a service: none that waits unserved
     abbrev lanes : ℕ → Bool
@@ -293,7 +233,7 @@ module _ (s : Store) (f : List ℕ) (i : Consistent s f) (live : Live s) where
     other-lane j l e =
         let p = slot-served j l (other-busy j e) in
         let u = served-on (laneAt s (serviceAt j .lane .0) .waiting) (serviceAt j .block) (λ z. absurd (omega arith)) in
-        rw (and-second (slotAt (s .control) j .busy) (not (eqb (serviceAt j .lane .0) k)) e, u .1)
+        rw (and-both (slotAt (s .control) j .busy) (not (eqb (serviceAt j .lane .0) k)) e .1, u .1)
 
     -- the services of other lanes are no more than these
     others-lanes : countTo others 8 ≤ countTo lanes (s .shape .n)
@@ -304,7 +244,7 @@ module _ (s : Store) (f : List ℕ) (i : Consistent s f) (live : Live s) where
         omega arith
       where
         both : (j d : ℕ) → (others j && eqb (serviceAt j .lane .0) d) ≡ true → (others j ≡ true) × (serviceAt j .lane .0 ≡ d)
-        both j d e = (and-first (others j) (eqb (serviceAt j .lane .0) d) e, eqb-true _ _ (and-second (others j) (eqb (serviceAt j .lane .0) d) e))
+        both j d e = let q = and-both (others j) (eqb (serviceAt j .lane .0) d) e in (q .0, eqb-true _ _ (q .1))
 
         each : (d : ℕ) → countTo (λ j. others j && eqb (serviceAt j .lane .0) d) 8 ≤ cond (lanes d) 1 0
         each d = go (lanes d) refl
@@ -356,7 +296,7 @@ module _ (s : Store) (f : List ℕ) (i : Consistent s f) (live : Live s) where
         (slotOf (s .control) (blockNo d), g .below, rw (g .busy, ne-eqb _ _ lane) refl, ap (λ (v : Service). v .block .0) (g .service) ∙ g .block)
 
     -- OWED
-    pub owed-others : owedAll (laneAt s k) ≤ countTo others 8
+    owed-others : owedAll (laneAt s k) ≤ countTo others 8
     unfolding owed seen
     owed-others =
         let m = s .shape .m in

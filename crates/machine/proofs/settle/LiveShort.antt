@@ -2,13 +2,12 @@
 -- (W7), and a queue has room whenever a call adds to it. Assumes nothing.
 use Prim.Native.Nat.{ℕ, _+_, _-_, _<_, _≤_}
 use mathlib.Core.Logic.{_≢_}
-use mathlib.Core.Path.{_≡_, refl, sym, ap, _∙_}
+use mathlib.Core.Path.{_≡_, refl, ap, _∙_}
 use mathlib.Core.Bool.{true, false, cond}
-use mathlib.Core.List.{List, []}
-use lib.Dec.{leb, eqb}
+use mathlib.Core.List.{List}
+use lib.Dec.{leb}
 use borrow.Author.Tests.{leb-false}
 use native.Mathlib.Omega.{arith}
-use Rattle.words.specs.declared.BlockNo.{BlockNo}
 use Rattle.words.specs.Units.{blockOf}
 use Rattle.words.proofs.Folds.{by-cond, pick}
 use Rattle.queues.specs.Queues.{capacity}
@@ -32,11 +31,7 @@ use Rattle.machine.proofs.projection.Queued.{queuedReturns, queuedDowns
 use Rattle.machine.proofs.store.Consistent.{Consistent}
 use Rattle.machine.proofs.store.ConsistentLane.{lane-sized}
 use Rattle.machine.proofs.settle.Live.{ejectCount, Live}
-use Rattle.machine.proofs.settle.LiveOwing.{fits, served-on, owedAll, owed-fewer, owed-two-fewer, owed-limit, grants-none, grants-about, grants-one, queue-length, returns-split, downs-split}
-
--- an unserved operation is served on no block
-pub unserved-none : (o : Operation) (a : BlockNo) → servedCount (waitingOn a (Unserved o)) ≡ 0
-unserved-none o a = by-cond (λ (w : Waiting). servedCount w ≡ 0) (eqb (blockOf (o .word) .0) (a .0)) _ _ refl refl
+use Rattle.machine.proofs.settle.LiveOwing.{unserved-none, fits, served-on, owedAll, owed-fewer, owed-two-fewer, owed-limit, grants-none, grants-about, grants-one, queue-length, returns-split, downs-split}
 
 -- the smaller is at most the first
 pub smaller-first : (a b : ℕ) → smaller a b ≤ a
@@ -76,7 +71,7 @@ module _ (s : Store) (f : List ℕ) (i : Consistent s f) (live : Live s) (k : �
   queued-is : l .returns .len + l .downs .len ≡ owedAll l + ejects + grants
   queued-is = let a = returns-is in let b = downs-is in omega arith
 
-  -- a lane that waits unserved has no grant on its way, and any other no ejection
+  -- a lane that waits for nothing or unserved has no grant on its way; one that does not wait unserved no ejection
   idle-grants : l .waiting ≡ Idle → grants ≡ 0
   idle-grants e = grants-none s f i live k h (λ a. rw e)
 
@@ -112,12 +107,12 @@ module _ (s : Store) (f : List ℕ) (i : Consistent s f) (live : Live s) (k : �
           omega arith
 
   -- .. and room where a call adds to a queue. Where neither an ejection nor a grant is on its way:
-  rest-room : ejects ≡ 0 → grants ≡ 0 → queued < capacity
-  rest-room e g = let a = queued-is in let b = owed-fewer s f i live k h in let c = eight in omega arith
+  owed-room : ejects ≡ 0 → grants ≡ 0 → queued < capacity
+  owed-room e g = let a = queued-is in let b = owed-fewer s f i live k h in let c = eight in omega arith
 
   -- an ejection, by a lane that waits for nothing
   pub eject-room : l .waiting ≡ Idle → l .returns .len < capacity
-  eject-room e = let a = rest-room (no-ejects (ap unservedOf e)) (idle-grants e) in omega arith
+  eject-room e = let a = owed-room (no-ejects (ap unservedOf e)) (idle-grants e) in omega arith
 
   -- an answer, in place of the order that is taken
   pub answer-room : l .downs .len ≢ 0 → l .returns .len < capacity
@@ -129,13 +124,13 @@ module _ (s : Store) (f : List ℕ) (i : Consistent s f) (live : Live s) (k : �
 
   -- the lane's own grant, where the service closes at once
   pub own-room : (o : Operation) → l .waiting ≡ Unserved o → l .returns .len ≡ 0 → l .downs .len < capacity
-  own-room o e z = let a = returns-is in let b = rest-room (omega arith) (unserved-grants o e) in omega arith
+  own-room o e z = let a = returns-is in let b = owed-room (omega arith) (unserved-grants o e) in omega arith
 
   -- .. and where it closes later: no grant is on its way while the service is open
   grant-room : (o : Operation) → l .waiting ≡ Served o → grantCount (project s (blockOf (o .word) .0) .lane k .downs) ≡ 0 → l .downs .len < capacity
   grant-room o e z =
       let a = grants-about s f i live k h o e in
-      let b = rest-room (no-ejects (ap unservedOf e)) (omega arith) in
+      let b = owed-room (no-ejects (ap unservedOf e)) (omega arith) in
       omega arith
 
 module _ (s : Store) (f : List ℕ) (i : Consistent s f) (live : Live s) where

@@ -44,6 +44,7 @@ use Rattle.machine.proofs.bounds.KeepsServe.{ordered-absent}
 use Rattle.machine.proofs.protocol.Directories.{nobody-none}
 use Rattle.machine.proofs.projection.Project.{}
 use Rattle.machine.proofs.store.ConsistentOpen.{each-lane}
+use Rattle.machine.proofs.store.ServeByte.{only-other}
 use Rattle.machine.proofs.settle.FallsSettle.{startAt, settle-rule}
 use Rattle.machine.proofs.rules.Rules.{lane-rule, move-rule, begin-rule, serve-rule, return-rule, deliver-rule}
 use Rattle.machine.proofs.rules.RulesSettle.{step-rule, repeat-rule}
@@ -101,7 +102,7 @@ move-spare s k a v h to e = move-rule (λ (r : Outcome). Spare (r .store)) s k a
 
 -- one lane alone
 only-spare : (n : ℕ) (k : LaneNo) → k .0 < n → (j : ℕ) → n ≤ j → goesTo (only k) j ≡ false
-only-spare n k h j g = getD-set-other nobody (k .0) j true false (λ q. omega arith) ∙ nobody-none j
+only-spare n k h j g = only-other k j (λ q. omega arith)
 
 -- serve
 serve-to : (n : ℕ) (k : LaneNo) (o : Operation) (l : Lane) (b : Block) (x : Control) → k .0 < n → BlockSound n b → (j : ℕ) → n ≤ j → j < 8 →

@@ -7,7 +7,6 @@ use mathlib.Core.Bool.{false, true, not, true≢false}
 use mathlib.Core.List.{List, [], _∷_, List·Memᴰ, List·Memᴰ·not-nil, List·Memᴰ·cases-cons}
 use lib.Dec.{eqb}
 use lib.ListN.{length, getD, drop}
-use borrow.Author.Tests.{eqb-false}
 use native.Mathlib.Omega.{arith}
 use Rattle.words.specs.declared.Shape.{Shape}
 use Rattle.words.proofs.Folds.{pick}
@@ -22,66 +21,63 @@ use Rattle.answers.specs.declared.Refusal.the-variants.{Truncated, UnknownKind,
 use Rattle.answers.specs.Refusals.{numberOf}
 use Rattle.store.specs.declared.Store.{Store}
 use Rattle.store.specs.declared.Outcome.{Outcome}
-use Rattle.store.specs.Opening.{badShape, badLimit, freshOf, blankStore, openOf}
+use Rattle.store.specs.Opening.{badShape, badLimit, freshOf, blankStore}
 use Rattle.machine.specs.Change.{refuse}
-use Rattle.machine.specs.Calls.{Call, Begin, Serve, Return, Deliver, Answers, callOf}
+use Rattle.machine.specs.Calls.{Begin, Serve, Return, Deliver, callOf}
 use Rattle.machine.specs.Tape.{isOpen, openRecord, whenOpen, recordOf, replayFrom, replayOf}
 use Rattle.machine.specs.Text.{decimalIn, refusedText, answerText}
-use Rattle.machine.specs.NeverFull.{refusalIn, TapesNeverFull}
-use Rattle.machine.proofs.settle.Lively.{Lively, open-lively, call-lively}
-use Rattle.machine.proofs.settle.LiveNever.{call-free}
+use Rattle.machine.specs.NeverFull.{refusalNumber, TapesNeverFull}
+use Rattle.machine.proofs.settle.Lively.{Lively, fresh-lively, call-lively}
+use Rattle.machine.proofs.settle.LiveNever.{call-not-full}
+use Rattle.machine.proofs.rules.Rules.{OtherThan12, other-than-12}
 
 -- no opening was read yet, or the store is one that an opening and calls give
 abbrev Read : Store → Type 0
 Read s = (s .shape .n ≡ 0) ⊎ Lively s
 
 -- an answer that isn't 12, and such a store after it
-record Goes (r : Outcome) : Type 0 where
-  answer : refusalIn (r .answer) ≢ 12
+record NotFull (r : Outcome) : Type 0 where
+  answer : refusalNumber (r .answer) ≢ 12
   store : Read (r .store)
 
-refuse-goes : (s : Store) (x : Refusal) → eqb (numberOf x) 12 ≡ false → Read s → Goes (refuse x s)
-refuse-goes s x e r = record { answer = eqb-false (numberOf x) 12 e; store = r }
+refuse-not-full : (s : Store) (x : Refusal) → OtherThan12 x → Read s → NotFull (refuse x s)
+refuse-not-full s x e r = record { answer = other-than-12 x e; store = r }
 
 -- an opening
-fresh-lively : (shape : Shape) → badShape shape ≡ false → badLimit shape ≡ false → Lively (freshOf shape)
-unfolding openOf
-fresh-lively shape e f = let a : openOf shape .answer ≡ Opened = rw (e, f) in let l = open-lively shape a in rw (e, f) at l
-
-open-goes : (s : Store) (shape : Shape) → Read s → Goes (openRecord s shape)
+open-not-full : (s : Store) (shape : Shape) → Read s → NotFull (openRecord s shape)
 unfolding openRecord
-open-goes s shape r =
-    pick Goes (isOpen s) _ _ (λ _. refuse-goes s AlreadyOpen refl r)
-    (λ _. pick Goes (badShape shape) _ _ (λ _. refuse-goes s InvalidShape refl r)
-    (λ e. pick Goes (badLimit shape) _ _ (λ _. refuse-goes s InvalidLimit refl r)
+open-not-full s shape r =
+    pick NotFull (isOpen s) _ _ (λ _. refuse-not-full s AlreadyOpen refl r)
+    (λ _. pick NotFull (badShape shape) _ _ (λ _. refuse-not-full s InvalidShape refl r)
+    (λ e. pick NotFull (badLimit shape) _ _ (λ _. refuse-not-full s InvalidLimit refl r)
     (λ f. record { answer = λ q. absurd (omega arith); store = inr (fresh-lively shape e f) })))
 
 -- a call: 3 before an opening
-when-goes : (s : Store) (x : Outcome) → Read s → (Lively s → Goes x) → Goes (whenOpen s x)
-when-goes s x (inl e) g = pick Goes (isOpen s) _ _ (λ o. absurd (true≢false (sym o ∙ ap (λ (n : ℕ). not (eqb n 0)) e))) (λ _. refuse-goes s NotOpen refl (inl e))
-when-goes s x (inr l) g = pick Goes (isOpen s) _ _ (λ _. g l) (λ _. refuse-goes s NotOpen refl (inr l))
+when-not-full : (s : Store) (x : Outcome) → Read s → (Lively s → NotFull x) → NotFull (whenOpen s x)
+when-not-full s x (inl e) g = pick NotFull (isOpen s) _ _ (λ o. absurd (true≢false (sym o ∙ ap (λ (n : ℕ). not (eqb n 0)) e))) (λ _. refuse-not-full s NotOpen refl (inl e))
+when-not-full s x (inr l) g = pick NotFull (isOpen s) _ _ (λ _. g l) (λ _. refuse-not-full s NotOpen refl (inr l))
 
-record-goes : (s : Store) (x : Record) → Read s → Goes (recordOf s x)
+record-not-full : (s : Store) (x : Record) → Read s → NotFull (recordOf s x)
 unfolding recordOf callOf
-record-goes s Record.Unknown r = refuse-goes s UnknownKind refl r
-record-goes s Record.Truncated r = refuse-goes s Truncated refl r
-record-goes s (Record.Open shape) r = open-goes s shape r
-record-goes s (Record.Begin k op w) r = when-goes s _ r (λ l. record { answer = call-free s l LoadsOldest (Begin k op w); store = inr (call-lively LoadsOldest s (Begin k op w) l) })
-record-goes s (Record.Serve k) r = when-goes s _ r (λ l. record { answer = call-free s l LoadsOldest (Serve k); store = inr (call-lively LoadsOldest s (Serve k) l) })
-record-goes s (Record.Return k) r = when-goes s _ r (λ l. record { answer = call-free s l LoadsOldest (Return k); store = inr (call-lively LoadsOldest s (Return k) l) })
-record-goes s (Record.Deliver k) r = when-goes s _ r (λ l. record { answer = call-free s l LoadsOldest (Deliver k); store = inr (call-lively LoadsOldest s (Deliver k) l) })
+record-not-full s Record.Unknown r = refuse-not-full s UnknownKind refl r
+record-not-full s Record.Truncated r = refuse-not-full s Truncated refl r
+record-not-full s (Record.Open shape) r = open-not-full s shape r
+record-not-full s (Record.Begin k op w) r = when-not-full s _ r (λ l. record { answer = call-not-full s l LoadsOldest (Begin k op w); store = inr (call-lively LoadsOldest s (Begin k op w) l) })
+record-not-full s (Record.Serve k) r = when-not-full s _ r (λ l. record { answer = call-not-full s l LoadsOldest (Serve k); store = inr (call-lively LoadsOldest s (Serve k) l) })
+record-not-full s (Record.Return k) r = when-not-full s _ r (λ l. record { answer = call-not-full s l LoadsOldest (Return k); store = inr (call-lively LoadsOldest s (Return k) l) })
+record-not-full s (Record.Deliver k) r = when-not-full s _ r (λ l. record { answer = call-not-full s l LoadsOldest (Deliver k); store = inr (call-lively LoadsOldest s (Deliver k) l) })
 
 -- the answers to a tape's records
-replay-free : (more : ℕ) (s : Store) (tape : List ℕ) → Read s → (a : Answer) → List·Memᴰ a (replayFrom more s tape) → refusalIn a ≢ 12
+replay-not-full : (more : ℕ) (s : Store) (tape : List ℕ) → Read s → (a : Answer) → List·Memᴰ a (replayFrom more s tape) → refusalNumber a ≢ 12
 unfolding replayFrom
-replay-free zero s tape r a m = absurd (List·Memᴰ·not-nil m)
-replay-free (suc more) s tape r a m =
-    let g = record-goes s (parseOf tape .rec) r in
-    pick (λ (xs : List Answer). List·Memᴰ a xs → refusalIn a ≢ 12) (eqb (length tape) 0) _ _ (λ _ n. absurd (List·Memᴰ·not-nil n))
-    (λ _ n. first (recordOf s (parseOf tape .rec)) (g .answer) (List·Memᴰ·cases-cons n) (replay-free more (recordOf s (parseOf tape .rec) .store) (drop (parseOf tape .size) tape) (g .store) a)) m
+replay-not-full zero s tape r a m = absurd (List·Memᴰ·not-nil m)
+replay-not-full (suc more) s tape r a m =
+    let g = record-not-full s (parseOf tape .rec) r in
+    pick (λ (xs : List Answer). List·Memᴰ a xs → refusalNumber a ≢ 12) (eqb (length tape) 0) _ _ (λ _ n. absurd (List·Memᴰ·not-nil n))
+    (λ _ n. first (recordOf s (parseOf tape .rec)) (g .answer) (List·Memᴰ·cases-cons n) (replay-not-full more (recordOf s (parseOf tape .rec) .store) (drop (parseOf tape .size) tape) (g .store) a)) m
   where
-    first : (x : Outcome) {xs : List Answer} → refusalIn (x .answer) ≢ 12 → (a ≡ x .answer) ⊎ List·Memᴰ a xs → (List·Memᴰ a xs → refusalIn a ≢ 12) → refusalIn a ≢ 12
-    first x h (inl q) rest = λ z. h (ap refusalIn (sym q) ∙ z)
+    first : (x : Outcome) {xs : List Answer} → refusalNumber (x .answer) ≢ 12 → (a ≡ x .answer) ⊎ List·Memᴰ a xs → (List·Memᴰ a xs → refusalNumber a ≢ 12) → refusalNumber a ≢ 12
+    first x h (inl q) rest = λ z. h (ap refusalNumber (sym q) ∙ z)
     first x h (inr n) rest = rest n
 
 -- the number that a text says behind `refused`: of one digit or two
@@ -112,13 +108,13 @@ reads-back PlacesExhausted = refl
 reads-back InvalidLimit = refl
 
 -- so a text of another number is another text; and what isn't refused begins with another letter
-text-free : (a : Answer) → refusalIn a ≢ 12 → answerText a ≢ refusedText QueueFull
+text-not-full : (a : Answer) → refusalNumber a ≢ 12 → answerText a ≢ refusedText QueueFull
 unfolding answerText
-text-free Opened n e = let q = ap (λ (xs : List ℕ). getD xs 0 0) e in absurd (omega arith)
-text-free (Done x) n e = let q = ap (λ (xs : List ℕ). getD xs 0 0) e in absurd (omega arith)
-text-free Wait n e = let q = ap (λ (xs : List ℕ). getD xs 0 0) e in absurd (omega arith)
-text-free Step n e = let q = ap (λ (xs : List ℕ). getD xs 0 0) e in absurd (omega arith)
-text-free (Refused r) n e = n (sym (reads-back r) ∙ ap (λ (xs : List ℕ). digits (drop 8 xs)) e ∙ reads-back QueueFull)
+text-not-full Opened n e = let q = ap (λ (xs : List ℕ). getD xs 0 0) e in absurd (omega arith)
+text-not-full (Done x) n e = let q = ap (λ (xs : List ℕ). getD xs 0 0) e in absurd (omega arith)
+text-not-full Wait n e = let q = ap (λ (xs : List ℕ). getD xs 0 0) e in absurd (omega arith)
+text-not-full Step n e = let q = ap (λ (xs : List ℕ). getD xs 0 0) e in absurd (omega arith)
+text-not-full (Refused r) n e = n (sym (reads-back r) ∙ ap (λ (xs : List ℕ). digits (drop 8 xs)) e ∙ reads-back QueueFull)
 
 blank-read : Read blankStore
 unfolding freshOf
@@ -126,4 +122,4 @@ blank-read = inl refl
 
 pub tapes-never-full : TapesNeverFull
 unfolding replayOf
-tapes-never-full tape a m = text-free a (replay-free (length tape) blankStore tape blank-read a m)
+tapes-never-full tape a m = text-not-full a (replay-not-full (length tape) blankStore tape blank-read a m)

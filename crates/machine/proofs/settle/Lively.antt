@@ -1,12 +1,13 @@
 -- What a store has that an opening and any calls give: it is consistent and live, and the places past its lanes are empty. Assumes nothing.
 use Prim.Native.Nat.{ℕ}
 use mathlib.Core.Path.{_≡_}
+use mathlib.Core.Bool.{false}
 use mathlib.Core.List.{List, [], _∷_}
 use Rattle.words.specs.declared.Shape.{Shape}
 use Rattle.lanes.specs.UseOrder.{Insertion}
 use Rattle.answers.specs.declared.Answer.the-variants.{Opened}
 use Rattle.store.specs.declared.Store.{Store}
-use Rattle.store.specs.Opening.{openOf}
+use Rattle.store.specs.Opening.{badShape, badLimit, freshOf, openOf}
 use Rattle.machine.specs.Settle.{settleStep}
 use Rattle.machine.specs.Calls.{Call, callOf, run}
 use Rattle.machine.proofs.store.Consistent.{Consistent}
@@ -26,6 +27,11 @@ pub record Lively (s : Store) : Type 0 where
 -- an opening
 pub open-lively : (shape : Shape) → openOf shape .answer ≡ Opened → Lively (openOf shape .store)
 open-lively shape e = record { flat = _; consistent = open-consistent shape e; live = open-live shape e; spare = open-spare shape }
+
+-- .. as the store that an opening in range makes
+pub fresh-lively : (shape : Shape) → badShape shape ≡ false → badLimit shape ≡ false → Lively (freshOf shape)
+unfolding openOf
+fresh-lively shape e f = let a : openOf shape .answer ≡ Opened = rw (e, f) in let l = open-lively shape a in rw (e, f) at l
 
 -- every call keeps it
 pub call-lively : (ins : Insertion) (s : Store) (x : Call) → Lively s → Lively (callOf ins s x .store)

@@ -79,7 +79,7 @@ last-same l x y e = head-eq-of-cons-eq (append-cancel-left l (x ∷ []) (y ∷ [
 only-self : (k : LaneNo) → k .0 < 8 → goesTo (only k) (k .0) ≡ true
 only-self k h = getD-set-same nobody (k .0) true false h
 
-only-other : (k : LaneNo) (j : ℕ) → j ≢ k .0 → goesTo (only k) j ≡ false
+pub only-other : (k : LaneNo) (j : ℕ) → j ≢ k .0 → goesTo (only k) j ≡ false
 only-other k j n = getD-set-other nobody (k .0) j true false n ∙ nobody-none j
 
 -- ---- the down queues after memory's part of a call that leaves its own lane's alone
