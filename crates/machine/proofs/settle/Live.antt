@@ -1,5 +1,5 @@
--- What a store has beside `Consistent` so that settle is never refused: room in the queues, a free line for every grant, and no
--- service that awaits nothing. Assumes nothing.
+-- What a store has beside `Consistent` so that no call finds a queue full and settle is never refused: few messages, a free line for every grant,
+-- and no service that awaits nothing. Assumes nothing.
 use Prim.Native.Nat.{ℕ, _+_, _<_, _≤_}
 use mathlib.Core.Path.{_≡_}
 use mathlib.Core.Logic.{_≢_}

@@ -36,28 +36,28 @@ abbrev Read : Store → Type 0
 Read s = (s .shape .n ≡ 0) ⊎ Lively s
 
 -- an answer that isn't 12, and such a store after it
-record NotFull (r : Outcome) : Type 0 where
+record Answered (r : Outcome) : Type 0 where
   answer : refusalNumber (r .answer) ≢ 12
   store : Read (r .store)
 
-refuse-not-full : (s : Store) (x : Refusal) → OtherThan12 x → Read s → NotFull (refuse x s)
+refuse-not-full : (s : Store) (x : Refusal) → OtherThan12 x → Read s → Answered (refuse x s)
 refuse-not-full s x e r = record { answer = other-than-12 x e; store = r }
 
 -- an opening
-open-not-full : (s : Store) (shape : Shape) → Read s → NotFull (openRecord s shape)
+open-not-full : (s : Store) (shape : Shape) → Read s → Answered (openRecord s shape)
 unfolding openRecord
 open-not-full s shape r =
-    pick NotFull (isOpen s) _ _ (λ _. refuse-not-full s AlreadyOpen refl r)
-    (λ _. pick NotFull (badShape shape) _ _ (λ _. refuse-not-full s InvalidShape refl r)
-    (λ e. pick NotFull (badLimit shape) _ _ (λ _. refuse-not-full s InvalidLimit refl r)
+    pick Answered (isOpen s) _ _ (λ _. refuse-not-full s AlreadyOpen refl r)
+    (λ _. pick Answered (badShape shape) _ _ (λ _. refuse-not-full s InvalidShape refl r)
+    (λ e. pick Answered (badLimit shape) _ _ (λ _. refuse-not-full s InvalidLimit refl r)
     (λ f. record { answer = λ q. absurd (omega arith); store = inr (fresh-lively shape e f) })))
 
 -- a call: 3 before an opening
-when-not-full : (s : Store) (x : Outcome) → Read s → (Lively s → NotFull x) → NotFull (whenOpen s x)
-when-not-full s x (inl e) g = pick NotFull (isOpen s) _ _ (λ o. absurd (true≢false (sym o ∙ ap (λ (n : ℕ). not (eqb n 0)) e))) (λ _. refuse-not-full s NotOpen refl (inl e))
-when-not-full s x (inr l) g = pick NotFull (isOpen s) _ _ (λ _. g l) (λ _. refuse-not-full s NotOpen refl (inr l))
+when-not-full : (s : Store) (x : Outcome) → Read s → (Lively s → Answered x) → Answered (whenOpen s x)
+when-not-full s x (inl e) g = pick Answered (isOpen s) _ _ (λ o. absurd (true≢false (sym o ∙ ap (λ (n : ℕ). not (eqb n 0)) e))) (λ _. refuse-not-full s NotOpen refl (inl e))
+when-not-full s x (inr l) g = pick Answered (isOpen s) _ _ (λ _. g l) (λ _. refuse-not-full s NotOpen refl (inr l))
 
-record-not-full : (s : Store) (x : Record) → Read s → NotFull (recordOf s x)
+record-not-full : (s : Store) (x : Record) → Read s → Answered (recordOf s x)
 unfolding recordOf callOf
 record-not-full s Record.Unknown r = refuse-not-full s UnknownKind refl r
 record-not-full s Record.Truncated r = refuse-not-full s Truncated refl r
