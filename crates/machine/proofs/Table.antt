@@ -16,15 +16,15 @@ use Rattle.machine.specs.Serve.{ordered, close, readyOf, serveMove, serv
 use Rattle.machine.specs.LaneBytes.{bitsIn, byteOf, ordersByte}
 use Rattle.machine.specs.Return.{returnMove, returnOf}
 use Rattle.machine.specs.Deliver.{reply, deliverLane, deliverOf}
-use Rattle.machine.specs.Settle.{settleStep, boundOf, advance, ended, repeatStep, settleOf}
+use Rattle.machine.specs.Settle.{settleStep, boundOf, exactOf, advance, ended, repeatStep, settleOf}
 use Rattle.machine.specs.Picture.{recordBytes, pictureBytes, pictureOf}
 use Rattle.machine.specs.Tape.{openRecord, recordOf, replayFrom, replayOf}
 use Rattle.machine.specs.Text.{decimalIn, answerText, lineText, linesText, endText, printed, printOf}
 use Rattle.machine.specs.Calls.{callOf, run}
 use Rattle.machine.specs.Attribution.{waitsAfter, originOf, attribute, operationsOf}
 use Rattle.machine.specs.Flat.{flatValues}
-use Rattle.machine.specs.Table.{Row, gone, sent, answering, purging, serving, copied, waits, returning, sending, flagged, flaggedIn, counting, awaitedBy, unservedByte, downsEach, rows, wholeTape, wholeText}
+use Rattle.machine.specs.Table.{Row, gone, sent, answering, purging, serving, copied, waits, returning, sending, flagged, flaggedIn, counting, awaitedBy, unservedByte, downsEach, allLetters, lettersOf, rows, wholeTape, wholeText}
 
 pub cases : map (λ (r : Row). r .given) rows ≡ map (λ (r : Row). r .wanted) rows
-unfolding upTo downTo anyTo countTo sumTo lowestTo gatherTo anyOf firstFrom slotOf serviceOf openServices freeSlot withService withUpdated withoutService badShape blankLane blankBlock freshOf openOf waitingIn begunIn activeOf quietOf badLane badFlags badControl corruptOf commitLane someFull postTo postAll commitMove completeWith hit evict miss admitsOf beginLane beginOf ordered countOf close readyOf serveMove serveOf bitsIn byteOf ordersByte returnMove returnOf reply deliverLane deliverOf settleStep boundOf advance ended repeatStep settleOf recordBytes pictureBytes pictureOf parseOf openRecord recordOf replayFrom replayOf decimalIn answerText lineText linesText endText printed printOf callOf run waitsAfter originOf attribute operationsOf flatValues gone sent answering purging serving copied waits returning sending flagged flaggedIn counting awaitedBy unservedByte downsEach rows wholeTape wholeText
+unfolding upTo downTo anyTo countTo sumTo lowestTo gatherTo anyOf firstFrom slotOf serviceOf openServices freeSlot withService withUpdated withoutService badShape blankLane blankBlock freshOf openOf waitingIn begunIn activeOf quietOf badLane badFlags badControl corruptOf commitLane someFull postTo postAll commitMove completeWith hit evict miss admitsOf beginLane beginOf ordered countOf close readyOf serveMove serveOf bitsIn byteOf ordersByte returnMove returnOf reply deliverLane deliverOf settleStep boundOf exactOf advance ended repeatStep settleOf recordBytes pictureBytes pictureOf parseOf openRecord recordOf replayFrom replayOf decimalIn answerText lineText linesText endText printed printOf callOf run waitsAfter originOf attribute operationsOf flatValues gone sent answering purging serving copied waits returning sending flagged flaggedIn counting awaitedBy unservedByte downsEach allLetters lettersOf rows wholeTape wholeText
 cases = refl

@@ -22,7 +22,7 @@ use Rattle.machine.specs.UseOrders.{UseOrders}
 use Rattle.machine.specs.SameValues.{SameValues}
 use Rattle.machine.specs.ServeByte.{ServeByByte}
 use Rattle.machine.specs.LoadBeside.{LoadBesideWait, LoadStandsAhead}
-use Rattle.machine.specs.Completion.{AlwaysSettles, SettleBound}
+use Rattle.machine.specs.Completion.{AlwaysSettles, SettleExact, SettleBound}
 use Rattle.machine.specs.NeverFull.{NeverFull, TapesNeverFull, QueuesStayShort}
 use Rattle.machine.specs.Sized.{Sized}
 use Rattle.machine.specs.PictureOrder.{PictureInOrder, OneOrder, SamePictures}
@@ -31,7 +31,7 @@ use Rattle.words.specs.declared.Shape.{Shape}
 use Rattle.machine.specs.Potential.{ExactSteps}
 use Rattle.machine.proofs.laws.UseOrders.{use-orders}
 use Rattle.machine.proofs.settle.Falls.{steps-exact}
-use Rattle.machine.proofs.settle.FallsSettle.{startAt, settle-count, repeat-ends, repeat-same}
+use Rattle.machine.proofs.settle.FallsSettle.{startAt, settle-exact, settle-count, repeat-ends, repeat-same}
 use Rattle.machine.proofs.places.PlacesCalls.{places-kept}
 use Rattle.machine.proofs.pictures.OneOrder.{one-order}
 use Rattle.machine.proofs.pictures.PictureOrder.{in-order, same-pictures}
@@ -134,14 +134,18 @@ no-tape-prints-12 = tapes-never-full
 pub queues-stay-short : QueuesStayShort
 queues-stay-short = stay-short
 
--- 01's bound: the count of a settle that isn't refused is at most R + G + 2 × Q + S + 2 × n × U (`boundOf`, specs/Settle.antt), on every
--- store, be it one that no opening gives; its arrays have their declared lengths, as every store of the program has (`SettleBound`,
--- specs/Completion.antt).
+-- 02, W8: the count of a settle that isn't refused is R + G + 2 × Q + S + 2 × U + 2 × O (`exactOf`, specs/Settle.antt), and O, the orders that
+-- it sent itself, is at most (n − 1) × U; on every store, be it one that no opening gives; its arrays have their declared lengths, as every store of
+-- the program has (`SettleExact`, specs/Completion.antt).
+pub settle-is-exact : SettleExact
+settle-is-exact = settle-exact
+
+-- .. so 01's bound: the count is at most R + G + 2 × Q + S + 2 × n × U (`boundOf`, specs/Settle.antt; `SettleBound`, specs/Completion.antt).
 pub settle-bound : SettleBound
 settle-bound = settle-count
 
--- To the exact step: each deliver, return and serve that isn't refused takes 1 from R + G + 2 × Q + S + 2 × U, and each order that a serve
--- sends adds 2 (`ExactSteps`, specs/Potential.antt). The bound follows, since a serve's orders are fewer than the lanes.
+-- Why: each deliver, return and serve that isn't refused takes 1 from R + G + 2 × Q + S + 2 × U, and each order that it queues adds 2; only a
+-- serve queues any, and fewer than the lanes (`ExactSteps`, specs/Potential.antt). A quiet store has 0 of it.
 pub settle-step-exact : (ins : Insertion) (s : Store) → corruptOf s ≡ false → Sized s → ExactSteps ins s
 settle-step-exact = steps-exact
 

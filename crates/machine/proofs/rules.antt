@@ -2,3 +2,4 @@
 pub mod Rules
 pub mod RulesMemory
 pub mod RulesSettle
+pub mod RulesQuiet

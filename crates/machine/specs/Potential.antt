@@ -1,25 +1,22 @@
 -- 01, "Settle", to the exact step: what each step makes of R + G + 2Q + S + 2U. This file only states it; proofs/Theorems.antt has the theorem.
 -- Assumes nothing.
-use Prim.Native.Nat.{ℕ, _+_, _-_, _*_}
+use Prim.Native.Nat.{ℕ, _+_, _*_}
 use mathlib.Core.Path.{_≡_}
-use mathlib.Core.Bool.{false, cond}
+use mathlib.Core.Bool.{false}
 use Rattle.words.specs.declared.LaneNo.{LaneNo}
 use Rattle.words.specs.Units.{blockOf}
-use Rattle.words.specs.Folds.{sumTo}
 use Rattle.lanes.specs.UseOrder.{Insertion}
 use Rattle.lanes.specs.declared.Waiting.{Waiting}
 use Rattle.lanes.specs.declared.Waiting.the-variants.{Idle, Unserved, Served}
 use Rattle.answers.specs.Refusals.{refusedOf}
 use Rattle.store.specs.declared.Store.{Store}
 use Rattle.store.specs.declared.Outcome.{Outcome}
-use Rattle.store.specs.declared.Control.{Control}
-use Rattle.store.specs.Control.{slotCount, slotAt}
 use Rattle.store.specs.Stores.{laneAt, blockAt}
 use Rattle.store.specs.LaneSets.{countOf}
 use Rattle.machine.specs.Serve.{ordered, serveOf}
 use Rattle.machine.specs.Return.{returnOf}
 use Rattle.machine.specs.Deliver.{deliverOf}
-use Rattle.machine.specs.Settle.{returnsIn, grantsIn, ordersIn, servicesIn, unservedIn, settleStep}
+use Rattle.machine.specs.Settle.{returnsIn, grantsIn, ordersIn, servicesIn, unservedIn, ordersQueued, settleStep}
 
 -- R + G + 2 × Q + S + u × U: the potential where u is 2, 01's bound where it is 2 × n
 unfoldable pub tallyOf : ℕ → Store → ℕ
@@ -35,21 +32,13 @@ ordersFor s k Idle = 0
 ordersFor s k (Unserved o) = countOf (ordered (blockAt s (blockOf (o .word) .0)) k (o .command))
 ordersFor s k (Served o) = 0
 
--- the answers that the control awaits, over all services
-unfoldable pub awaitedIn : Control → ℕ
-awaitedIn x = sumTo (λ i. cond (slotAt x i .busy) (slotAt x i .service .awaited) 0) slotCount
-
--- the orders that a step sent, by the control before and after it: those that the service which it opened awaits; no other step raises the sum
-abbrev pub sentIn : Control → Control → ℕ
-sentIn x y = awaitedIn y - awaitedIn x
-
--- a step that isn't refused takes 1 from the potential, and each order that it sends adds 2
+-- a step that isn't refused takes 1 from the potential, and each order that it queues adds 2
 abbrev pub Costs : ℕ → Store → Outcome → Type 0
-Costs orders s r = refusedOf (r .answer) ≡ false → potentialOf (r .store) + 1 ≡ potentialOf s + 2 * orders
+Costs orders s r = refusedOf (r .answer) ≡ false → (ordersQueued s (r .store) ≡ orders) × (potentialOf (r .store) + 1 ≡ potentialOf s + 2 * orders)
 
--- only a serve sends orders; a step of settle is one of the three
+-- only a serve queues orders; a step of settle is one of the three
 pub record ExactSteps (ins : Insertion) (s : Store) : Type 0 where
   pub deliver : (k : LaneNo) → Costs 0 s (deliverOf ins s k)
   pub return : (k : LaneNo) → Costs 0 s (returnOf s k)
   pub serve : (k : LaneNo) → Costs (ordersFor s k (laneAt s (k .0) .waiting)) s (serveOf s k)
-  pub step : Costs (sentIn (s .control) (settleStep ins s .store .control)) s (settleStep ins s)
+  pub step : Costs (ordersQueued s (settleStep ins s .store)) s (settleStep ins s)

@@ -42,7 +42,7 @@ use Rattle.machine.specs.declared.Settled.the-variants.{Steps}
 use Rattle.machine.specs.declared.Filled.the-variants as Filled
 use Rattle.machine.specs.Change.{posted}
 use Rattle.machine.specs.LaneBytes.{bitsIn, ordersByte, lanesOf}
-use Rattle.machine.specs.Settle.{lane, downsOf, boundOf}
+use Rattle.machine.specs.Settle.{lane, returnsIn, downsOf, grantsIn, ordersIn, servicesIn, unservedIn, boundOf, exactOf}
 use Rattle.machine.specs.Flags.{lineIn}
 use Rattle.machine.specs.NeverFull.{refusedBy, queueMost}
 use Rattle.machine.specs.Calls.{Call, Begin, Serve, Return, Deliver, Settle, Reply, Entry, run, historyOf}
@@ -55,14 +55,14 @@ use Rattle.machine.specs.Tape.{replayOf}
 use Rattle.machine.specs.Text.{refusedText, printed, textMost, printOf}
 use Rattle.store.specs.LaneSets.{LaneSet, nobody, including}
 
--- an answer in 01's words: open; done with lane, value and place; wait; step; refused with the number; a settle with its count and its completions
+-- an answer in 01's words: open; done with lane, value and place; wait; step; refused with the number; a settle with its count of steps, the orders that it sent, and its completions
 pub data Said : Type 0 where
   opens : Said
   done : ℕ → ℕ → ℕ → Said
   wait : Said
   step : Said
   refused : ℕ → Said
-  settled : ℕ → List Completion → Said
+  settled : ℕ → ℕ → List Completion → Said
 
 -- what a row shows: the answer of an opening with n, c and m of its store, the answers of a list of calls or of a tape, bytes, a word, a number, numbers, a flag, flags, a use order, or what a lent buffer is filled with
 pub data Shown : Type 0 where
@@ -91,7 +91,7 @@ wordOf (Refused r) = refused (numberOf r)
 
 abbrev pub said : Reply → Said
 said (Reply.Answers a) = wordOf a
-said (Reply.SettledWith (Steps count) cs) = settled count cs
+said (Reply.SettledWith (Steps counts) cs) = settled (counts .steps) (counts .orders) cs
 said (Reply.SettledWith (Settled.Refused r) cs) = refused (numberOf r)
 
 -- an opening; a refused one has the blank store
@@ -255,13 +255,13 @@ casesOf01 =
     on (opened 2 1 1)
     (store 0 0 4294967295 says wait ∷
     add 1 0 1 says wait ∷
-    Settle says settled 6 (of 0 4294967295 1 ∷ of 1 4294967295 2 ∷ []) ∷
+    Settle says settled 6 1 (of 0 4294967295 1 ∷ of 1 4294967295 2 ∷ []) ∷
     load 1 0 says done 1 0 3 ∷
     []) ∷
     record { given = Word (applyOf (Op.Exchange 9) 7 .word); wanted = Word 9 } ∷
     record { given = Word (applyOf (Op.Exchange 9) 7 .value); wanted = Word 7 } ∷
     -- two lanes storing to one word
-    on (opened 2 1 1) (store 0 0 7 says wait ∷ store 1 0 9 says wait ∷ Settle says settled 6 (of 0 7 1 ∷ of 1 9 2 ∷ []) ∷ []) ∷
+    on (opened 2 1 1) (store 0 0 7 says wait ∷ store 1 0 9 says wait ∷ Settle says settled 6 1 (of 0 7 1 ∷ of 1 9 2 ∷ []) ∷ []) ∷
     []
 
 -- the races that lure
@@ -379,7 +379,7 @@ shutOut =
     return 0 says refused 9 ∷
     []) ∷
     -- an invented settle count
-    on (opened 2 1 1) (Settle says settled 0 [] ∷ load 1 0 says wait ∷ Settle says settled 2 (of 1 0 1 ∷ []) ∷ Settle says settled 0 [] ∷ []) ∷
+    on (opened 2 1 1) (Settle says settled 0 0 [] ∷ load 1 0 says wait ∷ Settle says settled 2 0 (of 1 0 1 ∷ []) ∷ Settle says settled 0 0 [] ∷ []) ∷
     -- quiet with a lane waiting
     record { given = Flag (quietOf (opened 2 1 1)); wanted = Flag true } ∷
     record { given = Flag (quietOf (after (opened 2 1 1) (load 0 0 ∷ []))); wanted = Flag false } ∷
@@ -439,26 +439,26 @@ sentences =
     -- the oldest line is given up: block 1, since the load of block 0 is a use
     on (opened 2 2 3)
     (store 0 0 1 says wait ∷
-    Settle says settled 2 (of 0 1 1 ∷ []) ∷
+    Settle says settled 2 0 (of 0 1 1 ∷ []) ∷
     store 0 4 2 says wait ∷
-    Settle says settled 2 (of 0 2 2 ∷ []) ∷
+    Settle says settled 2 0 (of 0 2 2 ∷ []) ∷
     load 0 0 says done 0 1 3 ∷
     load 0 8 says wait ∷
-    Settle says settled 3 (of 0 0 4 ∷ []) ∷
+    Settle says settled 3 0 (of 0 0 4 ∷ []) ∷
     load 0 0 says done 0 1 5 ∷
     load 0 4 says wait ∷
     []) ∷
     -- a store's fill is a use too: the line of block 2 was filled last, so block 0 is given up
     on (opened 2 2 3)
     (store 0 0 1 says wait ∷
-    Settle says settled 2 (of 0 1 1 ∷ []) ∷
+    Settle says settled 2 0 (of 0 1 1 ∷ []) ∷
     store 0 4 2 says wait ∷
-    Settle says settled 2 (of 0 2 2 ∷ []) ∷
+    Settle says settled 2 0 (of 0 2 2 ∷ []) ∷
     load 0 0 says done 0 1 3 ∷
     store 0 8 3 says wait ∷
-    Settle says settled 3 (of 0 3 4 ∷ []) ∷
+    Settle says settled 3 0 (of 0 3 4 ∷ []) ∷
     store 0 4 4 says wait ∷
-    Settle says settled 3 (of 0 4 5 ∷ []) ∷
+    Settle says settled 3 0 (of 0 4 5 ∷ []) ∷
     load 0 8 says done 0 3 6 ∷
     load 0 0 says wait ∷
     []) ∷
@@ -480,7 +480,7 @@ sentences =
     (load 2 0 says wait ∷
     load 1 0 says wait ∷
     store 0 0 7 says wait ∷
-    Settle says settled 8 (of 0 7 1 ∷ of 1 7 2 ∷ of 2 7 3 ∷ []) ∷
+    Settle says settled 8 1 (of 0 7 1 ∷ of 1 7 2 ∷ of 2 7 3 ∷ []) ∷
     []) ∷
     -- after refusal 1 or 2 no more records are read
     reads (0 ∷ 2 ∷ 1 ∷ 1 ∷ 2 ∷ 0 ∷ []) (opens ∷ refused 1 ∷ []) ∷
@@ -564,9 +564,9 @@ ordered is s =
 unfoldable pub flagged : ℕ → Store → Store
 flagged k s = let b = blockAt s 0 in withBlock s 0 (withPresent (including (lane k) (b .present)) b)
 
--- settle's bound R + G + 2 × Q + S + 2 × n × U of a store
-abbrev pub bounded : Store → ℕ → Row
-bounded s bound = record { given = Number (boundOf s); wanted = Number bound }
+-- settle's bound R + G + 2 × Q + S + 2 × n × U of a store, and its exact count R + G + 2 × Q + S + 2 × U + 2 × O if it sends one order
+abbrev pub bounded : Store → ℕ → ℕ → Row
+bounded s bound exact = record { given = Numbers (boundOf s ∷ exactOf s 1 ∷ []); wanted = Numbers (bound ∷ exact ∷ []) }
 
 -- a load of lane k, unserved
 abbrev pub unserved : ℕ → Store → Store
@@ -574,27 +574,27 @@ unserved k s = waits k (Unserved (operation 0)) s
 
 abbrev pub bounds : List Row
 bounds =
-    bounded (opened 2 1 1) 0 ∷
+    bounded (opened 2 1 1) 0 2 ∷
     -- U is 1, then 2 of three lanes; a served operation is not in it
-    bounded (unserved 0 (opened 2 1 1)) 4 ∷
-    bounded (unserved 2 (unserved 0 (opened 3 1 1))) 12 ∷
-    bounded (waits 0 (Served (operation 0)) (opened 2 1 1)) 0 ∷
+    bounded (unserved 0 (opened 2 1 1)) 4 4 ∷
+    bounded (unserved 2 (unserved 0 (opened 3 1 1))) 12 6 ∷
+    bounded (waits 0 (Served (operation 0)) (opened 2 1 1)) 0 2 ∷
     -- G is 1, then 2: a bare grant is one
-    bounded (sent Grant 0 0 (opened 2 1 1)) 1 ∷
-    bounded (sent BareGrant 1 0 (sent Grant 0 0 (opened 2 1 1))) 2 ∷
+    bounded (sent Grant 0 0 (opened 2 1 1)) 1 3 ∷
+    bounded (sent BareGrant 1 0 (sent Grant 0 0 (opened 2 1 1))) 2 4 ∷
     -- S and Q are 1; then S and R
-    bounded (serving 1 0 1 (sent Purge 0 0 (opened 2 1 1))) 3 ∷
-    bounded (serving 1 0 1 (gone 0 0 (opened 2 1 1))) 2 ∷
+    bounded (serving 1 0 1 (sent Purge 0 0 (opened 2 1 1))) 3 5 ∷
+    bounded (serving 1 0 1 (gone 0 0 (opened 2 1 1))) 2 4 ∷
     -- S is 2
-    bounded (serving 0 1 1 (serving 1 0 1 (openedWith 2 1 2 2))) 2 ∷
+    bounded (serving 0 1 1 (serving 1 0 1 (openedWith 2 1 2 2))) 2 4 ∷
     -- R and U are 1
-    bounded (unserved 0 (gone 0 0 (opened 2 1 1))) 5 ∷
+    bounded (unserved 0 (gone 0 0 (opened 2 1 1))) 5 5 ∷
     -- all of them are 1, of four lanes
-    bounded (unserved 0 (serving 3 2 1 (sent Purge 2 2 (sent Grant 1 3 (gone 0 0 (opened 4 1 4)))))) 13 ∷
+    bounded (unserved 0 (serving 3 2 1 (sent Purge 2 2 (sent Grant 1 3 (gone 0 0 (opened 4 1 4)))))) 13 9 ∷
     -- .. and after calls: a service and its UPDATE, then the UPDATED; an EJECT and the operation that it made room for
-    bounded (after (opened 2 1 1) (store 0 0 7 ∷ serve 0 ∷ deliver 0 ∷ load 1 0 ∷ serve 1 ∷ [])) 3 ∷
-    bounded (after (opened 2 1 1) (store 0 0 7 ∷ serve 0 ∷ deliver 0 ∷ load 1 0 ∷ serve 1 ∷ deliver 0 ∷ [])) 2 ∷
-    bounded (after (opened 2 1 2) (load 0 0 ∷ serve 0 ∷ deliver 0 ∷ load 0 4 ∷ [])) 5 ∷
+    bounded (after (opened 2 1 1) (store 0 0 7 ∷ serve 0 ∷ deliver 0 ∷ load 1 0 ∷ serve 1 ∷ [])) 3 5 ∷
+    bounded (after (opened 2 1 1) (store 0 0 7 ∷ serve 0 ∷ deliver 0 ∷ load 1 0 ∷ serve 1 ∷ deliver 0 ∷ [])) 2 4 ∷
+    bounded (after (opened 2 1 2) (load 0 0 ∷ serve 0 ∷ deliver 0 ∷ load 0 4 ∷ [])) 5 5 ∷
     []
 
 -- a row of 14: serve finds the store corrupt, or finds nothing to serve
@@ -744,7 +744,7 @@ places =
     []) ∷
     -- a sum of 4,294,967,295: 17 before 12; other calls are not refused by it
     on (counting 4294967295 (answering 8 0 0 (filled 0 0 (opened 2 1 2)))) (load 0 4 says refused 17 ∷ serve 0 says refused 9 ∷ []) ∷
-    on (counting 4294967295 (opened 2 1 1)) (Settle says settled 0 [] ∷ store 0 0 7 says refused 17 ∷ exchange 1 0 7 says refused 17 ∷ add 1 0 7 says refused 17 ∷ []) ∷
+    on (counting 4294967295 (opened 2 1 1)) (Settle says settled 0 0 [] ∷ store 0 0 7 says refused 17 ∷ exchange 1 0 7 says refused 17 ∷ add 1 0 7 says refused 17 ∷ []) ∷
     -- a larger sum is 14, also where the operation that waits is served
     on (counting 4294967295 (unserved 0 (opened 2 1 1)))
     (load 1 0 says refused 14 ∷ serve 0 says refused 14 ∷ return 0 says refused 14 ∷ deliver 0 says refused 14 ∷ Settle says refused 14 ∷ []) ∷
@@ -758,7 +758,7 @@ places =
     sound (counting 4294967295 (unserved 2 (opened 2 1 1))) ∷
     on (counting 4294967294 (unserved 2 (opened 2 1 1))) (load 0 0 says wait ∷ load 1 0 says refused 17 ∷ []) ∷
     -- settle's completions have the next places in the order listed; a refused settle that had completed one leaves the count
-    on (counting 4294967293 (opened 2 1 1)) (store 0 0 7 says wait ∷ store 1 0 9 says wait ∷ Settle says settled 6 (of 0 7 4294967294 ∷ of 1 9 4294967295 ∷ []) ∷ []) ∷
+    on (counting 4294967293 (opened 2 1 1)) (store 0 0 7 says wait ∷ store 1 0 9 says wait ∷ Settle says settled 6 1 (of 0 7 4294967294 ∷ of 1 9 4294967295 ∷ []) ∷ []) ∷
     on (gone 1 0 (opened 2 1 2)) (load 0 0 says wait ∷ serve 0 says step ∷ Settle says refused 16 ∷ deliver 0 says done 0 0 1 ∷ []) ∷
     []
 
@@ -777,17 +777,17 @@ filling x = x ∷ serve 0 ∷ deliver 0 ∷ []
 abbrev pub stockCount : Said → Said → List Turn
 stockCount first second =
     load 0 0 says wait ∷
-    Settle says settled 2 (of 0 0 1 ∷ []) ∷
+    Settle says settled 2 0 (of 0 0 1 ∷ []) ∷
     load 0 4 says wait ∷
-    Settle says settled 2 (of 0 0 2 ∷ []) ∷
+    Settle says settled 2 0 (of 0 0 2 ∷ []) ∷
     load 0 0 says done 0 0 3 ∷
     load 0 4 says done 0 0 4 ∷
     load 0 8 says wait ∷
-    Settle says settled 2 (of 0 0 5 ∷ []) ∷
+    Settle says settled 2 0 (of 0 0 5 ∷ []) ∷
     load 0 12 says wait ∷
-    Settle says settled 3 (of 0 0 6 ∷ []) ∷
+    Settle says settled 3 0 (of 0 0 6 ∷ []) ∷
     load 0 16 says wait ∷
-    Settle says settled 3 (of 0 0 7 ∷ []) ∷
+    Settle says settled 3 0 (of 0 0 7 ∷ []) ∷
     load 0 0 says first ∷
     load 0 4 says second ∷
     []
@@ -1100,6 +1100,31 @@ longQueues =
     record { given = Bytes (refusedText QueueFull); wanted = Bytes (114 ∷ 101 ∷ 102 ∷ 117 ∷ 115 ∷ 101 ∷ 100 ∷ 32 ∷ 49 ∷ 50 ∷ []) } ∷
     []
 
+-- 02, W8. A grant of block 1 to lane 0; lane 0's PURGE and GONE of block 0, both of the service of lane 1; lane 2's store to block 1, which is not
+-- served, and of which lane 0 has PRESENT
+unfoldable pub allLetters : Store
+allLetters =
+    storing 2 4 9
+    (flaggedIn 1 0
+    (waits 1 (Served (record { command = ReadExclusive; op = Op.Store 7; word = word 0 }))
+    (serving 1 0 2 (gone 0 0 (sent Grant 0 1 (sent Purge 0 0 (waits 0 (Served (operation 4)) (opened 3 1 2))))))))
+
+-- R, G, Q, S and U of a store
+unfoldable pub lettersOf : Store → List ℕ
+lettersOf s = returnsIn s ∷ grantsIn s ∷ ordersIn s ∷ servicesIn s ∷ unservedIn s ∷ []
+
+abbrev pub exactSteps : List Row
+exactSteps =
+    -- each letter is 1, and so is O: 1 + 1 + 2 × 1 + 1 + 2 × 1 + 2 × 1
+    record { given = Numbers (lettersOf allLetters); wanted = Numbers (1 ∷ 1 ∷ 1 ∷ 1 ∷ 1 ∷ []) } ∷
+    on allLetters (Settle says settled 9 1 (of 0 0 1 ∷ of 1 7 2 ∷ of 2 9 3 ∷ []) ∷ []) ∷
+    -- an order that was queued before is not in O; one that settle's own serve queues is, and the count is then the bound
+    on (opened 2 1 1) (store 0 0 7 says wait ∷ serve 0 says step ∷ deliver 0 says done 0 7 1 ∷ load 1 0 says wait ∷ serve 1 says step ∷ Settle says settled 3 0 (of 1 7 2 ∷ []) ∷ []) ∷
+    on (opened 2 1 1) (store 0 0 7 says wait ∷ serve 0 says step ∷ deliver 0 says done 0 7 1 ∷ load 1 0 says wait ∷ Settle says settled 4 1 (of 1 7 2 ∷ []) ∷ []) ∷
+    -- a store that no opening gives: lanes 1 and 2 have PRESENT and no line
+    on (flagged 1 (flagged 2 (storing 0 0 7 (opened 3 1 1)))) (Settle says settled 6 2 (of 0 7 1 ∷ []) ∷ []) ∷
+    []
+
 -- the table
 unfoldable pub rows : List Row
-rows = casesOf01 ++ races ++ shutOut ++ bounds ++ sentences ++ pictures ++ corruptStores ++ heldStores ++ places ++ insertions ++ serveBytes ++ loadsBeside ++ services ++ longQueues
+rows = casesOf01 ++ races ++ shutOut ++ bounds ++ sentences ++ pictures ++ corruptStores ++ heldStores ++ places ++ insertions ++ serveBytes ++ loadsBeside ++ services ++ longQueues ++ exactSteps

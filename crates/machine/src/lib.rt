@@ -49,9 +49,15 @@ pub struct ByteMove {
     pub message: DownMessage,
 }
 
-// What settle answers: how many steps it took, or why it is refused.
+// The counts of a settle: its steps, and the orders that it sent itself.
+pub struct StepCount {
+    pub steps: u16,
+    pub orders: u8,
+}
+
+// What settle answers: how many steps it took, with the orders that it sent, or why it is refused.
 pub enum Settled {
-    Steps(u16),
+    Steps(StepCount),
     Refused(Refusal),
 }
 

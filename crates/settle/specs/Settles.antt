@@ -1,5 +1,6 @@
 -- How settle's code gives what 01 says of it, and what its parts compute. Assumes nothing.
-use Prim.Native.Nat.{ℕ, _+_, _-_, _≤_}
+use Prim.Native.Nat.{_+_, _-_, _≤_}
+use mathlib.Core.Path.{_≡_}
 use mathlib.Core.List.{List, _++_}
 use lib.ListN.{length, set, replicate}
 use Rattle.answers.specs.declared.Answer.{Answer}
@@ -10,7 +11,8 @@ use Rattle.answers.specs.declared.Refusal.the-variants.{Unexpected}
 use Rattle.answers.specs.Completions.{completionOf}
 use Rattle.machine.specs.declared.Settled.{Settled}
 use Rattle.machine.specs.declared.Settled.the-variants.{Steps}
-use Rattle.machine.specs.Settle.{Settlement}
+use Rattle.store.specs.declared.Store.{Store}
+use Rattle.machine.specs.Settle.{boundOf, exactOf, Settlement}
 use Rattle.settle.specs.declared.Completions.{Completions}
 use Rattle.settle.specs.declared.SettleOutcome.{SettleOutcome}
 
@@ -26,10 +28,10 @@ arrayOf cs = record { len = length cs; at = padded cs }
 abbrev pub outcomeOf : Settlement → SettleOutcome
 outcomeOf r = record { answer = r .answer; completions = arrayOf (r .completions); store = r .store }
 
--- a step count is at most the bound; a refusal has none
-abbrev pub CountWithin : ℕ → Settled → Type 0
-CountWithin most (Steps count) = count ≤ most
-CountWithin most (Settled.Refused r) = Unit {0}
+-- the count of steps is exact, so at most the bound, both of the store before; a refusal has none
+abbrev pub Counted : Store → Settled → Type 0
+Counted s (Steps counts) = (counts .steps ≡ exactOf s (counts .orders)) × (counts .steps ≤ boundOf s)
+Counted s (Settled.Refused r) = Unit {0}
 
 -- the completion of an answer, if it has one, behind the others
 abbrev pub listedOf : Completions → Answer → Completions

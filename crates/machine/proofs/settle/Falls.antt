@@ -26,15 +26,15 @@ use Rattle.machine.specs.Change.{refuse}
 use Rattle.machine.specs.Serve.{serveOf}
 use Rattle.machine.specs.Return.{returnOf}
 use Rattle.machine.specs.Deliver.{deliverOf}
-use Rattle.machine.specs.Settle.{settleStep, boundOf, lane}
+use Rattle.machine.specs.Settle.{settleStep, ordersQueued, boundOf, lane}
 use Rattle.machine.specs.Sized.{Sized}
 use Rattle.machine.proofs.laws.Sums.{sum-most}
 use Rattle.machine.proofs.bounds.Sound.{sound}
 use Rattle.machine.proofs.bounds.SizedKeeps.{serve-move-lane, return-move-lane}
 use Rattle.machine.proofs.bounds.KeepsServe.{ordered-fewer}
-use Rattle.machine.specs.Potential.{tallyOf, potentialOf, ordersFor, sentIn, ExactSteps}
-use Rattle.machine.proofs.settle.FallsLane.{weight, weight-most, deliver-lane-takes}
-use Rattle.machine.proofs.settle.FallsStore.{tally-sum, Advancing, commit-lane-advances, commit-move-advances}
+use Rattle.machine.specs.Potential.{tallyOf, potentialOf, ordersFor, ExactSteps}
+use Rattle.machine.proofs.settle.FallsLane.{tallied, weight, weight-most, deliver-lane-lighter, deliver-lane-orders}
+use Rattle.machine.proofs.settle.FallsStore.{tally-sum, Advances, Advancing, commit-lane-advances, commit-move-advances}
 use Rattle.machine.proofs.settle.FallsMove.{serve-move-weighs, return-move-weighs}
 use Rattle.machine.proofs.bounds.Counts.{step-counts, step-begun}
 use Rattle.machine.proofs.rules.Rules.{serve-rule, return-rule, deliver-rule}
@@ -54,8 +54,9 @@ deliver-advances ins u s k g =
     (λ e l.
     let a = sound s e in
     let h = a .n-high in
-    commit-lane-advances u s k _ (g .lanes) h l
-    (deliver-lane-takes ins u (s .shape .c) (laneAt s (k .0)) (g .lane (k .0) (omega arith)) (a .lane (k .0) l .downs .short)))
+    let z = g .lane (k .0) (omega arith) in
+    let d = a .lane (k .0) l .downs .short in
+    commit-lane-advances u s k _ (g .lanes) h l (deliver-lane-lighter ins (s .shape .c) (laneAt s (k .0)) z d u) (deliver-lane-orders ins (s .shape .c) (laneAt s (k .0)) z d))
 
 return-advances : (u : ℕ) (s : Store) (k : LaneNo) → Sized s → Advancing u 0 0 s (returnOf s k)
 return-advances u s k g =
@@ -91,7 +92,7 @@ orders-fewer s k e l = go (laneAt s (k .0) .waiting) refl
 
 -- a step of settle: what it makes of the potential, so of the bound
 record Falling (s : Store) (r : Outcome) : Type 0 where
-  potential : potentialOf (r .store) + 1 ≡ potentialOf s + 2 * sentIn (s .control) (r .store .control)
+  potential : potentialOf (r .store) + 1 ≡ potentialOf s + 2 * ordersQueued s (r .store)
   bound : boundOf (r .store) < boundOf s
 
 -- .. where 2n for an operation served pays for its grant or service and for its orders
@@ -102,7 +103,7 @@ falls served orders s r a f h =
     let q = a (2 * s .shape .n) h in
     let b = p .exact in
     let c = q .exact in
-    let d = p .sends in
+    let d = p .queued in
     let i = bound-tally s in
     let j = bound-tally (r .store) ∙ ap (λ (n : ℕ). tallyOf (2 * n) (r .store)) (p .lanes) in
     record { potential = omega arith; bound = omega arith }
@@ -116,13 +117,17 @@ step-falls ins s e g =
     (λ _ _ k l _. let f = orders-fewer s (lane k) e l in falls 1 _ s _ (λ u. serve-advances u s (lane k) g) (omega arith))
     (λ _ _ _ h. absurd (true≢false h))
 
+-- what the potential has it cost
+costs : (served orders : ℕ) (s : Store) (r : Outcome) → Advances 2 served orders s r → (ordersQueued s (r .store) ≡ orders) × (potentialOf (r .store) + 1 ≡ potentialOf s + 2 * orders)
+costs served orders s r a = (a .queued, (let b = a .exact in omega arith))
+
 pub steps-exact : (ins : Insertion) (s : Store) → corruptOf s ≡ false → Sized s → ExactSteps ins s
 steps-exact ins s e g =
     record {
-      deliver = λ k h. let a = deliver-advances ins 2 s k g h .exact in omega arith;
-      return = λ k h. let a = return-advances 2 s k g h .exact in omega arith;
-      serve = λ k h. let a = serve-advances 2 s k g h .exact in omega arith;
-      step = λ h. step-falls ins s e g h .potential;
+      deliver = λ k h. costs 0 0 s _ (deliver-advances ins 2 s k g h);
+      return = λ k h. costs 0 0 s _ (return-advances 2 s k g h);
+      serve = λ k h. costs 1 _ s _ (serve-advances 2 s k g h);
+      step = λ h. (refl, step-falls ins s e g h .potential);
     }
 
 pub settle-falls : (ins : Insertion) (s : Store) → corruptOf s ≡ false → Sized s → refusedOf (settleStep ins s .answer) ≡ false → boundOf (settleStep ins s .store) < boundOf s
@@ -139,7 +144,7 @@ bound-most s e =
     let a = sound s e in
     let h = a .n-high in
     let b = bound-tally s ∙ tally-sum (2 * s .shape .n) s in
-    let c = sum-most (λ k. weight (2 * s .shape .n) (laneAt s k)) 40 (s .shape .n)
+    let c = sum-most (λ k. weight (tallied (2 * s .shape .n)) (laneAt s k)) 40 (s .shape .n)
     (λ j l. let d = weight-most (2 * s .shape .n) (laneAt s j) (a .lane j l .returns .short) in omega arith) in
     let d = a .control .most in
     let f = a .limit-high in

@@ -1,6 +1,6 @@
--- 01, "Settle": its count is at most the bound, and its completions are at most the operations that wait. The definition repeats
+-- 01, "Settle"; 02, W8: its count is exact, so at most the bound, and its completions are at most the operations that wait. The definition repeats
 -- often enough: more repetitions change nothing. Assumes nothing.
-use Prim.Native.Nat.{ℕ, zero, suc, _+_, _<_, _≤_}
+use Prim.Native.Nat.{ℕ, zero, suc, _+_, _-_, _*_, _<_, _≤_}
 use mathlib.Core.Path.{_≡_, refl, sym, ap, _∙_}
 use mathlib.Core.Bool.{true, false, _||_, true≢false}
 use mathlib.Core.List.{[]}
@@ -17,20 +17,24 @@ use Rattle.answers.specs.Completions.{doneIn}
 use Rattle.store.specs.declared.Store.{Store}
 use Rattle.machine.specs.Begun.{waitingIn}
 use Rattle.store.specs.Quiet.{quietOf}
+use Rattle.machine.specs.declared.StepCount.{StepCount}
 use Rattle.machine.specs.declared.Settled.the-variants.{Steps}
 use Rattle.machine.specs.Corruption.{corruptOf}
-use Rattle.machine.specs.Settle.{Progress, settleStep, boundOf, advance, ended, repeatStep, Settlement, refuseSettle, reached, unlessRefused, settleOf}
+use Rattle.machine.specs.Potential.{tallyOf, potentialOf}
+use Rattle.machine.specs.Completion.{Exact, SettleExact, SettleBound}
+use Rattle.machine.specs.Settle.{Progress, settleStep, unservedIn, boundOf, exactOf, advance, ended, repeatStep, Settlement, refuseSettle, reached, unlessRefused, settleOf}
 use Rattle.machine.specs.Sized.{Sized}
 use Rattle.machine.proofs.laws.Tests.{on}
 use Rattle.machine.proofs.bounds.Sound.{sound}
 use Rattle.machine.proofs.bounds.KeepsLane.{clash}
 use Rattle.machine.proofs.bounds.KeepsRepeat.{settle-step-keeps}
 use Rattle.machine.proofs.bounds.SizedKeeps.{settle-step-sized, sized-whole}
-use Rattle.machine.proofs.settle.Falls.{settle-falls, settle-completes}
+use Rattle.machine.proofs.settle.FallsStore.{quiet-tally}
+use Rattle.machine.proofs.settle.Falls.{steps-exact, settle-falls, settle-completes}
 
 -- where settle starts
 abbrev pub startAt : Store → Progress
-startAt s = record { count = 0; completions = []; answer = Step; store = s }
+startAt s = record { count = 0; orders = 0; completions = []; answer = Step; store = s }
 
 -- a settle of no steps; one that has ended goes no further; one that has not takes a step
 pub repeat-none : (ins : Insertion) (p : Progress) → repeatStep ins zero p ≡ p
@@ -51,28 +55,31 @@ refused-ended : (p : Progress) → refusedOf (p .answer) ≡ true → ended p �
 unfolding ended
 refused-ended p e = rw e
 
--- what holds of a settle before a step and of it later: the store stays so, each step costs 1 of the bound, and each completion
--- is of an operation that waited
+-- what holds of a settle before a step and of it later: the store stays so, each step costs 1 of the bound, and 1 of the potential to which each
+-- order queued adds 2, and each completion is of an operation that waited
 pub record Onward (p q : Progress) : Type 0 where
   pub not-corrupt : corruptOf (q .store) ≡ false
   pub sized : Sized (q .store)
   pub within : q .count + boundOf (q .store) ≤ p .count + boundOf (p .store)
+  pub exact : q .count + potentialOf (q .store) + 2 * p .orders ≡ p .count + potentialOf (p .store) + 2 * q .orders
   pub listed : length (q .completions) + waitingIn (q .store) ≡ length (p .completions) + waitingIn (p .store)
 
 same-onward : (p : Progress) → corruptOf (p .store) ≡ false → Sized (p .store) → Onward p p
-same-onward p e g = record { not-corrupt = e; sized = g; within = omega arith; listed = refl }
+same-onward p e g = record { not-corrupt = e; sized = g; within = omega arith; exact = refl; listed = refl }
 
 -- a step that is not refused
 pub advance-onward : (ins : Insertion) (p : Progress) → corruptOf (p .store) ≡ false → Sized (p .store) → refusedOf (advance ins p .answer) ≡ false → Onward p (advance ins p)
 unfolding advance
 advance-onward ins p e g h =
     let a = settle-falls ins (p .store) e g h in
+    let d = steps-exact ins (p .store) e g .step h .1 in
     let b = settle-completes ins (p .store) g in
     let c = length-append (p .completions) (doneIn (settleStep ins (p .store) .answer)) in
     record {
       not-corrupt = settle-step-keeps ins (p .store) e (sized-whole (p .store) (sound (p .store) e .n-high) g);
       sized = settle-step-sized ins (p .store) g;
       within = omega arith;
+      exact = omega arith;
       listed = omega arith;
     }
 
@@ -136,7 +143,13 @@ repeat-onward ins (suc f) p e g h =
         let b = r (a .not-corrupt) (a .sized) d in
         let c = a .within in
         let i = b .within in
-        record { not-corrupt = b .not-corrupt; sized = b .sized; within = omega arith; listed = b .listed ∙ a .listed })
+        let j = a .exact in
+        let k = b .exact in
+        record { not-corrupt = b .not-corrupt; sized = b .sized; within = omega arith; exact = omega arith; listed = b .listed ∙ a .listed })
+
+-- what a settle that has ended counts
+abbrev pub countsOf : Progress → StepCount
+countsOf p = record { steps = p .count; orders = p .orders }
 
 -- where the whole settle ends
 abbrev pub lastOf : Insertion → Store → Progress
@@ -150,7 +163,7 @@ last-quiet ins s e g h = sym (ap (λ b. b || quietOf (lastOf ins s .store)) h) �
 -- the whole settle: it is refused, or no step was and the store is quiet
 pub settle-rule : (ins : Insertion) (P : Settlement → Type 0) (s : Store) → ((r : Refusal) → P (refuseSettle r s)) →
     (corruptOf s ≡ false → refusedOf (lastOf ins s .answer) ≡ false → quietOf (lastOf ins s .store) ≡ true →
-    P (record { answer = Steps (lastOf ins s .count); completions = lastOf ins s .completions; store = lastOf ins s .store })) → P (settleOf ins s)
+    P (record { answer = Steps (countsOf (lastOf ins s)); completions = lastOf ins s .completions; store = lastOf ins s .store })) → P (settleOf ins s)
 unfolding settleOf
 settle-rule ins P s refused settled =
     pick P (corruptOf s) (refuseSettle Corrupt s) _ (λ _. refused Corrupt) (λ e. go e (lastOf ins s .answer) refl)
@@ -165,11 +178,42 @@ settle-rule ins P s refused settled =
     go e Step q = quiet e (ap refusedOf q)
     go e (Answer.Refused n) q = refused n
 
--- 01: the count is at most R + G + 2Q + S + 2nU, for every settle that isn't refused
-pub settle-count : (ins : Insertion) (s : Store) → Sized s → (count : ℕ) → settleOf ins s .answer ≡ Steps count → count ≤ boundOf s
-settle-count ins s g =
-    settle-rule ins (λ (r : Settlement). (count : ℕ) → r .answer ≡ Steps count → count ≤ boundOf s) s (λ r count e. clash (cc))
-    (λ c h _ count e.
-    let a = repeat-onward ins (suc (boundOf s)) (startAt s) c g h .within in
-    let b : _≡_ {A = ℕ} (lastOf ins s .count) count = cc in
-    omega arith)
+-- the exact count of a settle that sends so many orders
+exact-potential : (s : Store) (orders : ℕ) → exactOf s orders ≡ potentialOf s + 2 * orders
+unfolding exactOf tallyOf
+exact-potential s orders = refl
+
+-- the bound has 2 × (n − 1) more than the potential for each unserved operation
+pub bound-more : (s : Store) → corruptOf s ≡ false → boundOf s ≡ potentialOf s + 2 * ((s .shape .n - 1) * unservedIn s)
+unfolding boundOf tallyOf
+bound-more s e =
+    let h = sound s e .n-low in
+    let n : s .shape .n ≡ s .shape .n - 1 + 1 = omega arith in
+    let b = ap (λ (k : ℕ). 2 * k * unservedIn s) n in
+    omega arith
+
+-- 02, W8: the count is R + G + 2Q + S + 2U + 2O, and O is at most (n − 1) × U, for every settle that isn't refused
+pub settle-exact : SettleExact
+settle-exact ins s g =
+    settle-rule ins (λ (r : Settlement). (counts : StepCount) → r .answer ≡ Steps counts → Exact s counts) s (λ r counts e. clash (cc))
+    (λ c h q counts e. let b : countsOf (lastOf ins s) ≡ counts = cc in rw (← b) (last c h q))
+  where
+    last : corruptOf s ≡ false → refusedOf (lastOf ins s .answer) ≡ false → quietOf (lastOf ins s .store) ≡ true → Exact s (countsOf (lastOf ins s))
+    last c h q =
+        let a = repeat-onward ins (suc (boundOf s)) (startAt s) c g h in
+        let w = a .within in
+        let x = a .exact in
+        let z = quiet-tally 2 (lastOf ins s .store) q in
+        let y = exact-potential s (lastOf ins s .orders) in
+        let m = bound-more s c in
+        record { steps = omega arith; orders = omega arith }
+
+-- 01: so it is at most R + G + 2Q + S + 2nU
+pub settle-count : SettleBound
+settle-count ins s g counts e =
+    let a = settle-exact ins s g counts e in
+    let b = a .steps in
+    let c = a .orders in
+    let d = exact-potential s (counts .orders) in
+    let m = bound-more s (settle-rule ins (λ (r : Settlement). r .answer ≡ Steps counts → corruptOf s ≡ false) s (λ r x. clash (cc)) (λ x _ _ _. x) e) in
+    omega arith

@@ -21,7 +21,7 @@ use Rattle.machine.specs.Attribution.{Begun}
 use Rattle.machine.specs.Demand3.{begun, operations}
 use Rattle.machine.specs.Completion.{Settles, AlwaysSettles}
 use Rattle.machine.proofs.bounds.KeepsLane.{clash}
-use Rattle.machine.proofs.settle.FallsSettle.{startAt, lastOf, last-quiet}
+use Rattle.machine.proofs.settle.FallsSettle.{countsOf, startAt, lastOf, last-quiet}
 use Rattle.machine.proofs.store.OrderOfMemory.{order-of-memory}
 use Rattle.machine.proofs.settle.Lively.{Lively, open-lively, step-lively, run-lively}
 use Rattle.machine.proofs.settle.LiveStep.{step-goes}
@@ -38,7 +38,7 @@ unless-goes (Answer.Refused n) s r e = clash (cc)
 
 -- a settle of which no step is refused
 settle-steps : (ins : Insertion) (s : Store) → corruptOf s ≡ false → refusedOf (lastOf ins s .answer) ≡ false → quietOf (lastOf ins s .store) ≡ true →
-    settleOf ins s ≡ record { answer = Steps (lastOf ins s .count); completions = lastOf ins s .completions; store = lastOf ins s .store }
+    settleOf ins s ≡ record { answer = Steps (countsOf (lastOf ins s)); completions = lastOf ins s .completions; store = lastOf ins s .store }
 unfolding settleOf
 settle-steps ins s e h q = rw e (unless-goes (lastOf ins s .answer) s (reached s (lastOf ins s)) h ∙ rw q)
 
@@ -60,7 +60,7 @@ settle-goes ins s l =
     let h = repeat-goes ins (suc (boundOf s)) (startAt s) refl l in
     let q = last-quiet ins s e (l .consistent .sized) h in
     let z = settle-steps ins s e h q in
-    record { count = lastOf ins s .count; answer = ap (λ (r : Settlement). r .answer) z; quiet = ap (λ (r : Settlement). quietOf (r .store)) z ∙ q }
+    record { counts = countsOf (lastOf ins s); answer = ap (λ (r : Settlement). r .answer) z; quiet = ap (λ (r : Settlement). quietOf (r .store)) z ∙ q }
 
 -- settle is never refused, and leaves a quiet store
 pub always-settles : AlwaysSettles

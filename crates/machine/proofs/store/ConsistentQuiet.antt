@@ -20,9 +20,8 @@ use Rattle.lanes.specs.declared.Found.the-variants.{At, Nothing}
 use Rattle.lanes.specs.Search.{searchOf}
 use Rattle.lanes.specs.Waits.{idleOf}
 use Rattle.store.specs.declared.Store.{Store}
-use Rattle.store.specs.Control.{busyOf}
 use Rattle.store.specs.Stores.{laneAt, blockAt}
-use Rattle.store.specs.Quiet.{activeOf, quietOf}
+use Rattle.store.specs.Quiet.{quietOf}
 use Rattle.machine.specs.Flat.{flatBlock}
 use Rattle.machine.specs.Flags.{lineIn, presentIn, hasCopy, owns, shownOf, Flags}
 use Rattle.machine.proofs.laws.Tests.{on, and-both, not-false}
@@ -37,7 +36,7 @@ use Rattle.machine.proofs.laws.Lines.{holds-valid, valid-holds}
 use Rattle.machine.proofs.projection.Searches.{found-holds, search-at}
 use Rattle.machine.proofs.projection.SeenBegin.{held-line}
 use Rattle.machine.proofs.store.Consistent.{Consistent, pendingIn}
-use Rattle.machine.proofs.rules.Rules.{idle-waiting}
+use Rattle.machine.proofs.rules.RulesQuiet.{lane-still}
 
 -- a loop keeps what each turn keeps
 loop-keeps : {A : Type 0} (P : A → Type 0) (g : ℕ → A → A) (n : ℕ) (a : A) → ((k : ℕ) → k < n → (x : A) → P x → P (g k x)) → P a → P (upTo g n a)
@@ -56,34 +55,11 @@ loop-gives P g (suc n) a t h o e =
     go (inl q) r = rw (← q) (o (upTo g t a))
     go (inr q) r = e n (omega arith) (upTo g n a) (r q)
 
--- a lane that does not stir
-record Still (l : Lane) : Type 0 where
-  waits : l .waiting ≡ Idle
-  returns : l .returns .len ≡ 0
-  downs : l .downs .len ≡ 0
-
-still : (l : Lane) → activeOf l ≡ false → Still l
-unfolding activeOf
-still l e =
-    on (idleOf (l .waiting))
-    (λ w.
-    let d : (ltb 0 (l .returns .len) || ltb 0 (l .downs .len)) ≡ false = rw w at e in
-    let r = ltb-false 0 (l .returns .len) (or-left (ltb 0 (l .returns .len)) (ltb 0 (l .downs .len)) d) in
-    let q = ltb-false 0 (l .downs .len) (or-right (ltb 0 (l .returns .len)) (ltb 0 (l .downs .len)) d) in
-    record { waits = idle-waiting (l .waiting) w; returns = omega arith; downs = omega arith })
-    (λ w. let d : true ≡ false = rw w at e in clash (cc))
-
 module _ (s : Store) (f : List ℕ) (i : Consistent s f) (quiet : quietOf s ≡ true) where
-  lane-still : (k : ℕ) → k < s .shape .n → Still (laneAt s k)
-  unfolding quietOf
-  lane-still k h =
-      on (busyOf (s .control)) (λ b. let d : false ≡ true = rw b at quiet in clash (cc))
-      (λ b. still (laneAt s k) (any-false (λ j. activeOf (laneAt s j)) (s .shape .n) k (not-false _ (rw b at quiet)) h))
-
   -- no lane waits
   pub quiet-rests : (k : ℕ) → pendingIn s k ≡ Rests
   unfolding pendingIn
-  quiet-rests k = on (ltb k (s .shape .n)) (λ e. rw (e, lane-still k (ltb-true _ _ e) .waits)) (λ e. rw e)
+  quiet-rests k = on (ltb k (s .shape .n)) (λ e. rw (e, lane-still s quiet k (ltb-true _ _ e) .waits)) (λ e. rw e)
 
   -- a view that is not Invalid has PRESENT set, which lanes alone have
   flag-below : (a k : ℕ) → a < s .shape .m → presentIn s a k ≡ true → k < s .shape .n
@@ -116,11 +92,11 @@ module _ (s : Store) (f : List ℕ) (i : Consistent s f) (quiet : quietOf s ≡ 
 
     no-returns : (k : ℕ) → k < s .shape .n → seen (s .shape .c) (blockNo a) (laneAt s k) .returns ≡ []
     unfolding seen
-    no-returns k h = rw (lane-still k h .returns)
+    no-returns k h = rw (lane-still s quiet k h .returns)
 
     no-downs : (k : ℕ) → k < s .shape .n → seen (s .shape .c) (blockNo a) (laneAt s k) .downs ≡ []
     unfolding seen
-    no-downs k h = rw (lane-still k h .downs)
+    no-downs k h = rw (lane-still s quiet k h .downs)
 
     -- memory's view is the line, and what the flags say
     view-line : (k : ℕ) → k < s .shape .n → v k ≡ status k
