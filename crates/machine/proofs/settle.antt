@@ -3,6 +3,7 @@ pub mod FallsLane
 pub mod FallsMove
 pub mod FallsStore
 pub mod Falls
+pub mod StepOrders
 pub mod FallsSettle
 pub mod Live
 pub mod LiveLane

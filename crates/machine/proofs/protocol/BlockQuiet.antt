@@ -6,10 +6,11 @@ use mathlib.Core.List.{List, []}
 use lib.ListN.{length, getD}
 use Rattle.lanes.specs.declared.Waiting.the-variants.{Idle}
 use Rattle.store.specs.declared.Lookup.the-variants.{Nothing}
+use Rattle.store.specs.Control.{awaitedOf}
 use Rattle.machine.proofs.bounds.KeepsLane.{clash}
 use Rattle.machine.proofs.laws.Sums.{zero-sum}
 use Rattle.machine.proofs.protocol.BlockState.{Status, Invalid, held, Seen, BlockState}
-use Rattle.machine.proofs.protocol.Invariant.{Chain, Bears, owed, awaitedOf, Inv}
+use Rattle.machine.proofs.protocol.Invariant.{Chain, Bears, owed, Inv}
 use Rattle.machine.proofs.protocol.Directories.{blank-directory}
 
 -- two empty queues: the view is the line

@@ -24,6 +24,7 @@ use Rattle.store.specs.declared.Block.{Block}
 use Rattle.store.specs.declared.Service.{Service}
 use Rattle.store.specs.declared.Lookup.{Lookup}
 use Rattle.store.specs.declared.Lookup.the-variants.{Of, Nothing}
+use Rattle.store.specs.Control.{awaitedOf}
 use Rattle.machine.specs.Return.{isAnswer}
 use Rattle.machine.specs.Settle.{isOrder}
 use Rattle.machine.proofs.protocol.BlockState.{Status, Invalid, Shared, Modified, held, dirty, Seen, BlockState}
@@ -102,10 +103,6 @@ servedCount (Served o) = 1
 abbrev pub serving : Lookup → ℕ → ℕ
 serving Nothing k = 0
 serving (Of s) k = cond (eqb (s .lane .0) k) 1 0
-
-abbrev pub awaitedOf : Lookup → ℕ
-awaitedOf Nothing = 0
-awaitedOf (Of s) = s .awaited
 
 -- WAIT: the command of an operation fits the line
 abbrev pub CommandFits : Status → Command → Bool → Type 0

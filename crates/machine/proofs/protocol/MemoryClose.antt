@@ -20,13 +20,14 @@ use Rattle.store.specs.declared.Block.{Block}
 use Rattle.store.specs.declared.Service.{Service}
 use Rattle.store.specs.declared.Lookup.the-variants.{Of, Nothing}
 use Rattle.store.specs.LaneSets.{nobody, only}
+use Rattle.store.specs.Control.{awaitedOf}
 use Rattle.machine.specs.Serve.{closedBlock, grantOf}
 use Rattle.machine.specs.Settle.{isOrder}
 use Rattle.machine.proofs.laws.Sets.{same?}
 use Rattle.machine.proofs.bounds.KeepsLane.{clash}
 use Rattle.machine.proofs.list.Owes.{upd}
 use Rattle.machine.proofs.protocol.BlockState.{Status, Invalid, Shared, Modified, held, dirty, Seen, BlockState}
-use Rattle.machine.proofs.protocol.Invariant.{DueHead, owed, awaitedOf, CommandFits, OperationFits, isGrant, Bears, Covered, exclusive, ServiceFits, Inv}
+use Rattle.machine.proofs.protocol.Invariant.{DueHead, owed, CommandFits, OperationFits, isGrant, Bears, Covered, exclusive, ServiceFits, Inv}
 use Rattle.machine.proofs.protocol.Moves.{postSeen, sendAll, closeState}
 use Rattle.machine.proofs.protocol.Directories.{nobody-none, not-held, close-directory, closed-words}
 use Rattle.machine.proofs.protocol.BlockQuiet.{quiet-view}

@@ -12,12 +12,13 @@ use Rattle.words.proofs.Folds.{below?}
 use Rattle.queues.specs.declared.DownMessage.{DownMessage}
 use Rattle.store.specs.declared.Block.{Block}
 use Rattle.store.specs.declared.Lookup.{Lookup}
+use Rattle.store.specs.Control.{awaitedOf}
 use Rattle.machine.specs.Settle.{isOrder}
 use Rattle.machine.proofs.laws.Sets.{same?}
 use Rattle.machine.proofs.laws.Sums.{sum-change, sum-zero}
 use Rattle.machine.proofs.list.Owes.{upd}
 use Rattle.machine.proofs.protocol.BlockState.{Status, Invalid, Modified, dirty, Seen, BlockState}
-use Rattle.machine.proofs.protocol.Invariant.{Chain, grantCount, serving, servedCount, WaitFits, isGrant, DownsBear, Bears, answerCount, orderCount, owed, awaitedOf, ServedWell, Directory, Inv}
+use Rattle.machine.proofs.protocol.Invariant.{Chain, grantCount, serving, servedCount, WaitFits, isGrant, DownsBear, Bears, answerCount, orderCount, owed, ServedWell, Directory, Inv}
 use Rattle.machine.proofs.protocol.Moves.{postSeen}
 use Rattle.machine.proofs.laws.Updates.{upd-same, upd-other}
 

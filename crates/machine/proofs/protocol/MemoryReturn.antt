@@ -18,13 +18,13 @@ use Rattle.store.specs.declared.Block.{Block}
 use Rattle.store.specs.declared.Service.{Service}
 use Rattle.store.specs.declared.Lookup.{Lookup}
 use Rattle.store.specs.declared.Lookup.the-variants.{Of, Nothing}
-use Rattle.store.specs.Control.{lowered}
+use Rattle.store.specs.Control.{lowered, awaitedOf}
 use Rattle.machine.specs.Return.{isAnswer, takenBy}
 use Rattle.machine.proofs.laws.Sets.{same?}
 use Rattle.machine.proofs.bounds.KeepsLane.{clash}
 use Rattle.machine.proofs.list.Owes.{upd}
 use Rattle.machine.proofs.protocol.BlockState.{Status, Invalid, dirty, Seen, BlockState}
-use Rattle.machine.proofs.protocol.Invariant.{Fits, Sent, Chain, answerCount, owed, serving, awaitedOf, bearing, ReturnsBear, Bears, isUpdated, someUpdate, someUpdated, Covered, exclusive, ServiceFits, ServedWell, Inv}
+use Rattle.machine.proofs.protocol.Invariant.{Fits, Sent, Chain, answerCount, owed, serving, bearing, ReturnsBear, Bears, isUpdated, someUpdate, someUpdated, Covered, exclusive, ServiceFits, ServedWell, Inv}
 use Rattle.machine.proofs.protocol.Moves.{takeSeen, returnState}
 use Rattle.machine.proofs.protocol.Chains.{fits-clean, fits-invalid}
 use Rattle.machine.proofs.laws.Updates.{upd-other, upd-cases}

@@ -7,10 +7,10 @@ use Rattle.store.specs.declared.Store.{Store}
 use Rattle.store.specs.declared.Service.{Service}
 use Rattle.store.specs.declared.Lookup.{Lookup}
 use Rattle.store.specs.declared.Lookup.the-variants.{Of, Nothing}
-use Rattle.store.specs.Control.{serviceOf}
+use Rattle.store.specs.Control.{serviceOf, awaitedOf}
 use Rattle.machine.proofs.laws.Sums.{sum-zero, zero-sum}
 use Rattle.machine.proofs.protocol.BlockState.{blockNo, project}
-use Rattle.machine.proofs.protocol.Invariant.{owed, awaitedOf}
+use Rattle.machine.proofs.protocol.Invariant.{owed}
 use Rattle.machine.proofs.store.Consistent.{Consistent}
 
 -- the service of block a, which awaits answers

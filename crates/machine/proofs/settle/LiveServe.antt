@@ -19,7 +19,7 @@ use Rattle.store.specs.declared.Store.{Store}
 use Rattle.store.specs.declared.Block.{Block}
 use Rattle.store.specs.declared.Service.{Service}
 use Rattle.store.specs.declared.Outcome.{Outcome}
-use Rattle.store.specs.Control.{busyFor, withService}
+use Rattle.store.specs.Control.{busyFor, withService, awaitedOf}
 use Rattle.store.specs.Stores.{laneAt, blockAt}
 use Rattle.store.specs.LaneSets.{only, countOf}
 use Rattle.machine.specs.declared.Move.{Move}
@@ -29,7 +29,7 @@ use Rattle.machine.proofs.bounds.Sound.{sound}
 use Rattle.machine.proofs.list.Owes.{upd}
 use Rattle.machine.proofs.laws.Updates.{upd-cases}
 use Rattle.machine.proofs.protocol.BlockState.{Seen, seen, project}
-use Rattle.machine.proofs.protocol.Invariant.{awaitedOf, owed}
+use Rattle.machine.proofs.protocol.Invariant.{owed}
 use Rattle.machine.proofs.protocol.Moves.{sendAll}
 use Rattle.machine.proofs.protocol.MemoryMoves.{nothing-owed}
 use Rattle.machine.proofs.store.Consistent.{Consistent}

@@ -8,7 +8,7 @@ use Rattle.answers.specs.Refusals.{refusedOf}
 use Rattle.store.specs.declared.Outcome.{Outcome}
 use Rattle.machine.specs.Settle.{boundOf}
 use Rattle.machine.proofs.settle.Falls.{settle-falls, bound-most}
-use Rattle.settle.proofs.Arrays.{arrays-sized}
+use Rattle.settlestep.proofs.Arrays.{arrays-sized}
 use Rattle.settle.proofs.Going.{Going, going-start, going-quiet, going-refused, going-fits, going-next}
 use Rattle.settle.proofs.settle_sound.Statement.{statement}
 use Rattle.settle.proofs.settle_sound.Tie as tie
