@@ -8,12 +8,13 @@ ghost use lib.ListN.{length};
 ghost use Rattle.lanes.specs.UseOrder.{LoadsOldest};
 ghost use Rattle.machine.specs.Corruption.{corruptOf};
 ghost use Rattle.answers.specs.Completions.{doneIn};
-ghost use Rattle.machine.specs.Settle.{settleOf, boundOf, refuseSettle};
-ghost use Rattle.settle.specs.Settles.{arrayOf, outcomeOf, CountWithin, listedOf, refusalOf};
+ghost use Rattle.machine.specs.Settle.{settleOf, refuseSettle};
+ghost use Rattle.settle.specs.Settles.{arrayOf, outcomeOf, Counted, listedOf, refusalOf};
 use answers::Answer;
 use answers::Completion;
 use answers::Refusal;
 use machine::Settled;
+use machine::StepCount;
 use store::Store;
 use words::LaneNo;
 
@@ -74,7 +75,7 @@ fn refusal(a: Answer) -> Refusal
 
 // A refused settle gives its number alone; the store is the one before the call.
 fn refuse(r: Refusal, s: Store) -> SettleOutcome
-    ensures { λ o. ⌜ (o ≡ outcomeOf (refuseSettle r s)) × CountWithin (boundOf s) (o .answer) ⌝ }
+    ensures { λ o. ⌜ (o ≡ outcomeOf (refuseSettle r s)) × Counted s (o .answer) ⌝ }
 {
     let d = none();
     SettleOutcome {
@@ -87,35 +88,42 @@ fn refuse(r: Refusal, s: Store) -> SettleOutcome
 // Settle of a store that is not corrupt.
 fn settle_sound(first: Store) -> SettleOutcome
     requires { ⌜ corruptOf first ≡ false ⌝ }
-    ensures { λ r. ⌜ (r ≡ outcomeOf (settleOf LoadsOldest first)) × CountWithin (boundOf first) (r .answer) ⌝ }
+    ensures { λ r. ⌜ (r ≡ outcomeOf (settleOf LoadsOldest first)) × Counted first (r .answer) ⌝ }
 {
     let mut s = first;
     let mut done = none();
     let mut count: u16 = 0;
+    let mut orders: u8 = 0;
     while !quiet::quiet(s) {
-        let r = settlestep::step(s);
+        let x = settlestep::step(s);
+        let r = x.outcome;
         let a = r.answer;
         if a.refused() {
-            let x = refusal(a);
-            return refuse(x, first);
+            let y = refusal(a);
+            return refuse(y, first);
         }
         let d = list(done, a);
         done = d;
         let t = r.store;
         s = t;
         count += 1;
+        orders += x.orders;
     }
+    let counts = StepCount {
+        steps: count,
+        orders: orders,
+    };
     SettleOutcome {
-        answer: Settled::Steps(count),
+        answer: Settled::Steps(counts),
         completions: done,
         store: s,
     }
 }
 
-// Settle: the step count, at most the bound of the store before it, and the completions in order; or why it was refused: 14, or the
-// number of the step that was.
+// Settle: the step count, the orders that its own serves sent, by which the count is exact, and the completions in order; or why it was
+// refused: 14, or the number of the step that was.
 pub fn settle(s: Store) -> SettleOutcome
-    ensures { λ r. ⌜ (r ≡ outcomeOf (settleOf LoadsOldest s)) × CountWithin (boundOf s) (r .answer) ⌝ }
+    ensures { λ r. ⌜ (r ≡ outcomeOf (settleOf LoadsOldest s)) × Counted s (r .answer) ⌝ }
 {
     if corruption::corrupt(s) {
         return refuse(Refusal::Corrupt, s);
