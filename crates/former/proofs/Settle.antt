@@ -1,5 +1,5 @@
 -- Settle on the same stores. Assumes nothing.
-use Prim.Native.Nat.{ℕ, zero, suc, _+_, _*_}
+use Prim.Native.Nat.{ℕ, zero, suc, _+_, _-_, _*_}
 use mathlib.Core.Logic.{_⊎_, inl, inr}
 use mathlib.Core.Path.{_≡_, refl, ap, _∙_, subst}
 use mathlib.Core.Bool.{Bool, true, false, not, cond, _||_}
@@ -23,7 +23,7 @@ use Rattle.store.specs.declared.Control.{Control}
 use Rattle.store.specs.Stores.{noLane}
 use Rattle.store.specs.Quiet.{quietOf}
 use Rattle.machine.specs.Corruption.{corruptOf}
-use Rattle.machine.specs.Settle.{settleStep, isOrder, downsOf, boundOf, Progress, advance, ended, repeatStep, Settlement, reached, unlessRefused, settleOf}
+use Rattle.machine.specs.Settle.{settleStep, isOrder, downsOf, ordersIn, boundOf, Progress, advance, ended, repeatStep, Settlement, reached, unlessRefused, settleOf}
 use Rattle.machine.specs.declared.Settled.the-variants.{Steps}
 use Rattle.machine.specs.Calls.{Called, SettledWith, settledCall}
 use Rattle.machine.proofs.laws.Sums.{sum-same}
@@ -47,6 +47,11 @@ no-downs : (order : Bool) → FormerSettle.downsOf order (noLane .downs) ≡ dow
 unfolding countTo
 no-downs order = refl
 
+orders-parts : (shape : Shape) (x : FormerControl.Control) (y : Control) (done : ℕ) (ps ls : List Lane) (bs : List Block) → shape .limit ≡ 1 → SameControl x y → SameLanes (shape .n) ps ls →
+    FormerSettle.ordersIn (formerWith shape x done ps bs) ≡ ordersIn (storeWith shape y done ls bs)
+orders-parts shape x y done ps ls bs one ec el =
+    sum-same _ _ (shape .n) (each-lane (λ l. FormerSettle.downsOf true (l .downs)) (λ l. downsOf true (l .downs)) (shape .n) ps ls el (downs-same true) (no-downs true))
+
 bound-parts : (shape : Shape) (x : FormerControl.Control) (y : Control) (done : ℕ) (ps ls : List Lane) (bs : List Block) → shape .limit ≡ 1 → SameControl x y → SameLanes (shape .n) ps ls →
     FormerSettle.boundOf (formerWith shape x done ps bs) ≡ boundOf (storeWith shape y done ls bs)
 unfolding FormerSettle.boundOf boundOf
@@ -54,13 +59,16 @@ bound-parts shape x y done ps ls bs one ec el =
     let n = shape .n in
     let r = sum-same _ _ n (each-lane (λ l. l .returns .len) (λ l. l .returns .len) n ps ls el (λ p l e. e .returns .lens) refl) in
     let g = sum-same _ _ n (each-lane (λ l. FormerSettle.downsOf false (l .downs)) (λ l. downsOf false (l .downs)) n ps ls el (downs-same false) (no-downs false)) in
-    let o = sum-same _ _ n (each-lane (λ l. FormerSettle.downsOf true (l .downs)) (λ l. downsOf true (l .downs)) n ps ls el (downs-same true) (no-downs true)) in
+    let o = orders-parts shape x y done ps ls bs one ec el in
     let v = services-same x y ec in
     let u = Folds.count-same _ _ n (each-lane (λ l. unservedOf (l .waiting)) (λ l. unservedOf (l .waiting)) n ps ls el (λ p l e. ap unservedOf (e .waiting)) refl) in
     λ i. r i + g i + 2 * o i + v i + 2 * n * u i
 
 pub bound-of : (t : Former.Store) (s : Store) → Same t s → FormerSettle.boundOf t ≡ boundOf s
 bound-of = by-stores (λ t s. FormerSettle.boundOf t ≡ boundOf s) bound-parts
+
+orders-of : (t : Former.Store) (s : Store) → Same t s → FormerSettle.ordersIn t ≡ ordersIn s
+orders-of = by-stores (λ t s. FormerSettle.ordersIn t ≡ ordersIn s) orders-parts
 
 pub corrupt-of : (t : Former.Store) (s : Store) → Same t s → FormerCorruption.corruptOf t ≡ corruptOf s
 corrupt-of = by-stores (λ t s. FormerCorruption.corruptOf t ≡ corruptOf s) corrupt-same
@@ -90,6 +98,7 @@ seen-later ins s h = record { steps = suc (h .steps); long = h .long }
 -- how far two settles are
 record SameProgress (p : FormerSettle.Progress) (q : Progress) : Type 0 where
   count : p .count ≡ q .count
+  orders : p .orders ≡ q .orders
   completions : p .completions ≡ q .completions
   answer : p .answer ≡ q .answer
   store : Same (p .store) (q .store)
@@ -113,6 +122,11 @@ advance-same : (ins : Insertion) (p : FormerSettle.Progress) (q : Progress) → 
 unfolding FormerSettle.advance advance
 advance-same ins p q e f = record {
   count = ap suc (e .count);
+  orders =
+      let a = e .orders in
+      let b = orders-of (p .store) (q .store) (e .store) in
+      let c = orders-of _ _ (f .store) in
+      λ i. a i + (c i - b i);
   completions = let a = e .completions in let b = f .answer in λ i. a i ++ doneIn (b i);
   answer = f .answer;
   store = f .store;
@@ -159,7 +173,7 @@ reached-same : (t : Former.Store) (s : Store) (p : FormerSettle.Progress) (q : P
     SameCalled (FormerCalls.settledCall (FormerSettle.reached t p)) (settledCall (reached s q))
 reached-same t s p q e f =
     both (λ a b. SameCalled (FormerCalls.settledCall a) (settledCall b)) (Former.quietOf (p .store)) (quietOf (q .store)) (quiet-of (p .store) (q .store) (f .store))
-    (λ _. record { reply = let a = f .count in let b = f .completions in λ i. SettledWith (Steps (a i)) (b i); store = f .store })
+    (λ _. record { reply = let a = f .count in let o = f .orders in let b = f .completions in λ i. SettledWith (Steps (record { steps = a i; orders = o i })) (b i); store = f .store })
     (λ _. record { reply = refl; store = e })
 
 unless-same : (a : Answer) (t : Former.Store) (s : Store) (r : FormerSettle.Settlement) (q : Settlement) → Same t s → SameCalled (FormerCalls.settledCall r) (settledCall q) →
@@ -180,10 +194,10 @@ ends-same ins t s p q e (inr f) =
 pub settle-of : (ins : Insertion) (t : Former.Store) (s : Store) → Same t s → Settles ins s (FormerCalls.settledCall (FormerSettle.settleOf ins t)) (settledCall (settleOf ins s))
 unfolding FormerSettle.settleOf settleOf
 settle-of ins t s e =
-    let p : FormerSettle.Progress = record { count = 0; completions = []; answer = Answer.Step; store = t } in
-    let q : Progress = record { count = 0; completions = []; answer = Answer.Step; store = s } in
+    let p : FormerSettle.Progress = record { count = 0; orders = 0; completions = []; answer = Answer.Step; store = t } in
+    let q : Progress = record { count = 0; orders = 0; completions = []; answer = Answer.Step; store = s } in
     both (λ a b. Settles ins s (FormerCalls.settledCall a) (settledCall b)) (FormerCorruption.corruptOf t) (corruptOf s) (corrupt-of t s e)
     (λ _. inr (record { reply = refl; store = e }))
     (λ _. ends-same ins t s _ _ e
     (subst (λ (n : ℕ). Goes ins s (FormerSettle.repeatStep ins (suc (FormerSettle.boundOf t)) p) (repeatStep ins (suc n) q)) (bound-of t s e)
-    (repeat-same ins (suc (FormerSettle.boundOf t)) p q (record { count = refl; completions = refl; answer = refl; store = e }))))
+    (repeat-same ins (suc (FormerSettle.boundOf t)) p q (record { count = refl; orders = refl; completions = refl; answer = refl; store = e }))))

@@ -127,7 +127,7 @@ fullOf (Answer.Refused r) = eqb (numberOf r) 12
 
 abbrev pub fullIn : Reply → Bool
 fullIn (Answers a) = fullOf a
-fullIn (SettledWith (Settled.Steps count) cs) = false
+fullIn (SettledWith (Settled.Steps counts) cs) = false
 fullIn (SettledWith (Settled.Refused r) cs) = eqb (numberOf r) 12
 
 -- the replies of two calls are equal, and the stores after them the same

@@ -1,5 +1,5 @@
--- Settle before W6. Assumes nothing.
-use Prim.Native.Nat.{ℕ, zero, suc, _+_, _*_}
+-- Settle before W6, with the orders that it sent (02, W8). Assumes nothing.
+use Prim.Native.Nat.{ℕ, zero, suc, _+_, _-_, _*_}
 use mathlib.Core.Bool.{Bool, true, false, not, cond, _||_, _&&_}
 use mathlib.Core.List.{List, [], _++_}
 use lib.Dec.{ltb}
@@ -63,9 +63,14 @@ unservedIn s = countTo (λ k. unservedOf (laneAt s k .waiting)) (s .shape .n)
 unfoldable pub boundOf : Store → ℕ
 boundOf s = returnsIn s + grantsIn s + 2 * ordersIn s + servicesIn s + 2 * s .shape .n * unservedIn s
 
--- how far a settle is: its steps, its completions in order, the last step's answer and store
+-- the orders that a step queued, by the stores before and after it
+abbrev pub ordersQueued : Store → Store → ℕ
+ordersQueued s t = ordersIn t - ordersIn s
+
+-- how far a settle is: its steps, the orders that they queued, its completions in order, the last step's answer and store
 pub record Progress : Type 0 where
   pub count : ℕ
+  pub orders : ℕ
   pub completions : List Completion
   pub answer : Answer
   pub store : Store
@@ -74,7 +79,13 @@ pub record Progress : Type 0 where
 unfoldable pub advance : Insertion → Progress → Progress
 advance ins p =
     let r = settleStep ins (p .store) in
-    record { count = suc (p .count); completions = p .completions ++ doneIn (r .answer); answer = r .answer; store = r .store }
+    record {
+      count = suc (p .count);
+      orders = p .orders + ordersQueued (p .store) (r .store);
+      completions = p .completions ++ doneIn (r .answer);
+      answer = r .answer;
+      store = r .store;
+    }
 
 -- It ends when the store is quiet, or where a step is refused
 unfoldable pub ended : Progress → Bool
@@ -85,7 +96,7 @@ unfoldable pub repeatStep : Insertion → ℕ → Progress → Progress
 repeatStep ins zero p = p
 repeatStep ins (suc more) p = let r = repeatStep ins more (advance ins p) in cond (ended p) p r
 
--- what settle gives: the step count or the refusal, the completions in order, the store after it
+-- what settle gives: its counts or the refusal, the completions in order, the store after it
 pub record Settlement : Type 0 where
   pub answer : Settled
   pub completions : List Completion
@@ -98,7 +109,7 @@ refuseSettle r s = record { answer = Settled.Refused r; completions = []; store 
 -- the store that was reached is quiet, or it is refused by 16
 abbrev pub reached : Store → Progress → Settlement
 reached s p =
-    cond (quietOf (p .store)) (record { answer = Steps (p .count); completions = p .completions; store = p .store })
+    cond (quietOf (p .store)) (record { answer = Steps (record { steps = p .count; orders = p .orders }); completions = p .completions; store = p .store })
     (refuseSettle Unexpected s)
 
 -- Settle refused inside gives that step's number
@@ -112,5 +123,5 @@ unlessRefused (Answer.Refused n) s r = refuseSettle n s
 -- 14, then the numbers of its steps
 unfoldable pub settleOf : Insertion → Store → Settlement
 settleOf ins s =
-    let p = repeatStep ins (suc (boundOf s)) (record { count = 0; completions = []; answer = Step; store = s }) in
+    let p = repeatStep ins (suc (boundOf s)) (record { count = 0; orders = 0; completions = []; answer = Step; store = s }) in
     cond (corruptOf s) (refuseSettle Corrupt s) (unlessRefused (p .answer) s (reached s p))

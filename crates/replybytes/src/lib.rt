@@ -27,12 +27,13 @@ const SERVE: u8 = 5;
 
 const RETURN: u8 = 6;
 
-// An answer's bytes: its tag, a lane or a refusal's number, a value, how many completions there are, and a completion's place.
+// An answer's bytes: its tag, a lane or a refusal's number, a value, how many completions there are, a settle's orders, and a completion's place.
 pub struct Reply {
     pub tag: u8,
     pub small: u8,
     pub value: u32,
     pub listed: u8,
+    pub orders: u8,
     pub place: u32,
 }
 
@@ -43,6 +44,7 @@ pub fn reply_of(tag: u8, small: u8, value: u32) -> Reply {
         small: small,
         value: value,
         listed: 0,
+        orders: 0,
         place: 0,
     }
 }
@@ -54,6 +56,7 @@ fn done_reply(x: Completion) -> Reply {
         small: x.lane.0,
         value: x.value,
         listed: 0,
+        orders: 0,
         place: x.place,
     }
 }
@@ -74,11 +77,12 @@ pub fn call_reply(a: Answer) -> Reply {
 
 pub fn settle_reply(a: Settled, listed: u8) -> Reply {
     match a {
-        Settled::Steps(n) => Reply {
+        Settled::Steps(x) => Reply {
             tag: 6,
             small: 0,
-            value: n as u32,
+            value: x.steps as u32,
             listed: listed,
+            orders: x.orders,
             place: 0,
         },
         Settled::Refused(r) => Reply {
@@ -86,6 +90,7 @@ pub fn settle_reply(a: Settled, listed: u8) -> Reply {
             small: r.number(),
             value: 0,
             listed: listed,
+            orders: 0,
             place: 0,
         },
     }
@@ -104,7 +109,7 @@ pub fn called(s: Store, kind: u8, k: LaneNo, w: WordNo, v: u32) -> Outcome {
     }
 }
 
-// An answer's 12 bytes; the eighth is left.
+// An answer's 12 bytes.
 pub fn put_reply(out: &mut [u8], r: Reply)
     requires { ⌜ 12 ≤ length (now out) ⌝ }
 {
@@ -112,6 +117,7 @@ pub fn put_reply(out: &mut [u8], r: Reply)
     put(out, 1, r.small);
     put_word(out, 2, r.value);
     put(out, 6, r.listed);
+    put(out, 7, r.orders);
     put_word(out, 8, r.place);
 }
 

@@ -12,9 +12,11 @@ use crate::places;
 use crate::service_faults;
 use crate::services;
 use crate::settle;
+use crate::settles;
 use crate::situations;
 use crate::stores::{self, Case};
 use crate::summary::kind_name;
+use crate::tellers;
 use std::collections::{BTreeMap, BTreeSet};
 
 /// The answers to the cases of a set have at most so many bytes.
@@ -38,18 +40,21 @@ pub fn choose(seed: u64, from: usize) -> [Vec<Case>; 2] {
     in_two_sets(without_needless(chosen, counts))
 }
 
-/// How many cases are to meet it: several, where it is W6's.
+/// How many cases are to meet it: several, where it is W6's or W8's.
 fn wanted(text: &str) -> usize {
-    let of_w6 = text.starts_with(FAULT) || services::names().contains(&text);
-    if of_w6 {
+    let prefixed = [FAULT, BY_ORDERS].iter().any(|prefix| text.starts_with(prefix));
+    if prefixed || services::names().contains(&text) {
         3
     } else {
         1
     }
 }
 
-/// Before the name of a wrong machine that a case tells.
+/// Before the name of a wrong machine or teller that a case tells.
 const FAULT: &str = "not: ";
+
+/// Before the name of what a settle meets of W8.
+const BY_ORDERS: &str = "settle with ";
 
 type Counts = BTreeMap<String, usize>;
 
@@ -96,8 +101,19 @@ pub fn all_texts(case: &Case) -> BTreeSet<String> {
     let faults = service_faults::told(s, call).into_iter().map(|name| format!("{FAULT}{name}"));
     let alone = orders::met(s, call, &answer).into_iter().map(|name| format!("alone: {name}"));
     let names = names.into_iter().map(str::to_string).chain(faults).chain(alone);
+    let names = names.chain(by_orders(s, &answer));
     let texts = names.chain(meets(case, &answer, &conditions::all(s, call)));
     texts.chain(finds(case)).collect()
+}
+
+/// What a settle meets of W8, and the wrong tellers that it tells.
+fn by_orders(s: &Store, answer: &HeldAnswer) -> Vec<String> {
+    let texts = |log| {
+        let told = tellers::told(&log).into_iter().map(|name| format!("{FAULT}{name}"));
+        let met = settles::met(&log).into_iter().map(|name| format!("{BY_ORDERS}{name}"));
+        met.chain(told).collect()
+    };
+    settles::log(s, answer).map_or_else(Vec::new, texts)
 }
 
 /// The bytes of the answers to cases, which are more than those of the cases.

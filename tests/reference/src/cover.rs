@@ -9,6 +9,7 @@ use crate::list_services::{Services, SERVICES};
 use crate::lists::{self, Given, Record, OPEN_KIND, OPEN_LIMIT_KIND};
 use crate::parts::*;
 use crate::settle::{self, Settled};
+use crate::settles::{Log, Settles};
 use crate::summary::{fmt_counts, kind_name};
 use std::collections::{BTreeMap, BTreeSet};
 use std::fmt::{self, Display, Formatter};
@@ -56,6 +57,8 @@ pub struct Cover {
     /// Settles by the count of completions.
     completions: BTreeMap<usize, usize>,
     settles: BTreeMap<&'static str, usize>,
+    /// By their orders.
+    pub by_orders: Settles,
     highest_place: u32,
     longest: u32,
     steps: usize,
@@ -205,6 +208,7 @@ impl Cover {
         for (name, _) in SETTLES.iter().zip(met).filter(|(_, met)| *met) {
             *self.settles.entry(name).or_default() += 1;
         }
+        self.by_orders.see(&Log::of(before));
         self.see_steps(before);
     }
 
@@ -232,6 +236,8 @@ impl Cover {
         never.extend(counts.map(|count| format!("settle with {count} completions")));
         let found = SETTLES.iter().filter(|name| !self.settles.contains_key(*name));
         never.extend(found.map(|name| format!("settle: {name}")));
+        let orders = self.by_orders.never_met().into_iter();
+        never.extend(orders.map(|name| format!("settle: {name}")));
         never.extend(self.events.never_met().into_iter().map(str::to_string));
         let orders = (0..LANES).filter(|&count| self.events.orders[count] == 0);
         never.extend(orders.map(|count| format!("serve with {count} orders")));
@@ -325,6 +331,7 @@ impl Display for Cover {
         writeln!(f, "steps inside settles {}, longest settle {} steps", self.steps, self.longest)?;
         writeln!(f, "settles that met")?;
         fmt_counts(f, &SETTLES, &self.settles)?;
+        write!(f, "{}", self.by_orders)?;
         writeln!(f, "events (calls, steps inside settles):")?;
         self.fmt_events(f)?;
         writeln!(f, "serves with 0 to 7 orders: {:?}", self.events.orders)?;
@@ -334,6 +341,13 @@ impl Display for Cover {
         let [lists, in_answers] = self.other_bytes;
         writeln!(f, "lists to which the rule before W3 gives other bytes: {lists}")?;
         writeln!(f, "of these in the answer to a call: {in_answers}")?;
+        self.fmt_services(f)
+    }
+}
+
+impl Cover {
+    /// Loads beside a wait, services and the limit.
+    fn fmt_services(&self, f: &mut Formatter) -> fmt::Result {
         for name in LOADS {
             writeln!(f, "{name}: {}", self.loads.counts.get(name).unwrap_or(&0))?;
         }
@@ -351,9 +365,7 @@ impl Display for Cover {
             "lists with L above 1 to which the machine before W6 gives other bytes: {lists}"
         )
     }
-}
 
-impl Cover {
     /// A line for each kind of call.
     fn fmt_answers(&self, f: &mut Formatter) -> fmt::Result {
         for (kind, _) in ANSWERS {

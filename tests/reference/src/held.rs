@@ -17,6 +17,9 @@ pub const SETTLE_KIND: u8 = 0x11;
 /// The answer's first byte where settle was not refused.
 pub const SETTLED_TAG: u8 = 6;
 
+/// The place of O among the answer bytes.
+pub const ORDERS_AT: usize = 7;
+
 /// Room for a completion of each lane: lane, value and place.
 pub const COMPLETION_BYTES: usize = 9;
 pub const COMPLETIONS_BYTES: usize = LANES * COMPLETION_BYTES;
@@ -123,7 +126,16 @@ pub fn answer_bytes(answer: &HeldAnswer) -> [u8; ANSWER_BYTES] {
         HeldAnswer::Settled(given) => (SETTLED_TAG, 0, given.steps, 0),
     };
     let (v, p, listed) = (value.to_le_bytes(), place.to_le_bytes(), completions(answer).len());
-    [tag, small, v[0], v[1], v[2], v[3], listed as u8, 0, p[0], p[1], p[2], p[3]]
+    let orders = orders(answer);
+    [tag, small, v[0], v[1], v[2], v[3], listed as u8, orders, p[0], p[1], p[2], p[3]]
+}
+
+/// The orders that a settle gives; 0 for all else, and for a refused one.
+fn orders(answer: &HeldAnswer) -> u8 {
+    match answer {
+        HeldAnswer::Settled(given) => given.orders,
+        _ => 0,
+    }
 }
 
 /// The number in four bytes at an offset.
@@ -466,9 +478,17 @@ pub fn differences(input: &[u8], other: &[u8], most: usize) -> Result<Vec<String
     Ok(found)
 }
 
+/// The name of an answer byte.
+pub fn answer_byte_name(offset: usize) -> String {
+    match offset {
+        ORDERS_AT => format!("answer byte {offset} (O)"),
+        _ => format!("answer byte {offset}"),
+    }
+}
+
 fn answer_part_name(offset: usize) -> String {
     if offset < ANSWER_BYTES {
-        format!("answer byte {offset}")
+        answer_byte_name(offset)
     } else if offset < ANSWER_BYTES + STORE_BYTES {
         part_name(offset - ANSWER_BYTES)
     } else {

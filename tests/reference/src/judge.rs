@@ -117,7 +117,9 @@ impl Judge {
         }
         let open = self.waited.iter().flatten().any(|waited| waited.open);
         demand(!open, "settled with an operation that waits")?;
-        demand(given.completions.len() <= given.steps as usize, "more completions than steps")?;
+        // A completion takes a deliver; an order takes one, and its answer a return.
+        let least = given.completions.len() + 2 * usize::from(given.orders);
+        demand(least <= given.steps as usize, &format!("fewer steps than {least}"))?;
         self.quiet = true;
         Ok(())
     }

@@ -1,4 +1,4 @@
-//! A reference of the lane store of document 01 with W1, W2, W3, W5 and W6 of document
+//! A reference of the lane store of document 01 with W1, W2, W3, W5, W6 and W8 of document
 //! 02, written from the documents and their readings only, with generators of
 //! tapes, of lists of calls and of held stores. W4 and W7 change no answer;
 //! answers are held to them.
@@ -10,6 +10,7 @@ pub mod conditions;
 pub mod cover;
 pub mod damage;
 pub mod events;
+pub mod exact;
 pub mod figure;
 pub mod figure_faults;
 pub mod fills;
@@ -38,9 +39,12 @@ pub mod service_faults;
 pub mod service_maker;
 pub mod services;
 pub mod settle;
+pub mod settle_maker;
+pub mod settles;
 pub mod situations;
 pub mod stores;
 pub mod summary;
 pub mod tape;
 pub mod tapes;
+pub mod tellers;
 pub mod walk;

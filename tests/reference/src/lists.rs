@@ -177,7 +177,8 @@ pub fn read_answer(record: Record, bytes: &[u8]) -> Result<Given, String> {
             let places =
                 bytes[held::ANSWER_BYTES..][..held::COMPLETIONS_BYTES].chunks(COMPLETION_BYTES);
             let completions = places.take(usize::from(bytes[6])).map(completion).collect();
-            Given::Answer(HeldAnswer::Settled(Settled { steps: value, completions }))
+            let orders = bytes[held::ORDERS_AT];
+            Given::Answer(HeldAnswer::Settled(Settled { steps: value, orders, completions }))
         }
         (_, tag) => return Err(format!("answer tag {tag}")),
     };
@@ -226,7 +227,7 @@ pub fn differences(input: &[u8], other: &[u8], most: usize) -> Result<Vec<String
         let place = match (first, record) {
             (None, _) => "the answers end early".to_string(),
             (Some(i), Record::Show) => held::part_name(i),
-            (Some(i), _) => format!("answer byte {i}"),
+            (Some(i), _) => held::answer_byte_name(i),
         };
         found.push(format!("opening {list} record {index} {record:?}: {place}"));
     }

@@ -6,10 +6,13 @@ use reference::loads::Loads;
 use reference::parts::Rule;
 use reference::serves::Serves;
 use reference::services::Services;
+use reference::settles::Settles;
 use reference::stores::Case;
 use reference::summary::{Cases, Tapes};
-use reference::{bounds, choice, figure, held, judge, list_maker, lists, longest};
-use reference::{load_maker, serve_byte, serve_maker, service_maker, stores, tape, tapes};
+use reference::{bounds, choice, exact, figure, held, judge, list_maker, lists, longest};
+use reference::{
+    load_maker, serve_byte, serve_maker, service_maker, settle_maker, stores, tape, tapes,
+};
 use std::fs;
 use std::io::{self, BufWriter, Read, Write};
 use std::path::{Path, PathBuf};
@@ -28,9 +31,11 @@ const USAGE: &str = "usage:
   reference make-serves SEED COUNT FILE
   reference make-loads SEED COUNT FILE
   reference make-services SEED COUNT FILE
+  reference make-settles SEED COUNT FILE
   reference differ-held CASES ANSWERS
   reference bound-held CASES ANSWERS
   reference byte-held CASES ANSWERS
+  reference exact-held CASES ANSWERS
   reference lists < LISTS
   reference make-lists SEED COUNT FILE
   reference draw-lists SEED COUNT FILE
@@ -40,6 +45,7 @@ const USAGE: &str = "usage:
   reference judge-lists LISTS ANSWERS
   reference bound-lists LISTS ANSWERS
   reference figure-lists LISTS ANSWERS
+  reference exact-lists LISTS ANSWERS
   reference differ-lists LISTS ANSWERS";
 
 type Outcome = Result<(), String>;
@@ -50,6 +56,8 @@ fn main() -> ExitCode {
     match args[..] {
         ["byte-held", cases, answers] => exit_code(byte_held(cases, answers), 1),
         ["figure-lists", lists, answers] => exit_code(figure_lists(lists, answers), 1),
+        ["exact-held", cases, answers] => exit_code(exact_held(cases, answers), 1),
+        ["exact-lists", lists, answers] => exit_code(exact_lists(lists, answers), 1),
         _ => exit_code(run(&args), 2),
     }
 }
@@ -80,6 +88,7 @@ fn run(args: &[&str]) -> Outcome {
         ["make-serves", seed, count, file] => make_serves(seed, count, Path::new(file)),
         ["make-loads", seed, count, file] => make_loads(seed, count, Path::new(file)),
         ["make-services", seed, count, file] => make_services(seed, count, Path::new(file)),
+        ["make-settles", seed, count, file] => make_settles(seed, count, Path::new(file)),
         ["differ-held", cases, answers] => differ_held(cases, answers),
         ["bound-held", cases, answers] => bound_held(cases, answers),
         ["lists"] => run_lists(),
@@ -254,6 +263,20 @@ fn make_services(seed: &str, count: &str, file: &Path) -> Outcome {
     all_met(count, &summary.never_met())
 }
 
+fn make_settles(seed: &str, count: &str, file: &Path) -> Outcome {
+    let (seed, count) = (number(seed)?, number(count)?);
+    let mut out = BufWriter::new(fs::File::create(file).map_err(text)?);
+    let mut summary = Settles::default();
+    for index in 0..count {
+        let store = settle_maker::make(seed, index);
+        summary.add(&store, &held::run(&store, HeldCall::Settle).answer);
+        out.write_all(&held::encode_case(&store, HeldCall::Settle)).map_err(text)?;
+    }
+    out.flush().map_err(text)?;
+    print!("{summary}");
+    all_met(count, &summary.never_met())
+}
+
 fn differ_held(cases: &str, answers: &str) -> Outcome {
     let (cases, answers) = (fs::read(cases).map_err(text)?, fs::read(answers).map_err(text)?);
     let found = held::differences(&cases, &answers, 20)?;
@@ -273,6 +296,12 @@ fn bound_held(cases: &str, answers: &str) -> Outcome {
 fn byte_held(cases: &str, answers: &str) -> Outcome {
     let (cases, answers) = (fs::read(cases).map_err(text)?, fs::read(answers).map_err(text)?);
     print!("{}", serve_byte::of_held(&cases, &answers)?);
+    Ok(())
+}
+
+fn exact_held(cases: &str, answers: &str) -> Outcome {
+    let (cases, answers) = (fs::read(cases).map_err(text)?, fs::read(answers).map_err(text)?);
+    print!("{}", exact::of_held(&cases, &answers)?);
     Ok(())
 }
 
@@ -333,6 +362,12 @@ fn bound_lists(file: &str, answers: &str) -> Outcome {
 fn figure_lists(file: &str, answers: &str) -> Outcome {
     let (input, answers) = (fs::read(file).map_err(text)?, fs::read(answers).map_err(text)?);
     print!("{}", figure::judge(&lists::read(&input, &answers)?)?);
+    Ok(())
+}
+
+fn exact_lists(file: &str, answers: &str) -> Outcome {
+    let (input, answers) = (fs::read(file).map_err(text)?, fs::read(answers).map_err(text)?);
+    print!("{}", exact::of_lists(&input, &answers)?);
     Ok(())
 }
 

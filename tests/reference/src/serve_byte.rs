@@ -11,13 +11,13 @@ use std::fmt::{self, Display, Formatter};
 // Where the parts are in the bytes of a store, of a lane and of a block.
 const FIRST_SLOT: usize = 8;
 const SLOT_BYTES: usize = 6;
-const SLOTS: usize = 8;
+pub(crate) const SLOTS: usize = 8;
 const FIRST_LANE: usize = 56;
 const LANE_BYTES: usize = 458;
-const DOWN: usize = 305;
+pub(crate) const DOWN: usize = 305;
 const DOWN_BYTES: usize = 145;
-const MESSAGE_BYTES: usize = 18;
-const WAITING: usize = 450;
+pub(crate) const MESSAGE_BYTES: usize = 18;
+pub(crate) const WAITING: usize = 450;
 const FIRST_BLOCK: usize = 3_720;
 const BLOCK_BYTES: usize = 25;
 const PRESENT: usize = 16;
@@ -26,13 +26,13 @@ const MODIFIED: usize = 24;
 const SERVE_KIND: u8 = 0x05;
 const STEP_TAG: u8 = 3;
 const REFUSED_TAG: u8 = 4;
-const UNSERVED_TAG: u8 = 1;
-const BUSY_TAG: u8 = 1;
+pub(crate) const UNSERVED_TAG: u8 = 1;
+pub(crate) const BUSY_TAG: u8 = 1;
 
 const READ_SHARED: u8 = 0;
 
-const UPDATE: u8 = 0;
-const PURGE: u8 = 1;
+pub(crate) const UPDATE: u8 = 0;
+pub(crate) const PURGE: u8 = 1;
 const GRANT: u8 = 2;
 const BARE_GRANT: u8 = 3;
 
@@ -42,11 +42,11 @@ const NO_WORDS: [u8; 16] = [0; 16];
 /// So many wrong cases are named.
 const NAMED: usize = 20;
 
-fn lane(store: &[u8], j: usize) -> &[u8] {
+pub(crate) fn lane(store: &[u8], j: usize) -> &[u8] {
     &store[FIRST_LANE + j * LANE_BYTES..][..LANE_BYTES]
 }
 
-fn slot(store: &[u8], i: usize) -> &[u8] {
+pub(crate) fn slot(store: &[u8], i: usize) -> &[u8] {
     &store[FIRST_SLOT + i * SLOT_BYTES..][..SLOT_BYTES]
 }
 
@@ -204,7 +204,7 @@ impl Held {
 }
 
 /// The bytes given for a case, by its call.
-fn given_length(case: &[u8]) -> Result<usize, String> {
+pub(crate) fn given_length(case: &[u8]) -> Result<usize, String> {
     demand(case.len() == CASE_BYTES, "the cases end early")?;
     Ok(held::given_length(held::decode_call(&case[STORE_BYTES..])?))
 }

@@ -86,9 +86,11 @@ impl Machine {
         let mut given = Settled::default();
         while !s.quiet() {
             let step = (self.next)(s).ok_or(UNEXPECTED)?;
+            let before = settle::queued_orders(s);
             if let Answer::Done(done) = (self.step)(s, step)? {
                 given.completions.push(done);
             }
+            given.orders += settle::sent_orders(step, before, s);
             given.steps += 1;
         }
         Ok(given)

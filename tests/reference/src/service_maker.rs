@@ -483,7 +483,13 @@ fn make_idle(s: &mut Store) {
 /// A settle that closes so many services or more, each of a lane of its own.
 fn settled(least: usize, rng: &mut Rng) -> (Store, HeldCall) {
     let open = rng.between(least, SLOTS);
-    let limit = rng.between(open, SLOTS);
+    (settling(open, rng), HeldCall::Settle)
+}
+
+/// So many services and what closes them; nothing else is on its way, and nobody else
+/// waits.
+pub(crate) fn settling(open: usize, rng: &mut Rng) -> Store {
+    let limit = rng.between(open.max(1), SLOTS);
     let mut s = store(open.max(2), limit, open, rng);
     make_idle(&mut s);
     let mut lanes: Vec<u8> = (0..s.n).collect();
@@ -494,7 +500,7 @@ fn settled(least: usize, rng: &mut Rng) -> (Store, HeldCall) {
     for Service { lane, block, awaited, .. } in s.slots.into_iter().flatten() {
         (0..awaited).for_each(|_| answer_or_order(&mut s, lane, block, rng));
     }
-    (s, HeldCall::Settle)
+    s
 }
 
 /// The service is lane k's; its operation and a line for it are there.

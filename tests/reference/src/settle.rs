@@ -7,6 +7,8 @@ use crate::parts::*;
 #[derive(Clone, PartialEq, Eq, Debug, Default)]
 pub struct Settled {
     pub steps: u32,
+    /// O: the UPDATEs and PURGEs that its own serves queued, at most 7 for each of 8.
+    pub orders: u8,
     /// In the order in which they came.
     pub completions: Vec<Completion>,
 }
@@ -32,11 +34,29 @@ pub fn settle_under(store: &Store, rule: Rule) -> Result<(Store, Settled), u8> {
 /// The next step; a store that is not quiet and has none is stuck.
 fn take_step(s: &mut Store, given: &mut Settled, rule: Rule) -> Result<(), u8> {
     let step = next_step(s).ok_or(UNEXPECTED)?;
+    let before = queued_orders(s);
     if let Answer::Done(done) = machine::step(s, step, rule)? {
         given.completions.push(done);
     }
+    given.orders += sent_orders(step, before, s);
     given.steps += 1;
     Ok(())
+}
+
+/// How many orders a step queued, by how many were queued before it: a serve takes
+/// none, and the other steps queue none.
+pub(crate) fn sent_orders(step: Call, before: usize, after: &Store) -> u8 {
+    match step {
+        Call::Serve(_) => (queued_orders(after) - before) as u8,
+        _ => 0,
+    }
+}
+
+/// The UPDATEs and PURGEs in the down queues of the n lanes.
+pub(crate) fn queued_orders(s: &Store) -> usize {
+    let lanes = s.lanes.iter().take(usize::from(s.n));
+    let messages = lanes.flat_map(|lane| lane.down.messages());
+    messages.filter(|message| message.kind.is_order()).count()
 }
 
 /// The counts of steps and completions before the end or the refusal, of a

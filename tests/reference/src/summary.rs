@@ -11,6 +11,7 @@ use crate::places;
 use crate::service_faults;
 use crate::services;
 use crate::settle;
+use crate::settles::Settles;
 use crate::situations;
 use crate::stores::{Case, SOURCES};
 use crate::tape::{self, Event, Outcome, Record};
@@ -194,6 +195,8 @@ pub struct Cases {
     pub services: BTreeMap<&'static str, usize>,
     /// Settles that were not refused, by the count of completions.
     pub settled: BTreeMap<usize, usize>,
+    /// The same, by their orders.
+    pub by_orders: Settles,
     /// Refused settles, by the reason of 14 and of 16.
     pub settle_reasons: BTreeMap<&'static str, usize>,
     /// Settles refused after steps, and of these after a completion.
@@ -225,6 +228,7 @@ impl Cases {
         for name in services::met(&case.store, case.call, answer) {
             *self.services.entry(name).or_default() += 1;
         }
+        self.by_orders.add(&case.store, answer);
         let reasons = conditions::corrupt_reasons(&case.store);
         add_reasons(&mut self.reasons, &reasons);
         self.add_damages(case, reasons.is_empty());
@@ -399,6 +403,7 @@ impl Cases {
         self.fmt_passed_over(f)?;
         writeln!(f, "settled, by the count of completions: {}", pairs(&self.settled))?;
         writeln!(f, "longest settle: {} steps", self.longest)?;
+        write!(f, "{}", self.by_orders)?;
         let (steps, completions) = self.undone;
         writeln!(f, "settles refused after steps: {steps}, after completions: {completions}")?;
         writeln!(f, "reasons of 14 and 16 in refused settles:")?;

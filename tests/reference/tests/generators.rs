@@ -209,6 +209,7 @@ fn cases_cover_what_they_must() {
         check_beside(&summary);
         check_services(&summary);
         check_settles(&summary);
+        check_by_orders(&summary);
         check_pairs(&summary);
     }
 }
@@ -268,6 +269,9 @@ fn chosen_cases_are_few_and_meet_much() {
     assert!(beside::NAMES.iter().all(|name| summary.beside.contains_key(name)));
     assert!(orders::NAMES.iter().all(|name| summary.orders.contains_key(name)));
     assert!(services::names().iter().all(|name| summary.services.get(name) >= Some(&3)));
+    let settles = &summary.by_orders;
+    assert!(settles.never_met().is_empty(), "{:?}", settles.never_met());
+    assert!(settles.met.values().chain(settles.told.values()).all(|&count| count >= 3));
     assert!(summary.undone.1 > 0, "no settle was refused after a completion");
     assert!((0..=8).all(|count| summary.settled.contains_key(&count)), "{:?}", summary.settled);
 }
@@ -360,6 +364,16 @@ fn check_settles(summary: &Cases) {
     }
     assert!((0..=8).all(|count| summary.settled.contains_key(&count)), "{:?}", summary.settled);
     assert!(summary.undone.1 >= 100, "{:?}", summary.undone);
+}
+
+/// W8: settles by the orders of their serves; those with O above 7 are few.
+fn check_by_orders(summary: &Cases) {
+    let settles = &summary.by_orders;
+    assert!(settles.never_met().is_empty(), "{:?}", settles.never_met());
+    for (name, &count) in settles.met.iter().chain(&settles.told) {
+        let least = if *name == "O above 7" { 1 } else { 5 };
+        assert!(count >= least, "{name}: {count}");
+    }
 }
 
 /// Pairs of numbers that can hold at once are met, in document 01's order.

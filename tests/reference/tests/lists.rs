@@ -34,10 +34,10 @@ fn answered(records: &[Record]) -> Vec<(Record, Given)> {
 }
 
 /// Completions by lane, value and place.
-fn settled(steps: u32, completions: &[(u8, u32, u32)]) -> Given {
+fn settled(steps: u32, orders: u8, completions: &[(u8, u32, u32)]) -> Given {
     let completions =
         completions.iter().map(|&(lane, value, place)| Completion { lane, value, place }).collect();
-    Given::Answer(HeldAnswer::Settled(Settled { steps, completions }))
+    Given::Answer(HeldAnswer::Settled(Settled { steps, orders, completions }))
 }
 
 #[test]
@@ -52,14 +52,14 @@ fn list_bytes() {
     assert_eq!(answers.len(), 12 + 12 + 12 + 86 + 5_320);
     assert_eq!(answers[..12], [0; 12]);
     assert_eq!(answers[12..24], [2, 0, 0, 0, 0, 0, 0, 0, 0, 0, 0, 0]);
-    assert_eq!(answers[36..48], [6, 0, 6, 0, 0, 0, 2, 0, 0, 0, 0, 0]);
+    assert_eq!(answers[36..48], [6, 0, 6, 0, 0, 0, 2, 1, 0, 0, 0, 0]);
     assert_eq!(answers[48..57], [0, 7, 0, 0, 0, 1, 0, 0, 0]);
     assert_eq!(answers[57..66], [1, 9, 0, 0, 0, 2, 0, 0, 0]);
     assert_eq!(answers[66..120], [0; 54]);
     assert_eq!(answers[120..122], [8, 0]);
     assert_eq!(answers[122..131], [2, 1, 1, 1, 2, 0, 0, 0, 0]);
     let given = lists::read(&input, &answers).expect("well formed");
-    assert_eq!(given[3].1, settled(6, &[(0, 7, 1), (1, 9, 2)]));
+    assert_eq!(given[3].1, settled(6, 1, &[(0, 7, 1), (1, 9, 2)]));
     assert!(lists::records(&input[..31]).is_err());
     assert!(lists::records(&[0x10, 0, 0, 0, 0, 0, 0, 0]).is_err());
     assert!(lists::read(&input, &answers[..answers.len() - 1]).is_err());
@@ -72,7 +72,7 @@ fn a_refused_opening_leaves_the_blank_store() {
     let given: Vec<Given> = answered(&calls).into_iter().map(|(_, given)| given).collect();
     let refused = |number| Given::Answer(HeldAnswer::Refused(number));
     assert_eq!(given[..4], [refused(5), refused(14), refused(14), Given::Opened]);
-    assert_eq!(given[4], settled(0, &[]));
+    assert_eq!(given[4], settled(0, 0, &[]));
     // Nothing is left of a list before it, completions neither.
     let mut calls = two_stores();
     calls.extend([Record::Open { n: 9, c: 1, m: 1 }, Record::Show]);
@@ -116,11 +116,11 @@ fn the_judge_finds_lies() {
         &[(0, 7, 1), (0, 9, 2)],
         &[(0, 9, 1), (1, 7, 2)],
     ] {
-        let lie = settled(6, completions);
+        let lie = settled(6, 1, completions);
         assert!(judged_with(3, |given| *given = lie.clone()).is_err(), "{completions:?}");
     }
     // Stores commute as far as their values go, but not in what is left.
-    let swapped = settled(6, &[(1, 9, 1), (0, 7, 2)]);
+    let swapped = settled(6, 1, &[(1, 9, 1), (0, 7, 2)]);
     assert!(judged_with(3, |given| *given = swapped.clone()).is_err());
     let done = Completion { lane: 0, value: 8, place: 1 };
     let lie = Given::Answer(HeldAnswer::Machine(Answer::Done(done)));
@@ -241,7 +241,7 @@ fn places_without_a_completion_are_not_read() {
 fn a_count_above_the_bound_is_found() {
     let bounded = |steps| {
         let mut all = answered(&two_stores());
-        all[3].1 = settled(steps, &[(0, 7, 1), (1, 9, 2)]);
+        all[3].1 = settled(steps, 1, &[(0, 7, 1), (1, 9, 2)]);
         bounds::of_lists(&all)
     };
     assert_eq!(bounded(6), Ok(Bounded { settles: 1, reached: 0 }));
@@ -264,7 +264,7 @@ fn the_judge_attributes_by_the_last_begin_that_waited() {
         SETTLE,
     ];
     let all = answered(&calls);
-    assert_eq!(all[7].1, settled(4, &[(1, 7, 3)]));
+    assert_eq!(all[7].1, settled(4, 1, &[(1, 7, 3)]));
     let judged = judge(&all).expect("demand 3");
     assert_eq!((judged.in_begins, judged.in_delivers, judged.in_settles), (1, 0, 2));
 }

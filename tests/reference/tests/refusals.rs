@@ -394,7 +394,7 @@ fn settle_bytes() {
     s.completed = 0x0807_06fe;
     let given = held::run(&s, HeldCall::Settle).bytes();
     assert_eq!(given.len(), 12 + 5_320 + 72 + 2);
-    assert_eq!(given[..12], [6, 0, 6, 0, 0, 0, 2, 0, 0, 0, 0, 0]);
+    assert_eq!(given[..12], [6, 0, 6, 0, 0, 0, 2, 1, 0, 0, 0, 0]);
     let (store, listed) = given[12..].split_at(5_320);
     assert_eq!(store[4..8], [0, 7, 7, 8]);
     assert_eq!(listed[..9], [1, 1, 2, 3, 4, 0xff, 6, 7, 8]);

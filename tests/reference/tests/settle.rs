@@ -25,14 +25,14 @@ fn run(s: &mut Store, calls: &[Call]) {
     }
 }
 
-/// Settle takes these steps and completes these lanes with these values, in
-/// the next places; the store after.
-fn settles(s: &Store, steps: u32, lanes: &[(u8, u32)]) -> Store {
+/// Settle takes these steps, sends these orders and completes these lanes with these
+/// values, in the next places; the store after.
+fn settles(s: &Store, steps: u32, orders: u8, lanes: &[(u8, u32)]) -> Store {
     let (after, given) = settle(s).expect("not refused");
     let in_places = lanes.iter().zip(s.completed + 1..);
     let completions =
         in_places.map(|(&(lane, value), place)| Completion { lane, value, place }).collect();
-    assert_eq!(given, Settled { steps, completions });
+    assert_eq!(given, Settled { steps, orders, completions });
     assert!(after.quiet());
     assert_eq!(after.completed, s.completed + lanes.len() as u32);
     after
@@ -59,7 +59,7 @@ fn two_lanes_store_to_one_word() {
     let mut s = open(2, 1, 1);
     begin(&mut s, 0, Op::Store(7), 0);
     begin(&mut s, 1, Op::Store(9), 0);
-    let after = settles(&s, 6, &[(0, 7), (1, 9)]);
+    let after = settles(&s, 6, 1, &[(0, 7), (1, 9)]);
     assert!(!after.lanes[0].lines[0].valid);
     assert_eq!(after.lanes[1].lines[0].words, [9, 0, 0, 0]);
     assert_eq!(after.blocks[0].words, [7, 0, 0, 0]);
@@ -69,17 +69,17 @@ fn two_lanes_store_to_one_word() {
 fn a_quiet_store_takes_no_step() {
     for (n, c, m) in [(2, 1, 1), (8, 8, 64)] {
         let s = open(n, c, m);
-        assert_eq!(settles(&s, 0, &[]), s);
+        assert_eq!(settles(&s, 0, 0, &[]), s);
     }
     let mut s = open(3, 2, 2);
     begin(&mut s, 2, Op::Add(5), 6);
-    let after = settles(&s, 2, &[(2, 0)]);
-    assert_eq!(settles(&after, 0, &[]), after);
+    let after = settles(&s, 2, 0, &[(2, 0)]);
+    assert_eq!(settles(&after, 0, 0, &[]), after);
     // What lies past the n lanes is no part of it.
     let mut s = open(2, 1, 1);
     s.lanes[2].waiting = waiting(true, Op::Load, 0);
     s.lanes[7].down = queue(8, DownKind::Update, 0);
-    assert_eq!(settles(&s, 0, &[]), s);
+    assert_eq!(settles(&s, 0, 0, &[]), s);
 }
 
 #[test]
@@ -108,16 +108,16 @@ fn completions_come_in_their_own_order() {
     run(&mut s, &[Call::Serve(2)]);
     begin(&mut s, 0, Op::Add(3), 1);
     begin(&mut s, 1, Op::Load, 4);
-    settles(&s, 1 + 4 + 2, &[(2, 0), (0, 8), (1, 0)]);
+    settles(&s, 1 + 4 + 2, 1, &[(2, 0), (0, 8), (1, 0)]);
     // A service for lane 1 is open when lanes 0 and 2 begin.
     let mut s = open(3, 1, 2);
     begin(&mut s, 0, Op::Store(5), 0);
-    s = settles(&s, 2, &[(0, 5)]);
+    s = settles(&s, 2, 0, &[(0, 5)]);
     begin(&mut s, 1, Op::Add(1), 0);
     run(&mut s, &[Call::Serve(1), Call::Deliver(0)]);
     begin(&mut s, 2, Op::Load, 0);
     begin(&mut s, 0, Op::Add(10), 0);
-    let after = settles(&s, 2 + 4 + 4, &[(1, 5), (0, 6), (2, 16)]);
+    let after = settles(&s, 2 + 4 + 4, 2, &[(1, 5), (0, 6), (2, 16)]);
     assert_eq!((after.blocks[0].words[0], after.blocks[0].modified), (16, false));
 }
 
@@ -131,7 +131,7 @@ fn the_bound_is_met() {
     }
     (0..8).for_each(|lane| begin(&mut s, lane, Op::Add(1), 4 * lane));
     assert_eq!(bound(&s), 128);
-    settles(&s, 128, &(0..8).map(|lane| (lane, 0)).collect::<Vec<_>>());
+    settles(&s, 128, 56, &(0..8).map(|lane| (lane, 0)).collect::<Vec<_>>());
 }
 
 #[test]
@@ -194,7 +194,7 @@ fn a_refusal_after_a_completion_gives_its_number_alone() {
     let mut s = open(3, 1, 2);
     s.lanes[0].waiting = waiting(true, Op::Store(4), 1);
     s.lanes[0].down = queue(1, DownKind::Grant, 0);
-    settles(&s, 1, &[(0, 4)]);
+    settles(&s, 1, 0, &[(0, 4)]);
     s.lanes[2].returns = queue(1, ReturnKind::Gone, 0);
     assert_eq!(settle(&s), Err(16));
     let case = held::encode_case(&s, HeldCall::Settle);
@@ -205,10 +205,23 @@ fn a_refusal_after_a_completion_gives_its_number_alone() {
     assert_eq!(held::answers(&case), Ok(want));
 }
 
-/// Settle is its steps, each as a call of its own; the steps before the end
-/// or the refusal are no more than the bound, and none makes a store corrupt.
+/// The orders among the messages that a step put behind those of before.
+fn joined_orders(step: Call, before: &Store, after: &Store) -> u8 {
+    let lanes = before.lanes.iter().zip(&after.lanes).take(usize::from(before.n));
+    let joined = lanes.flat_map(|(was, is)| &is.down.messages()[usize::from(was.down.length)..]);
+    match step {
+        // Lazy: other steps may shorten a queue.
+        Call::Serve(_) => joined.filter(|message| message.kind.is_order()).count() as u8,
+        _ => 0,
+    }
+}
+
+/// Settle is its steps, each as a call of its own, with the orders of its serves; the
+/// steps before the end or the refusal are no more than the bound, and none makes a
+/// store corrupt.
 fn check_against_calls(s: &Store, rule: Rule) -> (u32, Result<usize, u8>) {
     let (mut now, mut steps, mut completions) = (s.clone(), 0, Vec::new());
+    let mut orders = 0;
     let number = loop {
         if now.quiet() {
             break None;
@@ -222,6 +235,7 @@ fn check_against_calls(s: &Store, rule: Rule) -> (u32, Result<usize, u8>) {
             Ok((after, answer)) => {
                 assert!(!machine::corrupt(&after));
                 assert!(bound(&after) < bound(&now), "{step:?} does not lower the bound");
+                orders += joined_orders(step, &now, &after);
                 now = after;
                 steps += 1;
                 if let Answer::Done(done) = answer {
@@ -232,7 +246,7 @@ fn check_against_calls(s: &Store, rule: Rule) -> (u32, Result<usize, u8>) {
     };
     assert!(steps <= bound(s), "{steps} steps, bound {}", bound(s));
     let count = completions.len();
-    let wanted = number.map_or(Ok((now, Settled { steps, completions })), Err);
+    let wanted = number.map_or(Ok((now, Settled { steps, orders, completions })), Err);
     assert!(settle_under(s, rule) == wanted);
     (steps, number.map_or(Ok(count), Err))
 }
