@@ -110,7 +110,7 @@ load-beside-wait = beside-wait
 pub load-stands-ahead : LoadStandsAhead
 load-stands-ahead = stand-ahead
 
--- Beside demand 3: settle never fails. After any list of calls from any opening, settle is answered with its count (no 12, no 16), and
+-- Beside demand 3: settle never fails. After any list of calls from any opening, settle is answered with its counts (no 12, no 16), and
 -- nothing is under way after it (`Settles`, specs/Completion.antt).
 pub settle-succeeds : AlwaysSettles
 settle-succeeds = always-settles

@@ -41,4 +41,4 @@ pub record ExactSteps (ins : Insertion) (s : Store) : Type 0 where
   pub deliver : (k : LaneNo) → Costs 0 s (deliverOf ins s k)
   pub return : (k : LaneNo) → Costs 0 s (returnOf s k)
   pub serve : (k : LaneNo) → Costs (ordersFor s k (laneAt s (k .0) .waiting)) s (serveOf s k)
-  pub step : Costs (ordersQueued s (settleStep ins s .store)) s (settleStep ins s)
+  pub step : refusedOf (settleStep ins s .answer) ≡ false → potentialOf (settleStep ins s .store) + 1 ≡ potentialOf s + 2 * ordersQueued s (settleStep ins s .store)

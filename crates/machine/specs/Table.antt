@@ -564,7 +564,7 @@ ordered is s =
 unfoldable pub flagged : ℕ → Store → Store
 flagged k s = let b = blockAt s 0 in withBlock s 0 (withPresent (including (lane k) (b .present)) b)
 
--- settle's bound R + G + 2 × Q + S + 2 × n × U of a store, and its exact count R + G + 2 × Q + S + 2 × U + 2 × O if it sends one order
+-- settle's bound R + G + 2 × Q + S + 2 × n × U of a store, and the exact count R + G + 2 × Q + S + 2 × U + 2 × O with 1 for O, whatever settle would send there
 abbrev pub bounded : Store → ℕ → ℕ → Row
 bounded s bound exact = record { given = Numbers (boundOf s ∷ exactOf s 1 ∷ []); wanted = Numbers (bound ∷ exact ∷ []) }
 
@@ -1100,8 +1100,8 @@ longQueues =
     record { given = Bytes (refusedText QueueFull); wanted = Bytes (114 ∷ 101 ∷ 102 ∷ 117 ∷ 115 ∷ 101 ∷ 100 ∷ 32 ∷ 49 ∷ 50 ∷ []) } ∷
     []
 
--- 02, W8. A grant of block 1 to lane 0; lane 0's PURGE and GONE of block 0, both of the service of lane 1; lane 2's store to block 1, which is not
--- served, and of which lane 0 has PRESENT
+-- 02, W8. Queued for lane 0: a grant of block 1, and a PURGE of block 0, for which lane 1 is in service; a GONE of block 0 is back. Lane 2's store to
+-- block 1 is unserved, and lane 0 has PRESENT there
 unfoldable pub allLetters : Store
 allLetters =
     storing 2 4 9

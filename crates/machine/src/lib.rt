@@ -50,14 +50,14 @@ pub struct ByteMove {
 }
 
 // The counts of a settle: its steps, and the orders that it sent itself.
-pub struct StepCount {
+pub struct SettleCounts {
     pub steps: u16,
     pub orders: u8,
 }
 
 // What settle answers: how many steps it took, with the orders that it sent, or why it is refused.
 pub enum Settled {
-    Steps(StepCount),
+    Steps(SettleCounts),
     Refused(Refusal),
 }
 

@@ -20,13 +20,10 @@ use Rattle.machine.specs.declared.Settled.the-variants.{Steps}
 use Rattle.machine.specs.Corruption.{corruptOf}
 use Rattle.machine.specs.Potential.{potentialOf}
 use Rattle.machine.specs.Settle.{settleStep, ordersQueued, boundOf, Progress, ended, advance, repeatStep, Settlement, refuseSettle, reached, unlessRefused, settleOf}
-use Rattle.machine.proofs.bounds.Sound.{sound}
 use Rattle.machine.specs.Sized.{Sized}
-use Rattle.machine.proofs.bounds.SizedKeeps.{settle-step-sized, sized-whole}
-use Rattle.machine.proofs.bounds.KeepsRepeat.{settle-step-keeps}
 use Rattle.machine.specs.Begun.{waitingIn}
-use Rattle.machine.proofs.settle.Falls.{steps-exact, settle-falls, settle-completes, bound-most, waiting-most}
-use Rattle.machine.proofs.settle.FallsSettle.{repeat-ended, repeat-more, bound-more, settle-exact, settle-count}
+use Rattle.machine.proofs.settle.Falls.{settle-falls, settle-completes, bound-most, waiting-most}
+use Rattle.machine.proofs.settle.FallsSettle.{advance-onward, repeat-ended, repeat-more, bound-more, settle-exact, settle-count}
 use Rattle.settle.specs.declared.Completions.{Completions}
 use Rattle.settle.specs.declared.SettleOutcome.{SettleOutcome}
 use Rattle.settle.specs.Settles.{padded, arrayOf, outcomeOf, Counted, listedOf, refusalOf}
@@ -152,18 +149,19 @@ module _ (first s : Store) (d : Completions) (count orders : ℕ) (g : Going fir
         Going first (settleStep LoadsOldest s .store) (listedOf d (settleStep LoadsOldest s .answer)) (count + 1) (orders + ordersQueued s (settleStep LoadsOldest s .store))
     unfolding advance
     going-next x =
-        let c = settle-completes LoadsOldest s (g .sized) in
+        let a = advance-onward LoadsOldest (after count orders (g .completed) (g .answer) s) (g .sound) (g .sized) x in
+        let c = a .listed in
+        let e = a .exact in
         let f = g .fits in
         let b = g .bounded in
         let p = g .exact in
         let m = settle-falls LoadsOldest s (g .sound) (g .sized) x in
-        let o = steps-exact LoadsOldest s (g .sound) (g .sized) .step x .1 in
         let l = length-append (g .completed) (doneIn (settleStep LoadsOldest s .answer)) in
         let h : length (doneIn (settleStep LoadsOldest s .answer)) + length (g .completed) ≤ 8 = omega arith in
         let z : boundOf first - count ≡ suc (boundOf first - (count + 1)) = omega arith in
         record {
-          sound = settle-step-keeps LoadsOldest s (g .sound) (sized-whole s (sound s (g .sound) .n-high) (g .sized));
-          sized = settle-step-sized LoadsOldest s (g .sized);
+          sound = a .not-corrupt;
+          sized = a .sized;
           bounded = omega arith;
           exact = omega arith;
           completed = g .completed ++ doneIn (settleStep LoadsOldest s .answer);

@@ -13,8 +13,8 @@ ghost use Rattle.settle.specs.Settles.{arrayOf, outcomeOf, Counted, list
 use answers::Answer;
 use answers::Completion;
 use answers::Refusal;
+use machine::SettleCounts;
 use machine::Settled;
-use machine::StepCount;
 use store::Store;
 use words::LaneNo;
 
@@ -109,7 +109,7 @@ fn settle_sound(first: Store) -> SettleOutcome
         count += 1;
         orders += x.orders;
     }
-    let counts = StepCount {
+    let counts = SettleCounts {
         steps: count,
         orders: orders,
     };

@@ -4,7 +4,6 @@ use mathlib.Core.Path.{_≡_, sym, ap, _∙_}
 use mathlib.Core.Bool.{true, false}
 use Rattle.words.specs.declared.LaneNo.{LaneNo}
 use Rattle.lanes.specs.declared.Waiting.{Waiting}
-use Rattle.lanes.specs.UseOrder.{LoadsOldest}
 use Rattle.answers.specs.Refusals.{refusedOf}
 use Rattle.store.specs.declared.Store.{Store}
 use Rattle.store.specs.declared.Outcome.{Outcome}
@@ -31,7 +30,7 @@ module _ (s : Store) (k : LaneNo) (r : Outcome) (e : r ≡ serveOf s k) where
   counted-serve c z h n f =
       let goes = sym answered ∙ h in
       let u = serve-unserved s c z k goes in
-      let q = serve-queues s c z k goes LoadsOldest (u .0) (u .1) in
+      let q = serve-queues s c z k goes (u .0) (u .1) in
       let a = ap (λ (x : Outcome). sentFor (laneAt s (k .0) .waiting) (x .store .control)) e in
       let b = ap (λ (w : Waiting). sentFor w (serveOf s k .store .control)) (u .1) in
       let p = f ∙ (a ∙ (b ∙ sym q)) in

@@ -1,7 +1,7 @@
 // One step of settle on a store that is not corrupt: found and taken, and the orders counted that it queued. For settle and not for others.
 ghost use mathlib.Core.Path.{_≡_};
 ghost use mathlib.Core.Bool.{false};
-ghost use Prim.Native.Nat.{_+_, _<_, _≤_};
+ghost use Prim.Native.Nat.{_<_, _≤_};
 ghost use Rattle.words.specs.Folds.{lowestTo};
 ghost use Rattle.store.specs.Stores.{laneAt};
 ghost use Rattle.store.specs.Control.{awaitedOf};

@@ -1,8 +1,8 @@
 -- 01, "Settle": what a step that is not refused makes of the potential, to the exact number; so a step of settle lowers the bound, on every
 -- store that is not corrupt, reached or not; and it completes as many operations as wait no more. Assumes nothing.
-use Prim.Native.Nat.{ℕ, _+_, _*_, _<_, _≤_}
+use Prim.Native.Nat.{ℕ, _+_, _-_, _*_, _<_, _≤_}
 use mathlib.Core.Path.{_≡_, refl, ap, _∙_}
-use mathlib.Core.Bool.{true, false, not, true≢false}
+use mathlib.Core.Bool.{false, not, true≢false}
 use lib.ListN.{length}
 use borrow.Author.Tests.{ne-eqb}
 use native.Mathlib.Omega.{arith}
@@ -26,7 +26,7 @@ use Rattle.machine.specs.Change.{refuse}
 use Rattle.machine.specs.Serve.{serveOf}
 use Rattle.machine.specs.Return.{returnOf}
 use Rattle.machine.specs.Deliver.{deliverOf}
-use Rattle.machine.specs.Settle.{settleStep, ordersQueued, boundOf, lane}
+use Rattle.machine.specs.Settle.{settleStep, unservedIn, ordersQueued, boundOf, lane}
 use Rattle.machine.specs.Sized.{Sized}
 use Rattle.machine.proofs.laws.Sums.{sum-most}
 use Rattle.machine.proofs.bounds.Sound.{sound}
@@ -39,6 +39,10 @@ use Rattle.machine.proofs.settle.FallsMove.{serve-move-weighs, return-m
 use Rattle.machine.proofs.bounds.Counts.{step-counts, step-begun}
 use Rattle.machine.proofs.rules.Rules.{serve-rule, return-rule, deliver-rule}
 use Rattle.machine.proofs.rules.RulesSettle.{step-rule}
+
+-- the most orders that the unserved operations of a store can have sent
+abbrev pub ordersLeft : Store → ℕ
+ordersLeft s = (s .shape .n - 1) * unservedIn s
 
 -- 01's bound is the tally with 2n for an unserved operation
 bound-tally : (s : Store) → boundOf s ≡ tallyOf (2 * s .shape .n) s
@@ -90,15 +94,21 @@ orders-fewer s k e l = go (laneAt s (k .0) .waiting) refl
         ordered-fewer (s .shape .n) (blockAt s (blockOf (o .word) .0)) k (o .command) (a .n-high) l (a .block (blockOf (o .word) .0) (a .lane (k .0) l .unserved o q))
     go (Served o) q = omega arith
 
--- a step of settle: what it makes of the potential, so of the bound
-record Falling (s : Store) (r : Outcome) : Type 0 where
-  potential : potentialOf (r .store) + 1 ≡ potentialOf s + 2 * ordersQueued s (r .store)
-  bound : boundOf (r .store) < boundOf s
+-- a step of settle: what it makes of the potential and of the bound; a serve queues no more than n − 1 orders for its operation
+pub record Falling (s : Store) (r : Outcome) : Type 0 where
+  pub potential : potentialOf (r .store) + 1 ≡ potentialOf s + 2 * ordersQueued s (r .store)
+  pub bound : boundOf (r .store) < boundOf s
+  pub orders : ordersQueued s (r .store) + ordersLeft (r .store) ≤ ordersLeft s
+
+-- an unserved operation more for each u
+tally-unserved : (s : Store) → tallyOf 3 s ≡ tallyOf 2 s + unservedIn s
+unfolding tallyOf
+tally-unserved s = omega arith
 
 -- .. where 2n for an operation served pays for its grant or service and for its orders
-falls : (served orders : ℕ) (s : Store) (r : Outcome) → ((u : ℕ) → Advancing u served orders s r) → 2 * served + 2 * orders ≤ 2 * s .shape .n * served →
+falls : (served orders : ℕ) (s : Store) (r : Outcome) → ((u : ℕ) → Advancing u served orders s r) → 2 * served + 2 * orders ≤ 2 * s .shape .n * served → orders ≤ (s .shape .n - 1) * served →
     refusedOf (r .answer) ≡ false → Falling s r
-falls served orders s r a f h =
+falls served orders s r a f g h =
     let p = a 2 h in
     let q = a (2 * s .shape .n) h in
     let b = p .exact in
@@ -106,15 +116,28 @@ falls served orders s r a f h =
     let d = p .queued in
     let i = bound-tally s in
     let j = bound-tally (r .store) ∙ ap (λ (n : ℕ). tallyOf (2 * n) (r .store)) (p .lanes) in
-    record { potential = omega arith; bound = omega arith }
+    record { potential = omega arith; bound = omega arith; orders = left }
+  where
+    left : ordersQueued s (r .store) + ordersLeft (r .store) ≤ ordersLeft s
+    left =
+        let p = a 2 h in
+        let b = p .exact in
+        let c = a 3 h .exact in
+        let d = p .queued in
+        let i = tally-unserved s in
+        let j = tally-unserved (r .store) in
+        let u : unservedIn s ≡ unservedIn (r .store) + served = omega arith in
+        let v = ap (λ (k : ℕ). (s .shape .n - 1) * k) u in
+        let w = ap (λ (k : ℕ). (k - 1) * unservedIn (r .store)) (p .lanes) in
+        omega arith
 
 -- it is a deliver, a return or a serve, or is refused
-step-falls : (ins : Insertion) (s : Store) → corruptOf s ≡ false → Sized s → refusedOf (settleStep ins s .answer) ≡ false → Falling s (settleStep ins s)
+pub step-falls : (ins : Insertion) (s : Store) → corruptOf s ≡ false → Sized s → refusedOf (settleStep ins s .answer) ≡ false → Falling s (settleStep ins s)
 step-falls ins s e g =
     step-rule ins (λ (r : Outcome). refusedOf (r .answer) ≡ false → Falling s r) s
-    (λ k _ _. falls 0 0 s _ (λ u. deliver-advances ins u s (lane k) g) (omega arith))
-    (λ _ k _ _. falls 0 0 s _ (λ u. return-advances u s (lane k) g) (omega arith))
-    (λ _ _ k l _. let f = orders-fewer s (lane k) e l in falls 1 _ s _ (λ u. serve-advances u s (lane k) g) (omega arith))
+    (λ k _ _. falls 0 0 s _ (λ u. deliver-advances ins u s (lane k) g) (omega arith) (omega arith))
+    (λ _ k _ _. falls 0 0 s _ (λ u. return-advances u s (lane k) g) (omega arith) (omega arith))
+    (λ _ _ k l _. let f = orders-fewer s (lane k) e l in falls 1 _ s _ (λ u. serve-advances u s (lane k) g) (omega arith) (omega arith))
     (λ _ _ _ h. absurd (true≢false h))
 
 -- what the potential has it cost
@@ -127,7 +150,7 @@ steps-exact ins s e g =
       deliver = λ k h. costs 0 0 s _ (deliver-advances ins 2 s k g h);
       return = λ k h. costs 0 0 s _ (return-advances 2 s k g h);
       serve = λ k h. costs 1 _ s _ (serve-advances 2 s k g h);
-      step = λ h. (refl, step-falls ins s e g h .potential);
+      step = λ h. step-falls ins s e g h .potential;
     }
 
 pub settle-falls : (ins : Insertion) (s : Store) → corruptOf s ≡ false → Sized s → refusedOf (settleStep ins s .answer) ≡ false → boundOf (settleStep ins s .store) < boundOf s

@@ -1,7 +1,7 @@
 -- What memory's part of serve and of return makes of what the lane, the messages sent and the service add, and of the orders queued. Assumes nothing.
 use Prim.Native.Nat.{ℕ, _+_, _*_, _<_, _≤_}
 use mathlib.Core.Path.{_≡_, refl, sym, ap, _∙_}
-use mathlib.Core.Bool.{true, false, cond, true≢false}
+use mathlib.Core.Bool.{true, false, true≢false}
 use lib.ListN.{length, getD-replicate}
 use lib.Seq.{getD-set-same, getD-set-other}
 use native.Mathlib.Omega.{arith}
@@ -54,11 +54,11 @@ order-price ρ ReadShared = refl
 order-price ρ ReadExclusive = refl
 order-price ρ Exclude = refl
 
--- .. unless it is refused
+-- what memory's part weighs, unless it is refused
 abbrev Weighing : ℕ → ℕ → ℕ → ℕ → Lane → Control → Move → Type 0
 Weighing n u served orders l x v = refusedOf (v .answer) ≡ false → Weighs n u served orders l x v
 
--- the lane keeps its orders: memory's part leaves its own lane's down queue
+-- the lane keeps its orders: memory's part leaves its own lane's down queue as it is
 keeps-orders : (t l : Lane) → t .downs ≡ l .downs → weight ordersOnly t ≡ weight ordersOnly l
 keeps-orders t l e = orders-weight t ∙ (ap (downsOf true) e ∙ sym (orders-weight l))
 

@@ -17,7 +17,7 @@ use Rattle.answers.specs.Completions.{doneIn}
 use Rattle.store.specs.declared.Store.{Store}
 use Rattle.machine.specs.Begun.{waitingIn}
 use Rattle.store.specs.Quiet.{quietOf}
-use Rattle.machine.specs.declared.StepCount.{StepCount}
+use Rattle.machine.specs.declared.SettleCounts.{SettleCounts}
 use Rattle.machine.specs.declared.Settled.the-variants.{Steps}
 use Rattle.machine.specs.Corruption.{corruptOf}
 use Rattle.machine.specs.Potential.{tallyOf, potentialOf}
@@ -30,7 +30,7 @@ use Rattle.machine.proofs.bounds.KeepsLane.{clash}
 use Rattle.machine.proofs.bounds.KeepsRepeat.{settle-step-keeps}
 use Rattle.machine.proofs.bounds.SizedKeeps.{settle-step-sized, sized-whole}
 use Rattle.machine.proofs.settle.FallsStore.{quiet-tally}
-use Rattle.machine.proofs.settle.Falls.{steps-exact, settle-falls, settle-completes}
+use Rattle.machine.proofs.settle.Falls.{ordersLeft, step-falls, settle-falls, settle-completes}
 
 -- where settle starts
 abbrev pub startAt : Store → Progress
@@ -55,31 +55,32 @@ refused-ended : (p : Progress) → refusedOf (p .answer) ≡ true → ended p �
 unfolding ended
 refused-ended p e = rw e
 
--- what holds of a settle before a step and of it later: the store stays so, each step costs 1 of the bound, and 1 of the potential to which each
--- order queued adds 2, and each completion is of an operation that waited
+-- what holds of a settle before a step and of it later: the store stays so, each step costs 1 of the potential, to which each order queued adds 2,
+-- the orders are no more than the operations served can send, and each completion is of an operation that waited
 pub record Onward (p q : Progress) : Type 0 where
   pub not-corrupt : corruptOf (q .store) ≡ false
   pub sized : Sized (q .store)
-  pub within : q .count + boundOf (q .store) ≤ p .count + boundOf (p .store)
   pub exact : q .count + potentialOf (q .store) + 2 * p .orders ≡ p .count + potentialOf (p .store) + 2 * q .orders
+  pub sent : q .orders + ordersLeft (q .store) ≤ p .orders + ordersLeft (p .store)
   pub listed : length (q .completions) + waitingIn (q .store) ≡ length (p .completions) + waitingIn (p .store)
 
 same-onward : (p : Progress) → corruptOf (p .store) ≡ false → Sized (p .store) → Onward p p
-same-onward p e g = record { not-corrupt = e; sized = g; within = omega arith; exact = refl; listed = refl }
+same-onward p e g = record { not-corrupt = e; sized = g; exact = refl; sent = omega arith; listed = refl }
 
 -- a step that is not refused
 pub advance-onward : (ins : Insertion) (p : Progress) → corruptOf (p .store) ≡ false → Sized (p .store) → refusedOf (advance ins p .answer) ≡ false → Onward p (advance ins p)
 unfolding advance
 advance-onward ins p e g h =
-    let a = settle-falls ins (p .store) e g h in
-    let d = steps-exact ins (p .store) e g .step h .1 in
+    let a = step-falls ins (p .store) e g h in
+    let d = a .potential in
+    let f = a .orders in
     let b = settle-completes ins (p .store) g in
     let c = length-append (p .completions) (doneIn (settleStep ins (p .store) .answer)) in
     record {
       not-corrupt = settle-step-keeps ins (p .store) e (sized-whole (p .store) (sound (p .store) e .n-high) g);
       sized = settle-step-sized ins (p .store) g;
-      within = omega arith;
       exact = omega arith;
+      sent = omega arith;
       listed = omega arith;
     }
 
@@ -141,14 +142,14 @@ repeat-onward ins (suc f) p e g h =
         (λ o.
         let a = advance-onward ins p e g o in
         let b = r (a .not-corrupt) (a .sized) d in
-        let c = a .within in
-        let i = b .within in
+        let c = a .sent in
+        let i = b .sent in
         let j = a .exact in
         let k = b .exact in
-        record { not-corrupt = b .not-corrupt; sized = b .sized; within = omega arith; exact = omega arith; listed = b .listed ∙ a .listed })
+        record { not-corrupt = b .not-corrupt; sized = b .sized; exact = omega arith; sent = omega arith; listed = b .listed ∙ a .listed })
 
 -- what a settle that has ended counts
-abbrev pub countsOf : Progress → StepCount
+abbrev pub countsOf : Progress → SettleCounts
 countsOf p = record { steps = p .count; orders = p .orders }
 
 -- where the whole settle ends
@@ -184,7 +185,7 @@ unfolding exactOf tallyOf
 exact-potential s orders = refl
 
 -- the bound has 2 × (n − 1) more than the potential for each unserved operation
-pub bound-more : (s : Store) → corruptOf s ≡ false → boundOf s ≡ potentialOf s + 2 * ((s .shape .n - 1) * unservedIn s)
+pub bound-more : (s : Store) → corruptOf s ≡ false → boundOf s ≡ potentialOf s + 2 * ordersLeft s
 unfolding boundOf tallyOf
 bound-more s e =
     let h = sound s e .n-low in
@@ -195,17 +196,16 @@ bound-more s e =
 -- 02, W8: the count is R + G + 2Q + S + 2U + 2O, and O is at most (n − 1) × U, for every settle that isn't refused
 pub settle-exact : SettleExact
 settle-exact ins s g =
-    settle-rule ins (λ (r : Settlement). (counts : StepCount) → r .answer ≡ Steps counts → Exact s counts) s (λ r counts e. clash (cc))
+    settle-rule ins (λ (r : Settlement). (counts : SettleCounts) → r .answer ≡ Steps counts → Exact s counts) s (λ r counts e. clash (cc))
     (λ c h q counts e. let b : countsOf (lastOf ins s) ≡ counts = cc in rw (← b) (last c h q))
   where
     last : corruptOf s ≡ false → refusedOf (lastOf ins s .answer) ≡ false → quietOf (lastOf ins s .store) ≡ true → Exact s (countsOf (lastOf ins s))
     last c h q =
         let a = repeat-onward ins (suc (boundOf s)) (startAt s) c g h in
-        let w = a .within in
         let x = a .exact in
         let z = quiet-tally 2 (lastOf ins s .store) q in
         let y = exact-potential s (lastOf ins s .orders) in
-        let m = bound-more s c in
+        let w = a .sent in
         record { steps = omega arith; orders = omega arith }
 
 -- 01: so it is at most R + G + 2Q + S + 2nU

@@ -53,7 +53,7 @@ repeat-goes ins n p e l = repeat-rule ins (λ (r : Progress). (refusedOf (r .ans
       step-lively ins (q .store) l,
     )
 
--- so settle answers with its count, and the store is then quiet
+-- so settle answers with its counts, and the store is then quiet
 pub settle-goes : (ins : Insertion) (s : Store) → Lively s → Settles ins s
 settle-goes ins s l =
     let e = l .consistent .sound in

@@ -1,9 +1,8 @@
--- The orders that a step of settle queues, refused or not: none by a deliver and a return; by a serve as many as the service awaits that it opened.
+-- The orders that a step of settle queues: none by a deliver, a return and what is refused; by a serve as many as the service awaits that it opened.
 -- Assumes nothing.
 use Prim.Native.Nat.{ℕ}
 use mathlib.Core.Path.{_≡_, refl, sym, ap, _∙_}
 use mathlib.Core.Bool.{true, false, true≢false}
-use mathlib.Core.Logic.{_≢_}
 use lib.Dec.{eqb}
 use borrow.Author.Tests.{eqb-true, eqb-false}
 use native.Mathlib.Omega.{arith}
@@ -11,15 +10,13 @@ use Rattle.words.specs.declared.LaneNo.{LaneNo}
 use Rattle.words.specs.declared.BlockNo.{BlockNo}
 use Rattle.words.specs.Units.{blockOf}
 use Rattle.lanes.specs.declared.Operation.{Operation}
-use Rattle.lanes.specs.declared.Waiting.{Waiting}
 use Rattle.lanes.specs.declared.Waiting.the-variants.{Unserved}
-use Rattle.lanes.specs.UseOrder.{Insertion}
+use Rattle.lanes.specs.UseOrder.{Insertion, LoadsOldest}
 use Rattle.answers.specs.Refusals.{refusedOf}
 use Rattle.store.specs.declared.Store.{Store}
 use Rattle.store.specs.declared.Outcome.{Outcome}
-use Rattle.store.specs.declared.Lookup.{Lookup}
 use Rattle.store.specs.Control.{serviceOf, awaitedOf}
-use Rattle.store.specs.Stores.{laneAt, blockAt}
+use Rattle.store.specs.Stores.{laneAt}
 use Rattle.machine.specs.declared.LaneStep.{LaneStep}
 use Rattle.machine.specs.declared.Move.{Move}
 use Rattle.machine.specs.Corruption.{corruptOf}
@@ -30,10 +27,9 @@ use Rattle.machine.specs.Deliver.{deliverOf}
 use Rattle.machine.specs.Settle.{ordersQueued}
 use Rattle.machine.specs.Sized.{Sized}
 use Rattle.machine.specs.Potential.{ordersFor}
-use Rattle.machine.specs.LaneBytes.{bitsIn, ordersByte}
+use Rattle.machine.specs.LaneBytes.{bitsIn}
 use Rattle.machine.specs.ServeByte.{GoesByByte}
 use Rattle.machine.proofs.laws.Tests.{on}
-use Rattle.machine.proofs.bounds.KeepsLane.{clash}
 use Rattle.machine.proofs.rules.Rules.{answer-goes, serve-rule, return-rule, deliver-rule, lane-rule, move-rule}
 use Rattle.machine.proofs.store.ServeByte.{orders-count, serve-by-byte}
 use Rattle.machine.proofs.settle.Falls.{steps-exact}
@@ -66,20 +62,20 @@ module _ (s : Store) (sound : corruptOf s ≡ false) (z : Sized s) (k : LaneNo) 
   deliver-queues ins =
       on (refusedOf (deliverOf ins s k .answer)) (λ e. stays-none s (deliverOf ins s k) (deliver-stays ins s k e)) (λ e. steps-exact ins s sound z .deliver k e .0)
 
-  pub return-queues : (ins : Insertion) → ordersQueued s (returnOf s k .store) ≡ 0
-  return-queues ins = on (refusedOf (returnOf s k .answer)) (λ e. stays-none s (returnOf s k) (return-stays s k e)) (λ e. steps-exact ins s sound z .return k e .0)
+  pub return-queues : ordersQueued s (returnOf s k .store) ≡ 0
+  return-queues = on (refusedOf (returnOf s k .answer)) (λ e. stays-none s (returnOf s k) (return-stays s k e)) (λ e. steps-exact LoadsOldest s sound z .return k e .0)
 
   -- a serve that is not refused
   module _ (goes : refusedOf (serveOf s k .answer) ≡ false) where
     pub serve-unserved : (o : Operation) × (laneAt s (k .0) .waiting ≡ Unserved o)
     serve-unserved = let g = serve-by-byte s k z goes in (g .0, g .1)
 
-    pub serve-queues : (ins : Insertion) (o : Operation) → laneAt s (k .0) .waiting ≡ Unserved o →
+    pub serve-queues : (o : Operation) → laneAt s (k .0) .waiting ≡ Unserved o →
         ordersQueued s (serveOf s k .store) ≡ awaitedOf (serviceOf (serveOf s k .store .control) (blockOf (o .word)))
-    serve-queues ins o e =
+    serve-queues o e =
         let g = serve-by-byte s k z goes in
         let q : g .0 ≡ o = cc (g .1, e) in
-        steps-exact ins s sound z .serve k goes .0 ∙ (ap (ordersFor s k) (g .1) ∙ (sym (orders-count _ k (g .0 .command)) ∙
+        steps-exact LoadsOldest s sound z .serve k goes .0 ∙ (ap (ordersFor s k) (g .1) ∙ (sym (orders-count _ k (g .0 .command)) ∙
         (awaits (blockOf (g .0 .word)) _ (g .2) ∙ ap (λ (p : Operation). awaitedOf (serviceOf (serveOf s k .store .control) (blockOf (p .word)))) q)))
       where
         awaits : (a : BlockNo) (x : ℕ) → GoesByByte s (serveOf s k .store) k a x → bitsIn x ≡ awaitedOf (serviceOf (serveOf s k .store .control) a)

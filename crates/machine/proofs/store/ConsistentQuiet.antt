@@ -3,28 +3,25 @@
 use Prim.Native.Nat.{ℕ, zero, suc, _<_, _≤_}
 use mathlib.Core.Logic.{_⊎_, inl, inr, _≢_}
 use mathlib.Core.Path.{_≡_, refl, sym, ap, _∙_}
-use mathlib.Core.Bool.{Bool, true, false, cond, not, _||_}
+use mathlib.Core.Bool.{Bool, true, false, cond}
 use mathlib.Core.List.{List, []}
 use lib.Dec.{ltb}
 use lib.ListN.{length, List·getD-eq-default}
-use borrow.Author.Tests.{ltb-false, ltb-true}
+use borrow.Author.Tests.{ltb-true}
 use native.Mathlib.Omega.{arith}
 use native.Mathlib.Nat.{eq-or-lt-of-le}
 use Rattle.words.specs.Lines.{holdsOf}
 use Rattle.words.specs.Folds.{upTo, anyTo}
-use Rattle.words.proofs.Folds.{below?, any-false, any-true, any-never, or-left, or-right, pick}
-use Rattle.lanes.specs.declared.Lane.{Lane}
-use Rattle.lanes.specs.declared.Waiting.the-variants.{Idle}
+use Rattle.words.proofs.Folds.{below?, any-true, any-never, pick}
 use Rattle.lanes.specs.declared.Found.{Found}
 use Rattle.lanes.specs.declared.Found.the-variants.{At, Nothing}
 use Rattle.lanes.specs.Search.{searchOf}
-use Rattle.lanes.specs.Waits.{idleOf}
 use Rattle.store.specs.declared.Store.{Store}
 use Rattle.store.specs.Stores.{laneAt, blockAt}
 use Rattle.store.specs.Quiet.{quietOf}
 use Rattle.machine.specs.Flat.{flatBlock}
 use Rattle.machine.specs.Flags.{lineIn, presentIn, hasCopy, owns, shownOf, Flags}
-use Rattle.machine.proofs.laws.Tests.{on, and-both, not-false}
+use Rattle.machine.proofs.laws.Tests.{on, and-both}
 use Rattle.machine.proofs.laws.Sets.{same?}
 use Rattle.machine.proofs.bounds.Sound.{sound}
 use Rattle.machine.proofs.bounds.KeepsLane.{clash}

@@ -41,7 +41,7 @@ returns-2 : tie.Need-returns-2
 returns-2 c =
     let at-told = c .before .before in
     let start = at-told .before .before in
-    c .without-orders2 .ensures ∙ rw (at-told .enum-told2 .given .1) (taken-none (start .args .s) _ _ (c .before .return-sound .ensures) (return-queues (start .args .s) (start .pre .0) (start .pre .2) (start .args .k) LoadsOldest))
+    c .without-orders2 .ensures ∙ rw (at-told .enum-told2 .given .1) (taken-none (start .args .s) _ _ (c .before .return-sound .ensures) (return-queues (start .args .s) (start .pre .0) (start .pre .2) (start .args .k)))
 
 returns-3 : tie.Need-returns-3
 returns-3 c = rw (c .before .enum-told3 .given .1, c .serve-step .ensures)
