@@ -27,9 +27,9 @@ number_of PlacesExhausted = 17
 number_of InvalidLimit = 18
 
 -- whether an answer is a refusal
-abbrev pub refusedOf : Answer → Bool
-refusedOf Opened = false
-refusedOf (Done x) = false
-refusedOf Wait = false
-refusedOf Step = false
-refusedOf (Refused r) = true
+abbrev pub refused_of : Answer → Bool
+refused_of Opened = false
+refused_of (Done x) = false
+refused_of Wait = false
+refused_of Step = false
+refused_of (Refused r) = true

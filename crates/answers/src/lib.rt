@@ -1,7 +1,7 @@
 // What a call answers: the documents' refusals by name, completions, and the answer itself.
 ghost use Rattle.std.specs.Prelude.{◌≡◌};
-ghost use Rattle.answers.specs.Refusals.{number_of, refusedOf};
-ghost use Rattle.answers.specs.Completions.{completionOf};
+ghost use Rattle.answers.specs.Refusals.{number_of, refused_of};
+ghost use Rattle.answers.specs.Completions.{completion_of};
 
 use words::LaneNo;
 
@@ -66,7 +66,7 @@ pub struct Completion {
 
 // The one way to make a completion.
 pub fn completed(k: LaneNo, v: u32, p: u32) -> Completion
-    ensures { result ≡ completionOf k v p }
+    ensures { result ≡ completion_of k v p }
 {
     Completion {
         lane: k,
@@ -88,7 +88,7 @@ pub enum Answer {
 impl Answer {
     // Whether the call was refused.
     pub fn refused(self) -> bool
-        ensures { result ≡ refusedOf self }
+        ensures { result ≡ refused_of self }
     {
         match self {
             Answer::Opened => false,

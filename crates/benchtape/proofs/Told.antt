@@ -7,28 +7,28 @@ use lib.ListN.{length}
 use Rattle.answers.specs.declared.Refusal.{Refusal}
 use Rattle.machine.specs.declared.Filled.{Filled}
 use Rattle.machine.specs.declared.Filled.TheVariants.{Length, Refused}
-use Rattle.machine.specs.machine.Fill.{Filling}
-use Rattle.machine.specs.machine.Text.{textMost, printed, printOf}
-use Rattle.machine.proofs.Lengths.{text-fits}
+use Rattle.machine.specs.Machine.Fill.{Filling}
+use Rattle.machine.specs.Machine.Text.{text_most, printed, print_of}
+use Rattle.machine.proofs.Lengths.{text_fits}
 use Rattle.buffers.specs.Written.{written}
-use Rattle.buffers.proofs.Writing.{written-length}
-use Rattle.tape_replay.proofs.Prints.{print-fits}
+use Rattle.buffers.proofs.Writing.{written_length}
+use Rattle.tape_replay.proofs.Prints.{print_fits}
 
-module _ (tape out : List ℕ) {r : Filled} {after : List ℕ} (room : textMost ≤ length out) (told : (r ≡ (printOf tape out).answer) × (after ≡ (printOf tape out).buffer)) where
+module _ (tape out : List ℕ) {r : Filled} {after : List ℕ} (room : text_most ≤ length out) (told : (r ≡ (print_of tape out).answer) × (after ≡ (print_of tape out).buffer)) where
   answered : r ≡ Length (length (printed tape))
-  answered = told.0 ∙ ap (λ (x : Filling). x.answer) (print-fits tape out room)
+  answered = told.0 ∙ ap (λ (x : Filling). x.answer) (print_fits tape out room)
 
   wrote : after ≡ written out 0 (printed tape)
-  wrote = told.1 ∙ ap (λ (x : Filling). x.buffer) (print-fits tape out room)
+  wrote = told.1 ∙ ap (λ (x : Filling). x.buffer) (print_fits tape out room)
 
   -- a length is the text's
-  pub told-length : {n : ℕ} → r ≡ Length n → (n ≡ length (printed tape)) × (after ≡ written out 0 (printed tape)) × (n ≤ length after)
-  told-length {n} e =
+  pub told_length : {n : ℕ} → r ≡ Length n → (n ≡ length (printed tape)) × (after ≡ written out 0 (printed tape)) × (n ≤ length after)
+  told_length {n} e =
       let a = answered in
       let is : n ≡ length (printed tape) = cc in
-      let l = ap length wrote ∙ written-length out 0 (printed tape) (omega (arith, text-fits tape)) in
-      (is, wrote, omega (arith, text-fits tape))
+      let l = ap length wrote ∙ written_length out 0 (printed tape) (omega (arith, text_fits tape)) in
+      (is, wrote, omega (arith, text_fits tape))
 
   -- it is not refused
-  pub told-refused : {x : Refusal} → r ≡ Refused x → ⊥
-  told-refused e = let a = answered in let z : ◌≡◌ {A = ℕ} 0 1 = cc in omega arith
+  pub told_refused : {x : Refusal} → r ≡ Refused x → ⊥
+  told_refused e = let a = answered in let z : ◌≡◌ {A = ℕ} 0 1 = cc in omega arith

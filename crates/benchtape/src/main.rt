@@ -1,7 +1,7 @@
 // benchtape: one read of a tape from standard input, `tape_replay::print`, one write of its text to standard output. All that is printed is
 // proved there; no contract can speak of what is read or written.
 ghost use Rattle.std.specs.Prelude.{◌≡◌, ◌≤◌, length};
-ghost use Rattle.machine.specs.machine.Text.{printed, textMost};
+ghost use Rattle.machine.specs.Machine.Text.{printed, text_most};
 ghost use Rattle.buffers.specs.Written.{written};
 ghost use Rattle.benchtape.specs.Reading.{bytes_of};
 
@@ -38,14 +38,14 @@ fn read_tape(buf: &mut [u8]) -> Reading
 
 // Room for the longest text.
 fn room() -> [u8; TEXT_MOST]
-    ensures { textMost ≡ length result }
+    ensures { text_most ≡ length result }
 {
     [0; TEXT_MOST]
 }
 
 // The tape's text, at the start of a buffer with room for it; its length.
 fn text_of(tape: &[u8], out: &mut [u8]) -> usize
-    requires { textMost ≤ length out.old }
+    requires { text_most ≤ length out.old }
     ensures { (result ≡ length (printed tape.now))
         × (out.new ≡ written out.old 0 (printed tape.now))
         × (result ≤ length out.new) }
@@ -59,7 +59,7 @@ fn text_of(tape: &[u8], out: &mut [u8]) -> usize
 
 // One read, the text, one write. A read or a write that fails is told on standard error, and nothing more is written.
 fn bench(tape: &mut [u8], out: &mut [u8])
-    requires { textMost ≤ length out.old }
+    requires { text_most ≤ length out.old }
 {
     let reading = read_tape(tape);
     let Reading::Bytes(n) = reading else {

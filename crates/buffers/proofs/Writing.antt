@@ -14,9 +14,9 @@ unfolding written
 written_none xs at = let e : at + 0 ≡ at = omega arith in sym (rw e (take-append-drop at xs))
 
 -- a write from the start on
-pub written-front : (xs ys : List ℕ) → written xs 0 ys ≡ ys ++ drop (length ys) xs
+pub written_front : (xs ys : List ℕ) → written xs 0 ys ≡ ys ++ drop (length ys) xs
 unfolding written
-written-front xs ys = let z : 0 + length ys ≡ length ys = omega arith in rw z
+written_front xs ys = let z : 0 + length ys ≡ length ys = omega arith in rw z
 
 -- a store of one byte
 pub written_one : (xs : List ℕ) (at b : ℕ) → at < length xs → set xs at b ≡ written xs at (b ∷ [])
@@ -24,9 +24,9 @@ unfolding written
 written_one xs at b h = rw (set_split xs at b h, add-one)
 
 -- the buffer keeps its length
-pub written-length : (xs : List ℕ) (at : ℕ) (ys : List ℕ) → at + length ys ≤ length xs → length (written xs at ys) ≡ length xs
+pub written_length : (xs : List ℕ) (at : ℕ) (ys : List ℕ) → at + length ys ≤ length xs → length (written xs at ys) ≡ length xs
 unfolding written
-written-length xs at ys h = simp (length-append, length-take, length-drop) (omega arith)
+written_length xs at ys h = simp (length-append, length-take, length-drop) (omega arith)
 
 drop_past : (p q : List ℕ) (n k : ℕ) → length p ≡ n → drop (n + k) (p ++ q) ≡ drop k q
 drop_past p q n k e = rw (← e, drop-append-add p q k)

@@ -2,9 +2,9 @@
 // comes back in a LaneStep. These functions are for the crates above and not for others: the bounds that some require are those of a store that is not
 // corrupt.
 ghost use Rattle.std.specs.Prelude.{◌≡◌, ◌≤◌, ◌<◌};
-ghost use Rattle.lanes.specs.UseOrder.{placeAt};
-ghost use Rattle.machine.specs.machine.Change.{refuseLane, refusedIn};
-ghost use Rattle.machine.specs.machine.Begin.{completeWith, complete, waits, hit, read_of, ejectOf, evict, miss, beginLane, admitsOf};
+ghost use Rattle.lanes.specs.UseOrder.{place_at};
+ghost use Rattle.machine.specs.Machine.Change.{refuse_lane, refused_in};
+ghost use Rattle.machine.specs.Machine.Begin.{complete_with, complete, waits, hit, read_of, eject_of, evict, miss, begin_lane, admits_of};
 ghost use Rattle.queues.specs.Queues.{capacity};
 
 use answers::Refusal;
@@ -15,7 +15,7 @@ use words::{Line, LineNo, Op, WordNo};
 
 // The lane as it was, with the reason.
 pub fn refuse(l: Lane, x: Refusal) -> LaneStep
-    ensures { result ≡ refuseLane x l }
+    ensures { result ≡ refuse_lane x l }
 {
     LaneStep {
         answer: LaneAnswer::Refused(x),
@@ -25,7 +25,7 @@ pub fn refuse(l: Lane, x: Refusal) -> LaneStep
 
 // Whether a lane's part is refused.
 pub fn refused(a: LaneAnswer) -> bool
-    ensures { result ≡ refusedIn a }
+    ensures { result ≡ refused_in a }
 {
     match a {
         LaneAnswer::Value(_) => false,
@@ -38,7 +38,7 @@ pub fn refused(a: LaneAnswer) -> bool
 // The operation is done on line x, which comes to stand at i, and the lane's use order is the one given. What it waits for is not touched.
 pub fn complete_with(l: Lane, order: [LineNo; 8], i: LineNo, x: Line, op: Op, w: WordNo) -> LaneStep
     requires { i.0 < 8 }
-    ensures { result ≡ completeWith order i x op w l }
+    ensures { result ≡ complete_with order i x op w l }
 {
     let p = x.perform(op, w);
     let v = p.value;
@@ -107,7 +107,7 @@ fn read_of(op: Op) -> Command
 
 // What a line that is given up sends: main memory lacks the words of a PRIVATE line.
 fn eject(x: Line) -> ReturnMessage
-    ensures { result ≡ ejectOf x }
+    ensures { result ≡ eject_of x }
 {
     let a = x.block;
     if x.private {
@@ -141,7 +141,7 @@ fn evict(l: Lane, i: LineNo, op: Op, w: WordNo) -> LaneStep
 
 // Begin on a block not held: a line must be free for the grant's words.
 fn miss(l: Lane, c: u8, op: Op, w: WordNo) -> LaneStep
-    requires { (c ≤ 8) × ((placeAt l.order 0).0 < 8) }
+    requires { (c ≤ 8) × ((place_at l.order 0).0 < 8) }
     ensures { result ≡ miss capacity c op w l }
 {
     let Found::At(_) = l.vacant(c) else {
@@ -155,7 +155,7 @@ fn miss(l: Lane, c: u8, op: Op, w: WordNo) -> LaneStep
 // Whether the lane begins the operation: one that waits begins a load that hits, and nothing else.
 pub fn admits(l: Lane, c: u8, op: Op, w: WordNo) -> bool
     requires { c ≤ 8 }
-    ensures { result ≡ admitsOf c op w l }
+    ensures { result ≡ admits_of c op w l }
 {
     let waiting = l.waiting;
     if waiting.idle() {
@@ -170,8 +170,8 @@ pub fn admits(l: Lane, c: u8, op: Op, w: WordNo) -> bool
 
 // The lane's part of begin.
 pub fn begin_lane(l: Lane, c: u8, op: Op, w: WordNo) -> LaneStep
-    requires { (c ≤ 8) × ((placeAt l.order 0).0 < 8) }
-    ensures { result ≡ beginLane capacity c op w l }
+    requires { (c ≤ 8) × ((place_at l.order 0).0 < 8) }
+    ensures { result ≡ begin_lane capacity c op w l }
 {
     let a = w.block();
     let Found::At(i) = l.search(c, a) else {

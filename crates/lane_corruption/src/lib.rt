@@ -3,7 +3,7 @@
 ghost use Rattle.std.specs.Prelude.{◌≡◌, ◌<◌, ◌≤◌};
 ghost use Rattle.words.specs.Units.{block_of};
 ghost use Rattle.queues.specs.Queues.{capacity};
-ghost use Rattle.machine.specs.machine.Corruption.{badBlock, badLine, badLines, badPlace, badReturns, badDowns, badWaiting, badUse, bad_order, badLane};
+ghost use Rattle.machine.specs.Machine.Corruption.{bad_block, bad_line, bad_lines, bad_place, bad_returns, bad_downs, bad_waiting, bad_use, bad_order, bad_lane};
 
 use lanes::{Lane, Operation, Waiting};
 use queues::{CAPACITY, DownQueue, ReturnQueue};
@@ -11,7 +11,7 @@ use words::{BlockNo, Line, LineNo};
 
 // Whether a valid line has a block number out of range.
 fn bad_line(l: Line, m: u8) -> bool
-    ensures { result ≡ badLine m l }
+    ensures { result ≡ bad_line m l }
 {
     l.valid && m <= l.block.0
 }
@@ -19,7 +19,7 @@ fn bad_line(l: Line, m: u8) -> bool
 // Whether one of the first c lines has.
 fn bad_lines(lines: [Line; 8], c: u8, m: u8) -> bool
     requires { c ≤ 8 }
-    ensures { result ≡ badLines c m lines }
+    ensures { result ≡ bad_lines c m lines }
 {
     let mut k: u8 = 0;
     while k < c {
@@ -35,14 +35,14 @@ fn bad_lines(lines: [Line; 8], c: u8, m: u8) -> bool
 
 // Whether the message at place i, with block a, is queued and its block number is out of range.
 fn bad_place(m: u8, len: u8, i: u8, a: BlockNo) -> bool
-    ensures { result ≡ badPlace m len i a }
+    ensures { result ≡ bad_place m len i a }
 {
     i < len && m <= a.0
 }
 
 // Whether a return queue is longer than its places, or has a message with a block number out of range.
 fn bad_returns(q: ReturnQueue, m: u8) -> bool
-    ensures { result ≡ badReturns capacity m q }
+    ensures { result ≡ bad_returns capacity m q }
 {
     let n = q.len;
     if CAPACITY < n {
@@ -63,7 +63,7 @@ fn bad_returns(q: ReturnQueue, m: u8) -> bool
 
 // The same of a down queue.
 fn bad_downs(q: DownQueue, m: u8) -> bool
-    ensures { result ≡ badDowns capacity m q }
+    ensures { result ≡ bad_downs capacity m q }
 {
     let len = q.len;
     if CAPACITY < len {
@@ -84,7 +84,7 @@ fn bad_downs(q: DownQueue, m: u8) -> bool
 
 // Whether an operation's word is out of range.
 fn bad_word(o: Operation, m: u8) -> bool
-    ensures { result ≡ badBlock m (block_of o.word) }
+    ensures { result ≡ bad_block m (block_of o.word) }
 {
     let w = o.word;
     let a = w.block();
@@ -93,7 +93,7 @@ fn bad_word(o: Operation, m: u8) -> bool
 
 // .. of a waiting operation.
 fn bad_waiting(w: Waiting, m: u8) -> bool
-    ensures { result ≡ badWaiting m w }
+    ensures { result ≡ bad_waiting m w }
 {
     match w {
         Waiting::Idle => false,
@@ -105,7 +105,7 @@ fn bad_waiting(w: Waiting, m: u8) -> bool
 // Whether place k of a use order names no line of the first c, or one that an earlier place names.
 fn bad_use(order: [LineNo; 8], c: u8, k: u8) -> bool
     requires { k < 8 }
-    ensures { result ≡ badUse c order k }
+    ensures { result ≡ bad_use c order k }
 {
     let i = k as usize;
     let x = order[i];
@@ -141,7 +141,7 @@ fn bad_order(order: [LineNo; 8], c: u8) -> bool
 // Whether a lane of c lines breaks a bound.
 pub fn bad_lane(l: Lane, c: u8, m: u8) -> bool
     requires { c ≤ 8 }
-    ensures { result ≡ badLane capacity c m l }
+    ensures { result ≡ bad_lane capacity c m l }
 {
     let lines = l.lines;
     if bad_lines(lines, c, m) {

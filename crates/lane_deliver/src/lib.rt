@@ -2,9 +2,9 @@
 // These functions are for the crates above and not for others: the bounds that some require are those of a store that is not
 // corrupt.
 ghost use Rattle.std.specs.Prelude.{◌≡◌, ◌≤◌};
-ghost use Rattle.lanes.specs.Search.{searchOf, vacantOf};
+ghost use Rattle.lanes.specs.Search.{search_of, vacant_of};
 ghost use Rattle.lanes.specs.UseOrder.{LoadsOldest};
-ghost use Rattle.machine.specs.machine.Deliver.{reply, updateAt, purgedOf, purgeAt, claimed, fillAt, grantAt, bareAt, servedOn, grantTo, bareTo, deliverKind, deliverLane};
+ghost use Rattle.machine.specs.Machine.Deliver.{reply, update_at, purged_of, purge_at, claimed, fill_at, grant_at, bare_at, served_on, grant_to, bare_to, deliver_kind, deliver_lane};
 ghost use Rattle.queues.specs.Queues.{capacity};
 
 use answers::Refusal;
@@ -34,7 +34,7 @@ fn reply(l: Lane, m: ReturnMessage) -> LaneStep
 // UPDATE.
 fn update(l: Lane, c: u8, a: BlockNo) -> LaneStep
     requires { c ≤ 8 }
-    ensures { result ≡ updateAt capacity (searchOf l c a) a l }
+    ensures { result ≡ update_at capacity (search_of l c a) a l }
 {
     let Found::At(i) = l.search(c, a) else {
         let gone = queues::bare_return(ReturnKind::Gone, a);
@@ -52,7 +52,7 @@ fn update(l: Lane, c: u8, a: BlockNo) -> LaneStep
 
 // What a line that is purged sends: main memory lacks the words of a PRIVATE line.
 fn purged(a: BlockNo, x: Line) -> ReturnMessage
-    ensures { result ≡ purgedOf a x }
+    ensures { result ≡ purged_of a x }
 {
     if x.private {
         let words = x.words;
@@ -64,7 +64,7 @@ fn purged(a: BlockNo, x: Line) -> ReturnMessage
 // PURGE.
 fn purge(l: Lane, c: u8, a: BlockNo) -> LaneStep
     requires { c ≤ 8 }
-    ensures { result ≡ purgeAt capacity (searchOf l c a) a l }
+    ensures { result ≡ purge_at capacity (search_of l c a) a l }
 {
     let Found::At(i) = l.search(c, a) else {
         let missing = queues::bare_return(ReturnKind::Gone, a);
@@ -95,7 +95,7 @@ fn claim(x: Line, op: Op) -> Line
 // A grant's words come into the lowest-numbered line that is not valid, and the lane waits no more. Filled for a load, the line is the oldest then.
 fn fill(l: Lane, c: u8, m: DownMessage, o: Operation) -> LaneStep
     requires { c ≤ 8 }
-    ensures { result ≡ fillAt LoadsOldest (vacantOf l c) c m o l }
+    ensures { result ≡ fill_at LoadsOldest (vacant_of l c) c m o l }
 {
     let Found::At(i) = l.vacant(c) else {
         return lane_begin::refuse(l, Refusal::Unexpected);
@@ -120,7 +120,7 @@ fn fill(l: Lane, c: u8, m: DownMessage, o: Operation) -> LaneStep
 // A grant with words, for operation o.
 fn grant(l: Lane, c: u8, m: DownMessage, o: Operation) -> LaneStep
     requires { c ≤ 8 }
-    ensures { result ≡ grantAt LoadsOldest (searchOf l c m.block) c m o l }
+    ensures { result ≡ grant_at LoadsOldest (search_of l c m.block) c m o l }
 {
     let a = m.block;
     let Found::At(_) = l.search(c, a) else {
@@ -132,7 +132,7 @@ fn grant(l: Lane, c: u8, m: DownMessage, o: Operation) -> LaneStep
 // A bare grant of block a, for operation o, after which the lane waits no more.
 fn bare_grant(l: Lane, c: u8, a: BlockNo, o: Operation) -> LaneStep
     requires { c ≤ 8 }
-    ensures { result ≡ bareAt (searchOf l c a) c o l }
+    ensures { result ≡ bare_at (search_of l c a) c o l }
 {
     let Found::At(i) = l.search(c, a) else {
         return lane_begin::refuse(l, Refusal::Unexpected);
@@ -148,7 +148,7 @@ fn bare_grant(l: Lane, c: u8, a: BlockNo, o: Operation) -> LaneStep
 
 // The served operation on block a.
 fn served_on(x: Waiting, a: BlockNo) -> Ready
-    ensures { result ≡ servedOn x a }
+    ensures { result ≡ served_on x a }
 {
     match x {
         Waiting::Idle => Ready::No(Refusal::Unexpected),
@@ -167,7 +167,7 @@ fn served_on(x: Waiting, a: BlockNo) -> Ready
 // A grant with words.
 fn grant_to(l: Lane, c: u8, m: DownMessage) -> LaneStep
     requires { c ≤ 8 }
-    ensures { result ≡ grantTo LoadsOldest (servedOn l.waiting m.block) c m l }
+    ensures { result ≡ grant_to LoadsOldest (served_on l.waiting m.block) c m l }
 {
     let waiting = l.waiting;
     let a = m.block;
@@ -180,7 +180,7 @@ fn grant_to(l: Lane, c: u8, m: DownMessage) -> LaneStep
 // A bare grant.
 fn bare_to(l: Lane, c: u8, m: DownMessage) -> LaneStep
     requires { c ≤ 8 }
-    ensures { result ≡ bareTo (servedOn l.waiting m.block) c m l }
+    ensures { result ≡ bare_to (served_on l.waiting m.block) c m l }
 {
     let waiting = l.waiting;
     let a = m.block;
@@ -193,7 +193,7 @@ fn bare_to(l: Lane, c: u8, m: DownMessage) -> LaneStep
 // What a message does in a lane that has taken it.
 fn receive(l: Lane, c: u8, m: DownMessage) -> LaneStep
     requires { c ≤ 8 }
-    ensures { result ≡ deliverKind capacity LoadsOldest m.kind c m l }
+    ensures { result ≡ deliver_kind capacity LoadsOldest m.kind c m l }
 {
     let kind = m.kind;
     let a = m.block;
@@ -208,7 +208,7 @@ fn receive(l: Lane, c: u8, m: DownMessage) -> LaneStep
 // The lane's part of deliver. A refused message stays in its queue.
 pub fn deliver_lane(l: Lane, c: u8) -> LaneStep
     requires { c ≤ 8 }
-    ensures { result ≡ deliverLane capacity LoadsOldest c l }
+    ensures { result ≡ deliver_lane capacity LoadsOldest c l }
 {
     let downs = l.downs;
     if downs.len == 0 {

@@ -2,11 +2,11 @@
 // check before it, a tape and settle pay it once for many steps.
 ghost use Rattle.std.specs.Prelude.{◌≡◌, false, ◌≤◌};
 ghost use Rattle.lanes.specs.UseOrder.{LoadsOldest};
-ghost use Rattle.machine.specs.machine.Begun.{lastPlace};
-ghost use Rattle.machine.specs.machine.Corruption.{corruptOf};
-ghost use Rattle.machine.specs.machine.Change.{counted, answerTo};
-ghost use Rattle.machine.specs.machine.Begin.{beginOf};
-ghost use Rattle.machine.specs.machine.Deliver.{deliverOf};
+ghost use Rattle.machine.specs.Machine.Begun.{last_place};
+ghost use Rattle.machine.specs.Machine.Corruption.{corrupt_of};
+ghost use Rattle.machine.specs.Machine.Change.{counted, answer_to};
+ghost use Rattle.machine.specs.Machine.Begin.{begin_of};
+ghost use Rattle.machine.specs.Machine.Deliver.{deliver_of};
 
 use answers::{Answer, Refusal};
 use machine::LaneAnswer;
@@ -15,7 +15,7 @@ use words::{LaneNo, Op, WordNo};
 
 // Completions so far once a lane's part is counted: a completion is one more.
 fn count(a: LaneAnswer, done: u32) -> u32
-    requires { counted a done ≤ lastPlace }
+    requires { counted a done ≤ last_place }
     ensures { result ≡ counted a done }
 {
     match a {
@@ -28,7 +28,7 @@ fn count(a: LaneAnswer, done: u32) -> u32
 
 // The answer of a call on lane k by what its part came to: a completion is made here, and its place is the count with itself in it.
 fn answer_to(k: LaneNo, done: u32, a: LaneAnswer) -> Answer
-    ensures { result ≡ answerTo k done a }
+    ensures { result ≡ answer_to k done a }
 {
     match a {
         LaneAnswer::Value(v) => Answer::Done(answers::completed(k, v, done)),
@@ -40,8 +40,8 @@ fn answer_to(k: LaneNo, done: u32, a: LaneAnswer) -> Answer
 
 // Begin on a store that is not corrupt.
 pub fn begin_sound(s: Store, k: LaneNo, op: Op, w: WordNo) -> Outcome
-    requires { corruptOf s ≡ false }
-    ensures { result ≡ beginOf s k op w }
+    requires { corrupt_of s ≡ false }
+    ensures { result ≡ begin_of s k op w }
 {
     let mut t = s;
     let n = t.shape.n;
@@ -81,8 +81,8 @@ pub fn begin_sound(s: Store, k: LaneNo, op: Op, w: WordNo) -> Outcome
 
 // Deliver on a store that is not corrupt.
 pub fn deliver_sound(s: Store, k: LaneNo) -> Outcome
-    requires { corruptOf s ≡ false }
-    ensures { result ≡ deliverOf LoadsOldest s k }
+    requires { corrupt_of s ≡ false }
+    ensures { result ≡ deliver_of LoadsOldest s k }
 {
     let mut t = s;
     let n = t.shape.n;

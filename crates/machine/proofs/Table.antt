@@ -1,30 +1,30 @@
 -- The table of cases holds, by computation: it rests on the definitions alone and on no other proof. Assumes nothing.
 use mathlib.Core.Path.{◌≡◌, refl}
 use mathlib.Core.List.{map}
-use Rattle.words.specs.Folds.{up_to, downTo, anyTo, count_to, sum_to, lowestTo, gatherTo, any_of}
-use Rattle.tape_records.specs.Records.{parseOf}
-use Rattle.lanes.specs.Search.{firstFrom}
-use Rattle.store.specs.Control.{slot_of, serviceOf, openServices, freeSlot, withService, withUpdated, withoutService}
-use Rattle.store.specs.Opening.{badShape, blankLane, blankBlock, fresh_of, openOf}
-use Rattle.machine.specs.machine.Begun.{waitingIn, begunIn}
-use Rattle.store.specs.Quiet.{activeOf, quietOf}
-use Rattle.machine.specs.machine.Corruption.{badLane, badFlags, badControl, corruptOf}
-use Rattle.machine.specs.machine.Change.{commitLane, someFull, postTo, postAll, commitMove}
-use Rattle.machine.specs.machine.Begin.{completeWith, hit, evict, miss, admitsOf, beginLane, beginOf}
+use Rattle.words.specs.Folds.{up_to, down_to, any_to, count_to, sum_to, lowest_to, gather_to, any_of}
+use Rattle.tape_records.specs.Records.{parse_of}
+use Rattle.lanes.specs.Search.{first_from}
+use Rattle.store.specs.Control.{slot_of, service_of, open_services, free_slot, with_service, with_updated, without_service}
+use Rattle.store.specs.Opening.{bad_shape, blank_lane, blank_block, fresh_of, open_of}
+use Rattle.machine.specs.Machine.Begun.{waiting_in, begun_in}
+use Rattle.store.specs.Quiet.{active_of, quiet_of}
+use Rattle.machine.specs.Machine.Corruption.{bad_lane, bad_flags, bad_control, corrupt_of}
+use Rattle.machine.specs.Machine.Change.{commit_lane, some_full, post_to, post_all, commit_move}
+use Rattle.machine.specs.Machine.Begin.{complete_with, hit, evict, miss, admits_of, begin_lane, begin_of}
 use Rattle.store.specs.LaneSets.{count_of}
-use Rattle.machine.specs.machine.Serve.{ordered, close, readyOf, serveMove, serveOf}
-use Rattle.machine.specs.machine.LaneBytes.{bitsIn, byte_of, ordersByte}
-use Rattle.machine.specs.machine.Return.{returnMove, returnOf}
-use Rattle.machine.specs.machine.Deliver.{reply, deliverLane, deliverOf}
-use Rattle.machine.specs.machine.Settle.{settleStep, boundOf, exactOf, advance, ended, repeatStep, settleOf}
-use Rattle.machine.specs.machine.Picture.{recordBytes, pictureBytes, pictureOf}
-use Rattle.machine.specs.machine.Tape.{openRecord, recordOf, replayFrom, replayOf}
-use Rattle.machine.specs.machine.Text.{decimalIn, answerText, lineText, linesText, endText, printed, printOf}
-use Rattle.machine.specs.machine.Calls.{call_of, run}
-use Rattle.machine.specs.claims.Attribution.{waitsAfter, origin_of, attribute, operationsOf}
-use Rattle.machine.specs.claims.Flat.{flatValues}
-use Rattle.machine.specs.table.Table.{Row, gone, sent, answering, purging, serving, copied, waits, returning, sending, flagged, flaggedIn, counting, awaitedBy, unservedByte, downsEach, allLetters, lettersOf, rows, wholeTape, wholeText}
+use Rattle.machine.specs.Machine.Serve.{ordered, close, ready_of, serve_move, serve_of}
+use Rattle.machine.specs.Machine.LaneBytes.{bits_in, byte_of, orders_byte}
+use Rattle.machine.specs.Machine.Return.{return_move, return_of}
+use Rattle.machine.specs.Machine.Deliver.{reply, deliver_lane, deliver_of}
+use Rattle.machine.specs.Machine.Settle.{settle_step, bound_of, exact_of, advance, ended, repeat_step, settle_of}
+use Rattle.machine.specs.Machine.Picture.{record_bytes, picture_bytes, picture_of}
+use Rattle.machine.specs.Machine.Tape.{open_record, record_of, replay_from, replay_of}
+use Rattle.machine.specs.Machine.Text.{decimal_in, answer_text, line_text, lines_text, end_text, printed, print_of}
+use Rattle.machine.specs.Machine.Calls.{call_of, run}
+use Rattle.machine.specs.Claims.Attribution.{waits_after, origin_of, attribute, operations_of}
+use Rattle.machine.specs.Claims.Flat.{flat_values}
+use Rattle.machine.specs.Table.Table.{Row, gone, sent, answering, purging, serving, copied, waits, returning, sending, flagged, flagged_in, counting, awaited_by, unserved_byte, downs_each, all_letters, letters_of, rows, whole_tape, whole_text}
 
 pub cases : map (λ (r : Row). r.given) rows ≡ map (λ (r : Row). r.wanted) rows
-unfolding up_to downTo anyTo count_to sum_to lowestTo gatherTo any_of firstFrom slot_of serviceOf openServices freeSlot withService withUpdated withoutService badShape blankLane blankBlock fresh_of openOf waitingIn begunIn activeOf quietOf badLane badFlags badControl corruptOf commitLane someFull postTo postAll commitMove completeWith hit evict miss admitsOf beginLane beginOf ordered count_of close readyOf serveMove serveOf bitsIn byte_of ordersByte returnMove returnOf reply deliverLane deliverOf settleStep boundOf exactOf advance ended repeatStep settleOf recordBytes pictureBytes pictureOf parseOf openRecord recordOf replayFrom replayOf decimalIn answerText lineText linesText endText printed printOf call_of run waitsAfter origin_of attribute operationsOf flatValues gone sent answering purging serving copied waits returning sending flagged flaggedIn counting awaitedBy unservedByte downsEach allLetters lettersOf rows wholeTape wholeText
+unfolding up_to down_to any_to count_to sum_to lowest_to gather_to any_of first_from slot_of service_of open_services free_slot with_service with_updated without_service bad_shape blank_lane blank_block fresh_of open_of waiting_in begun_in active_of quiet_of bad_lane bad_flags bad_control corrupt_of commit_lane some_full post_to post_all commit_move complete_with hit evict miss admits_of begin_lane begin_of ordered count_of close ready_of serve_move serve_of bits_in byte_of orders_byte return_move return_of reply deliver_lane deliver_of settle_step bound_of exact_of advance ended repeat_step settle_of record_bytes picture_bytes picture_of parse_of open_record record_of replay_from replay_of decimal_in answer_text line_text lines_text end_text printed print_of call_of run waits_after origin_of attribute operations_of flat_values gone sent answering purging serving copied waits returning sending flagged flagged_in counting awaited_by unserved_byte downs_each all_letters letters_of rows whole_tape whole_text
 cases = refl

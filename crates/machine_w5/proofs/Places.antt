@@ -6,11 +6,11 @@ use mathlib.Core.Bool.{◌||◌}
 use mathlib.Core.List.{List, [], ◌∷◌}
 use lib.Dec.{ltb}
 use lib.ListN.{length, get_or, set}
-use Rattle.words.specs.Folds.{anyTo}
+use Rattle.words.specs.Folds.{any_to}
 use Rattle.queues.specs.declared.ReturnQueue.{ReturnQueue}
 use Rattle.queues.specs.declared.DownQueue.{DownQueue}
-use Rattle.queues.specs.Queues.{shifted, noReturn, noDown}
-use Rattle.machine.specs.machine.Corruption.{badPlace, badReturns, badDowns}
+use Rattle.queues.specs.Queues.{shifted, no_return, no_down}
+use Rattle.machine.specs.Machine.Corruption.{bad_place, bad_returns, bad_downs}
 use Rattle.machine_w5.specs.Stores.{capacity}
 
 -- place 0 gets what place 1 has, and place 1 keeps it
@@ -21,14 +21,14 @@ shift_two none (x ∷ y ∷ []) e = refl
 shift_two none (x ∷ y ∷ z ∷ rest) e = absurd (omega (arith, e))
 
 -- a queue length above 2, or a block number out of range in a queued message
-pub returns-two : (m : ℕ) (q : ReturnQueue) →
-    badReturns capacity m q ≡
-    (ltb capacity q.len || (badPlace m q.len 0 (get_or q.at 0 noReturn).block || badPlace m q.len 1 (get_or q.at 1 noReturn).block))
-unfolding anyTo
-returns-two m q = refl
+pub returns_two : (m : ℕ) (q : ReturnQueue) →
+    bad_returns capacity m q ≡
+    (ltb capacity q.len || (bad_place m q.len 0 (get_or q.at 0 no_return).block || bad_place m q.len 1 (get_or q.at 1 no_return).block))
+unfolding any_to
+returns_two m q = refl
 
-pub downs-two : (m : ℕ) (q : DownQueue) →
-    badDowns capacity m q ≡
-    (ltb capacity q.len || (badPlace m q.len 0 (get_or q.at 0 noDown).block || badPlace m q.len 1 (get_or q.at 1 noDown).block))
-unfolding anyTo
-downs-two m q = refl
+pub downs_two : (m : ℕ) (q : DownQueue) →
+    bad_downs capacity m q ≡
+    (ltb capacity q.len || (bad_place m q.len 0 (get_or q.at 0 no_down).block || bad_place m q.len 1 (get_or q.at 1 no_down).block))
+unfolding any_to
+downs_two m q = refl

@@ -7,35 +7,35 @@ use mathlib.Core.List.{List, [], ◌∷◌, ◌++◌}
 use lib.ListN.{length, get_or, drop, length-set}
 use lib.Seq.{take-suc-set, get_or-take}
 use Rattle.queues.specs.Queues.{messages, joined, shifted}
-use Rattle.queues.proofs.Shifts.{length-shifted, take-shifted}
+use Rattle.queues.proofs.Shifts.{length_shifted, take_shifted}
 use Rattle.machine_w5.specs.Same.{SameQueue}
 
 module _ {A : Type 0} where
   -- the messages after one joined
-  push-messages : (len : ℕ) (at : List A) (x : A) → len < length at → messages (len + 1) (joined len at x) ≡ messages len at ++ (x ∷ [])
-  push-messages len at x h = rw add-one (take-suc-set at len x h)
+  push_messages : (len : ℕ) (at : List A) (x : A) → len < length at → messages (len + 1) (joined len at x) ≡ messages len at ++ (x ∷ [])
+  push_messages len at x h = rw add-one (take-suc-set at len x h)
 
-  pub push-same : (f : ℕ) (fs : List A) (n : ℕ) (ns : List A) (x : A) → SameQueue f fs n ns → f < 2 → SameQueue (f + 1) (joined f fs x) (n + 1) (joined n ns x)
-  push-same f fs n ns x e h = record {
+  pub push_same : (f : ℕ) (fs : List A) (n : ℕ) (ns : List A) (x : A) → SameQueue f fs n ns → f < 2 → SameQueue (f + 1) (joined f fs x) (n + 1) (joined n ns x)
+  push_same f fs n ns x e h = record {
     lens = ap (λ (k : ℕ). k + 1) e.lens;
     short = omega arith;
-    contents = push-messages f fs x (omega arith) ∙ ap (λ (r : List A). r ++ (x ∷ [])) e.contents ∙ sym (push-messages n ns x (omega arith));
-    formerPlaces = length-set fs f x ∙ e.formerPlaces;
+    contents = push_messages f fs x (omega arith) ∙ ap (λ (r : List A). r ++ (x ∷ [])) e.contents ∙ sym (push_messages n ns x (omega arith));
+    former_places = length-set fs f x ∙ e.former_places;
     places = length-set ns n x ∙ e.places;
   }
 
   -- the messages after the head left
-  take-messages : (len : ℕ) (at : List A) → (len ≡ 0 → ⊥) → len ≤ length at → messages (len - 1) (shifted at) ≡ drop 1 (messages len at)
-  take-messages zero at n h = absurd (n refl)
-  take-messages (suc len) at n h = let e : suc len - 1 ≡ len = omega arith in rw e (take-shifted len at h)
+  take_messages : (len : ℕ) (at : List A) → (len ≡ 0 → ⊥) → len ≤ length at → messages (len - 1) (shifted at) ≡ drop 1 (messages len at)
+  take_messages zero at n h = absurd (n refl)
+  take_messages (suc len) at n h = let e : suc len - 1 ≡ len = omega arith in rw e (take_shifted len at h)
 
   pub take_same : (f : ℕ) (fs : List A) (n : ℕ) (ns : List A) → SameQueue f fs n ns → (f ≡ 0 → ⊥) → SameQueue (f - 1) (shifted fs) (n - 1) (shifted ns)
   take_same f fs n ns e h = record {
     lens = ap (λ (k : ℕ). k - 1) e.lens;
     short = omega arith;
-    contents = take-messages f fs h (omega arith) ∙ ap (λ (r : List A). drop 1 r) e.contents ∙ sym (take-messages n ns (λ z. h (e.lens ∙ z)) (omega arith));
-    formerPlaces = length-shifted fs ∙ e.formerPlaces;
-    places = length-shifted ns ∙ e.places;
+    contents = take_messages f fs h (omega arith) ∙ ap (λ (r : List A). drop 1 r) e.contents ∙ sym (take_messages n ns (λ z. h (e.lens ∙ z)) (omega arith));
+    former_places = length_shifted fs ∙ e.former_places;
+    places = length_shifted ns ∙ e.places;
   }
 
   -- the message at a place

@@ -18,22 +18,22 @@ pub data Counted : Type 0 where
   NotAwaited : Counted
 
 -- a service is under way
-abbrev pub busyOf : Control → Bool
-busyOf Free = false
-busyOf (Busy v) = true
+abbrev pub busy_of : Control → Bool
+busy_of Free = false
+busy_of (Busy v) = true
 
 -- the service of block a
-abbrev pub serviceOf : Control → BlockNo → Lookup
-serviceOf Free a = Nothing
-serviceOf (Busy v) a = cond (eqb v.block.0 a.0) (Of v) Nothing
+abbrev pub service_of : Control → BlockNo → Lookup
+service_of Free a = Nothing
+service_of (Busy v) a = cond (eqb v.block.0 a.0) (Of v) Nothing
 
 -- an answer for the service looked up: each answer lowers the awaited count, and at 0 the service closes
-abbrev pub countedOf : Lookup → Counted
-countedOf Nothing = NotAwaited
-countedOf (Of v) =
+abbrev pub counted_of : Lookup → Counted
+counted_of Nothing = NotAwaited
+counted_of (Of v) =
     cond (eqb v.awaited 0) NotAwaited
     (cond (eqb v.awaited 1) (Closes v Free) (Awaits (Busy (lowered v))))
 
 -- an answer for block a
 abbrev pub answer_of : Control → BlockNo → Counted
-answer_of x a = countedOf (serviceOf x a)
+answer_of x a = counted_of (service_of x a)

@@ -1,67 +1,67 @@
 -- Settle before W6, with the orders that it sent (02, W8). Assumes nothing.
 use Rattle.std.specs.Prelude.{ℕ, zero, suc, ◌+◌, ◌-◌, ◌*◌, Bool, true, false, not, cond, ◌||◌, ◌&&◌, List, [], ◌++◌, ltb, get_or}
-use Rattle.words.specs.Folds.{count_to, sum_to, lowestTo}
+use Rattle.words.specs.Folds.{count_to, sum_to, lowest_to}
 use Rattle.queues.specs.declared.DownQueue.{DownQueue}
-use Rattle.queues.specs.Queues.{noDown}
+use Rattle.queues.specs.Queues.{no_down}
 use Rattle.lanes.specs.UseOrder.{Insertion}
-use Rattle.lanes.specs.Waits.{unservedOf}
+use Rattle.lanes.specs.Waits.{unserved_of}
 use Rattle.answers.specs.declared.Answer.{Answer}
 use Rattle.answers.specs.declared.Answer.TheVariants.{Opened, Done, Wait, Step}
 use Rattle.answers.specs.declared.Completion.{Completion}
 use Rattle.answers.specs.declared.Refusal.{Refusal}
 use Rattle.answers.specs.declared.Refusal.TheVariants.{Corrupt, Unexpected}
-use Rattle.answers.specs.Refusals.{refusedOf}
-use Rattle.answers.specs.Completions.{doneIn}
+use Rattle.answers.specs.Refusals.{refused_of}
+use Rattle.answers.specs.Completions.{done_in}
 use Rattle.machine.specs.declared.Settled.{Settled}
 use Rattle.machine.specs.declared.Settled.TheVariants.{Steps}
-use Rattle.machine.specs.machine.Settle.{lane, is_order}
-use Rattle.machine_w5.specs.Control.{busyOf}
-use Rattle.machine_w5.specs.Stores.{Store, Outcome, capacity, laneAt, quietOf}
-use Rattle.machine_w5.specs.Corruption.{corruptOf}
+use Rattle.machine.specs.Machine.Settle.{lane, is_order}
+use Rattle.machine_w5.specs.Control.{busy_of}
+use Rattle.machine_w5.specs.Stores.{Store, Outcome, capacity, lane_at, quiet_of}
+use Rattle.machine_w5.specs.Corruption.{corrupt_of}
 use Rattle.machine_w5.specs.Change.{refuse}
-use Rattle.machine_w5.specs.Steps.{serveOf, returnOf, deliverOf}
+use Rattle.machine_w5.specs.Steps.{serve_of, return_of, deliver_of}
 
 -- deliver to the lowest lane with a filled down queue; else return from the lowest with a filled return queue; else serve the lowest unserved; 16 where there is none of these
-unfoldable pub settleStep : Insertion → Store → Outcome
-settleStep ins s =
-    let d = lowestTo (λ k. ltb 0 (laneAt s k).downs.len) s.shape.n in
-    let r = lowestTo (λ k. ltb 0 (laneAt s k).returns.len) s.shape.n in
-    let u = lowestTo (λ k. unservedOf (laneAt s k).waiting) s.shape.n in
-    cond (ltb d s.shape.n) (deliverOf ins s (lane d))
-    (cond (ltb r s.shape.n) (returnOf s (lane r)) (cond (ltb u s.shape.n) (serveOf s (lane u)) (refuse Unexpected s)))
+unfoldable pub settle_step : Insertion → Store → Outcome
+settle_step ins s =
+    let d = lowest_to (λ k. ltb 0 (lane_at s k).downs.len) s.shape.n in
+    let r = lowest_to (λ k. ltb 0 (lane_at s k).returns.len) s.shape.n in
+    let u = lowest_to (λ k. unserved_of (lane_at s k).waiting) s.shape.n in
+    cond (ltb d s.shape.n) (deliver_of ins s (lane d))
+    (cond (ltb r s.shape.n) (return_of s (lane r)) (cond (ltb u s.shape.n) (serve_of s (lane u)) (refuse Unexpected s)))
 
 -- R: messages in return queues
-abbrev pub returnsIn : Store → ℕ
-returnsIn s = sum_to (λ k. (laneAt s k).returns.len) s.shape.n
+abbrev pub returns_in : Store → ℕ
+returns_in s = sum_to (λ k. (lane_at s k).returns.len) s.shape.n
 
 -- the messages of a down queue that are orders, or that are grants
-abbrev pub downsOf : Bool → DownQueue → ℕ
-downsOf order q =
-    count_to (λ i. ltb i q.len && cond order (is_order (get_or q.at i noDown).kind) (not (is_order (get_or q.at i noDown).kind))) capacity
+abbrev pub downs_of : Bool → DownQueue → ℕ
+downs_of order q =
+    count_to (λ i. ltb i q.len && cond order (is_order (get_or q.at i no_down).kind) (not (is_order (get_or q.at i no_down).kind))) capacity
 
 -- G: grants in down queues
-abbrev pub grantsIn : Store → ℕ
-grantsIn s = sum_to (λ k. downsOf false (laneAt s k).downs) s.shape.n
+abbrev pub grants_in : Store → ℕ
+grants_in s = sum_to (λ k. downs_of false (lane_at s k).downs) s.shape.n
 
 -- Q: orders in down queues
-abbrev pub ordersIn : Store → ℕ
-ordersIn s = sum_to (λ k. downsOf true (laneAt s k).downs) s.shape.n
+abbrev pub orders_in : Store → ℕ
+orders_in s = sum_to (λ k. downs_of true (lane_at s k).downs) s.shape.n
 
 -- S: services (0 or 1)
-abbrev pub servicesIn : Store → ℕ
-servicesIn s = cond (busyOf s.control) 1 0
+abbrev pub services_in : Store → ℕ
+services_in s = cond (busy_of s.control) 1 0
 
 -- U: unserved operations
-abbrev pub unservedIn : Store → ℕ
-unservedIn s = count_to (λ k. unservedOf (laneAt s k).waiting) s.shape.n
+abbrev pub unserved_in : Store → ℕ
+unserved_in s = count_to (λ k. unserved_of (lane_at s k).waiting) s.shape.n
 
 -- The count is at most R + G + 2 × Q + S + 2 × n × U
-unfoldable pub boundOf : Store → ℕ
-boundOf s = returnsIn s + grantsIn s + 2 * ordersIn s + servicesIn s + 2 * s.shape.n * unservedIn s
+unfoldable pub bound_of : Store → ℕ
+bound_of s = returns_in s + grants_in s + 2 * orders_in s + services_in s + 2 * s.shape.n * unserved_in s
 
 -- the orders that a step queued, by the stores before and after it
-abbrev pub ordersQueued : Store → Store → ℕ
-ordersQueued s t = ordersIn t - ordersIn s
+abbrev pub orders_queued : Store → Store → ℕ
+orders_queued s t = orders_in t - orders_in s
 
 -- how far a settle is: its steps, the orders that they queued, its completions in order, the last step's answer and store
 pub record Progress : Type 0 where
@@ -74,23 +74,23 @@ pub record Progress : Type 0 where
 -- one step more
 unfoldable pub advance : Insertion → Progress → Progress
 advance ins p =
-    let r = settleStep ins p.store in
+    let r = settle_step ins p.store in
     record {
       count = suc p.count;
-      orders = p.orders + ordersQueued p.store r.store;
-      completions = p.completions ++ doneIn r.answer;
+      orders = p.orders + orders_queued p.store r.store;
+      completions = p.completions ++ done_in r.answer;
       answer = r.answer;
       store = r.store;
     }
 
 -- It ends when the store is quiet, or where a step is refused
 unfoldable pub ended : Progress → Bool
-ended p = refusedOf p.answer || quietOf p.store
+ended p = refused_of p.answer || quiet_of p.store
 
--- Settle repeats, here at most the given number of times: boundOf many, and the one that is refused by 16 where the store is stuck
-unfoldable pub repeatStep : Insertion → ℕ → Progress → Progress
-repeatStep ins zero p = p
-repeatStep ins (suc more) p = let r = repeatStep ins more (advance ins p) in cond (ended p) p r
+-- Settle repeats, here at most the given number of times: bound_of many, and the one that is refused by 16 where the store is stuck
+unfoldable pub repeat_step : Insertion → ℕ → Progress → Progress
+repeat_step ins zero p = p
+repeat_step ins (suc more) p = let r = repeat_step ins more (advance ins p) in cond (ended p) p r
 
 -- what settle gives: its counts or the refusal, the completions in order, the store after it
 pub record Settlement : Type 0 where
@@ -99,25 +99,25 @@ pub record Settlement : Type 0 where
   pub store : Store
 
 -- a refused settle gives its number alone; the store is the same as before
-abbrev pub refuseSettle : Refusal → Store → Settlement
-refuseSettle r s = record { answer = Settled.Refused r; completions = []; store = s }
+abbrev pub refuse_settle : Refusal → Store → Settlement
+refuse_settle r s = record { answer = Settled.Refused r; completions = []; store = s }
 
 -- the store that was reached is quiet, or it is refused by 16
 abbrev pub reached : Store → Progress → Settlement
 reached s p =
-    cond (quietOf p.store) (record { answer = Steps (record { steps = p.count; orders = p.orders }); completions = p.completions; store = p.store })
-    (refuseSettle Unexpected s)
+    cond (quiet_of p.store) (record { answer = Steps (record { steps = p.count; orders = p.orders }); completions = p.completions; store = p.store })
+    (refuse_settle Unexpected s)
 
 -- Settle refused inside gives that step's number
-abbrev pub unlessRefused : Answer → Store → Settlement → Settlement
-unlessRefused Opened s r = r
-unlessRefused (Done x) s r = r
-unlessRefused Wait s r = r
-unlessRefused Step s r = r
-unlessRefused (Answer.Refused n) s r = refuseSettle n s
+abbrev pub unless_refused : Answer → Store → Settlement → Settlement
+unless_refused Opened s r = r
+unless_refused (Done x) s r = r
+unless_refused Wait s r = r
+unless_refused Step s r = r
+unless_refused (Answer.Refused n) s r = refuse_settle n s
 
 -- 14, then the numbers of its steps
-unfoldable pub settleOf : Insertion → Store → Settlement
-settleOf ins s =
-    let p = repeatStep ins (suc (boundOf s)) (record { count = 0; orders = 0; completions = []; answer = Step; store = s }) in
-    cond (corruptOf s) (refuseSettle Corrupt s) (unlessRefused p.answer s (reached s p))
+unfoldable pub settle_of : Insertion → Store → Settlement
+settle_of ins s =
+    let p = repeat_step ins (suc (bound_of s)) (record { count = 0; orders = 0; completions = []; answer = Step; store = s }) in
+    cond (corrupt_of s) (refuse_settle Corrupt s) (unless_refused p.answer s (reached s p))

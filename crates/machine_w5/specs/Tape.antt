@@ -6,16 +6,16 @@ use Rattle.tape_records.specs.declared.Kind.TheVariants as Kind
 use Rattle.tape_records.specs.declared.Record.{Record}
 use Rattle.tape_records.specs.declared.Record.TheVariants as Record
 use Rattle.tape_records.specs.declared.Parsed.{Parsed}
-use Rattle.tape_records.specs.Records.{known_of, bodyLength, field, fields_of, last_of}
+use Rattle.tape_records.specs.Records.{known_of, body_length, field, fields_of, last_of}
 use Rattle.lanes.specs.UseOrder.{LoadsOldest}
 use Rattle.answers.specs.declared.Answer.{Answer}
 use Rattle.answers.specs.declared.Answer.TheVariants.{Opened}
 use Rattle.answers.specs.declared.Refusal.TheVariants.{Truncated, UnknownKind, NotOpen, AlreadyOpen, InvalidShape, TapeTooLong}
-use Rattle.store.specs.Opening.{badShape}
-use Rattle.machine.specs.machine.Text.{refusedText, linesText, endText, tapeMost}
-use Rattle.machine_w5.specs.Stores.{Store, Outcome, fresh_of, blankStore}
+use Rattle.store.specs.Opening.{bad_shape}
+use Rattle.machine.specs.Machine.Text.{refused_text, lines_text, end_text, tape_most}
+use Rattle.machine_w5.specs.Stores.{Store, Outcome, fresh_of, blank_store}
 use Rattle.machine_w5.specs.Change.{refuse}
-use Rattle.machine_w5.specs.Steps.{beginOf, serveOf, returnOf, deliverOf}
+use Rattle.machine_w5.specs.Steps.{begin_of, serve_of, return_of, deliver_of}
 
 -- Kinds: 00 open; 01 load; 02 store, 03 exchange, 04 add; 05 serve, 06 return, 07 deliver
 abbrev pub kind_of : ℕ → Kind
@@ -31,53 +31,53 @@ kind_of byte =
     Kind.Unknown)))))))
 
 -- A record is one byte of kind, then a body: what stands at the start of a tape, and how many bytes it takes. 2, 1, then the record
-unfoldable pub parseOf : List ℕ → Parsed
-parseOf tape =
+unfoldable pub parse_of : List ℕ → Parsed
+parse_of tape =
     let kind = kind_of (field tape 0) in
     cond (known_of kind)
-    (cond (ltb (length tape - 1) (bodyLength kind)) (last_of (length tape) Record.Truncated) (record { size = 1 + bodyLength kind; rec = fields_of kind (drop 1 tape) }))
+    (cond (ltb (length tape - 1) (body_length kind)) (last_of (length tape) Record.Truncated) (record { size = 1 + body_length kind; rec = fields_of kind (drop 1 tape) }))
     (last_of (length tape) Record.Unknown)
 
 -- an open that wasn't refused has been read; before it the store is the blank one, with n = 0
-abbrev pub isOpen : Store → Bool
-isOpen s = not (eqb s.shape.n 0)
+abbrev pub is_open : Store → Bool
+is_open s = not (eqb s.shape.n 0)
 
 -- kind 00: 4, 5, then the opening
-unfoldable pub openRecord : Store → Shape → Outcome
-openRecord s shape =
-    cond (isOpen s) (refuse AlreadyOpen s)
-    (cond (badShape shape) (refuse InvalidShape s)
+unfoldable pub open_record : Store → Shape → Outcome
+open_record s shape =
+    cond (is_open s) (refuse AlreadyOpen s)
+    (cond (bad_shape shape) (refuse InvalidShape s)
     (record { answer = Opened; store = fresh_of shape }))
 
 -- kinds 01 to 07: 3 before an open that wasn't refused, then the call
-abbrev pub whenOpen : Store → Outcome → Outcome
-whenOpen s r = cond (isOpen s) r (refuse NotOpen s)
+abbrev pub when_open : Store → Outcome → Outcome
+when_open s r = cond (is_open s) r (refuse NotOpen s)
 
 -- what a record does: 2 and 1, or what its kind says
-unfoldable pub recordOf : Store → Record → Outcome
-recordOf s Record.Unknown = refuse UnknownKind s
-recordOf s Record.Truncated = refuse Truncated s
-recordOf s (Record.Open shape) = openRecord s shape
-recordOf s (Record.Begin k op w) = whenOpen s (beginOf s k op w)
-recordOf s (Record.Serve k) = whenOpen s (serveOf s k)
-recordOf s (Record.Return k) = whenOpen s (returnOf s k)
-recordOf s (Record.Deliver k) = whenOpen s (deliverOf LoadsOldest s k)
+unfoldable pub record_of : Store → Record → Outcome
+record_of s Record.Unknown = refuse UnknownKind s
+record_of s Record.Truncated = refuse Truncated s
+record_of s (Record.Open shape) = open_record s shape
+record_of s (Record.Begin k op w) = when_open s (begin_of s k op w)
+record_of s (Record.Serve k) = when_open s (serve_of s k)
+record_of s (Record.Return k) = when_open s (return_of s k)
+record_of s (Record.Deliver k) = when_open s (deliver_of LoadsOldest s k)
 
 -- the answers to a tape's records one after the other, here at most the given number of them; one store serves all of them
-unfoldable pub replayFrom : ℕ → Store → List ℕ → List Answer
-replayFrom zero s tape = []
-replayFrom (suc more) s tape =
-    let p = parseOf tape in
-    let r = recordOf s p.rec in
-    let rest = replayFrom more r.store (drop p.size tape) in
+unfoldable pub replay_from : ℕ → Store → List ℕ → List Answer
+replay_from zero s tape = []
+replay_from (suc more) s tape =
+    let p = parse_of tape in
+    let r = record_of s p.rec in
+    let rest = replay_from more r.store (drop p.size tape) in
     cond (eqb (length tape) 0) [] (r.answer ∷ rest)
 
 -- a whole tape, from the blank store; a record takes a byte or more, so its length is number enough
-unfoldable pub replayOf : List ℕ → List Answer
-replayOf tape = replayFrom (length tape) blankStore tape
+unfoldable pub replay_of : List ℕ → List Answer
+replay_of tape = replay_from (length tape) blank_store tape
 
 -- A tape over 65,536 bytes prints only `refused 13`
 unfoldable pub printed : List ℕ → List ℕ
 printed tape =
-    let lines = replayOf tape in
-    cond (ltb tapeMost (length tape)) (refusedText TapeTooLong ++ (10 ∷ [])) (linesText 0 lines ++ endText (length lines))
+    let lines = replay_of tape in
+    cond (ltb tape_most (length tape)) (refused_text TapeTooLong ++ (10 ∷ [])) (lines_text 0 lines ++ end_text (length lines))

@@ -2,12 +2,12 @@
 // Memory's part of a call goes up as a ByteMove, and a contract says which Move of the definitions it stands for.
 // Functions with a requires are for the crates above and not for others.
 ghost use Rattle.std.specs.Prelude.{◌≡◌, ◌<◌};
-ghost use Rattle.lanes.specs.Lanes.{withReturns};
+ghost use Rattle.lanes.specs.Lanes.{with_returns};
 ghost use Rattle.store.specs.LaneSets.{only};
-ghost use Rattle.machine.specs.machine.LaneBytes.{byte_of, move_of};
-ghost use Rattle.machine.specs.machine.Change.{refuseMove};
-ghost use Rattle.machine.specs.machine.Serve.{exclusively, closedBlock, grantOf, close};
-ghost use Rattle.machine.specs.machine.Return.{sendNothing};
+ghost use Rattle.machine.specs.Machine.LaneBytes.{byte_of, move_of};
+ghost use Rattle.machine.specs.Machine.Change.{refuse_move};
+ghost use Rattle.machine.specs.Machine.Serve.{exclusively, closed_block, grant_of, close};
+ghost use Rattle.machine.specs.Machine.Return.{send_nothing};
 
 use answers::{Answer, Refusal};
 use lanes::{Command, Lane};
@@ -18,7 +18,7 @@ use words::{BlockNo, LaneNo};
 
 // A lane with another return queue.
 pub fn with_returns(l: Lane, q: ReturnQueue) -> Lane
-    ensures { result ≡ withReturns q l }
+    ensures { result ≡ with_returns q l }
 {
     let mut t = l;
     t.returns = q;
@@ -46,7 +46,7 @@ fn lane_byte(k: LaneNo) -> u8
 
 // A refusal of memory's part.
 pub fn refuse_move(e: Refusal, l: Lane, b: Block, x: Control) -> ByteMove
-    ensures { move_of result ≡ refuseMove e l b x }
+    ensures { move_of result ≡ refuse_move e l b x }
 {
     let m = queues::bare_down(DownKind::Update, BlockNo(0));
     ByteMove {
@@ -61,7 +61,7 @@ pub fn refuse_move(e: Refusal, l: Lane, b: Block, x: Control) -> ByteMove
 
 // Memory's part where nothing is sent.
 pub fn send_nothing(l: Lane, b: Block, x: Control) -> ByteMove
-    ensures { move_of result ≡ sendNothing l b x }
+    ensures { move_of result ≡ send_nothing l b x }
 {
     let m = queues::bare_down(DownKind::Update, BlockNo(0));
     ByteMove {
@@ -89,7 +89,7 @@ fn exclusive_block(b: Block, k: LaneNo) -> Block
 // The block once lane k's command for it is granted.
 fn closed_block(x: Command, b: Block, k: LaneNo) -> Block
     requires { k.0 < 8 }
-    ensures { result ≡ closedBlock x b k }
+    ensures { result ≡ closed_block x b k }
 {
     match x {
         Command::ReadShared => {
@@ -105,7 +105,7 @@ fn closed_block(x: Command, b: Block, k: LaneNo) -> Block
 
 // The grant of a service.
 fn grant(b: Block, v: Service) -> DownMessage
-    ensures { result ≡ grantOf b v }
+    ensures { result ≡ grant_of b v }
 {
     let a = v.block;
     if v.bare {

@@ -10,10 +10,10 @@ use Rattle.store.specs.declared.Control.{Control}
 use Rattle.store.specs.declared.Lookup.{Lookup}
 use Rattle.store.specs.declared.Lookup.TheVariants.{Of, Nothing}
 use Rattle.store.specs.declared.Counted.TheVariants.{Awaits, Closes, NotAwaited}
-use Rattle.store.specs.Control.{lowered, serviceOf, countedOf, answer_of}
-use Rattle.memory_return.specs.Bounds.{laneBelow}
+use Rattle.store.specs.Control.{lowered, service_of, counted_of, answer_of}
+use Rattle.memory_return.specs.Bounds.{LaneBelow}
 
-closed : (x : Lookup) {v : Service} → countedOf x ≡ Closes v → x ≡ Of v
+closed : (x : Lookup) {v : Service} → counted_of x ≡ Closes v → x ≡ Of v
 closed Nothing e = let w : ◌≡◌ {A = ℕ} 0 1 = cc in absurd (omega arith)
 closed (Of u) {v} e = counted (eqb u.awaited 0) (eqb u.awaited 1) e
   where
@@ -23,5 +23,5 @@ closed (Of u) {v} e = counted (eqb u.awaited 0) (eqb u.awaited 1) e
     counted false false e = let w : ◌≡◌ {A = ℕ} 0 1 = cc in absurd (omega arith)
 
 -- so its lane is below what the services' are below
-pub closes-below : (y : Control) (a : BlockNo) (n : ℕ) {v : Service} → laneBelow y n → answer_of y a ≡ Closes v → v.lane.0 < n
-closes-below y a n {v} h e = h a v (closed (serviceOf y a) e)
+pub closes_below : (y : Control) (a : BlockNo) (n : ℕ) {v : Service} → LaneBelow y n → answer_of y a ≡ Closes v → v.lane.0 < n
+closes_below y a n {v} h e = h a v (closed (service_of y a) e)

@@ -4,8 +4,8 @@ use Rattle.words.specs.declared.BlockNo.{BlockNo}
 use Rattle.store.specs.declared.Control.{Control}
 use Rattle.store.specs.declared.Service.{Service}
 use Rattle.store.specs.declared.Lookup.TheVariants.{Of}
-use Rattle.store.specs.Control.{serviceOf}
+use Rattle.store.specs.Control.{service_of}
 
 -- the lane of each block's service is below n
-abbrev pub laneBelow : Control → ℕ → Type 0
-laneBelow x n = (a : BlockNo) (v : Service) → serviceOf x a ≡ Of v → v.lane.0 < n
+abbrev pub LaneBelow : Control → ℕ → Type 0
+LaneBelow x n = (a : BlockNo) (v : Service) → service_of x a ≡ Of v → v.lane.0 < n

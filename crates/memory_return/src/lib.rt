@@ -2,9 +2,9 @@
 // Functions with a requires are for the crates above and not for others.
 ghost use Rattle.std.specs.Prelude.{◌≡◌, ◌<◌};
 ghost use Rattle.store.specs.Control.{answer_of};
-ghost use Rattle.machine.specs.machine.LaneBytes.{move_of};
-ghost use Rattle.machine.specs.machine.Return.{absent, writtenBack, takenBy, isAnswer, countedMove, returnMove};
-ghost use Rattle.memory_return.specs.Bounds.{laneBelow};
+ghost use Rattle.machine.specs.Machine.LaneBytes.{move_of};
+ghost use Rattle.machine.specs.Machine.Return.{absent, written_back, taken_by, is_answer, counted_move, return_move};
+ghost use Rattle.memory_return.specs.Bounds.{LaneBelow};
 
 use answers::Refusal;
 use lanes::Lane;
@@ -26,7 +26,7 @@ fn absent_block(k: LaneNo, b: Block) -> Block
 
 // The block with words written back and MODIFIED reset.
 fn written_block(ws: [u32; 4], b: Block) -> Block
-    ensures { result ≡ writtenBack ws b }
+    ensures { result ≡ written_back ws b }
 {
     let mut u = b;
     u.words = ws;
@@ -37,7 +37,7 @@ fn written_block(ws: [u32; 4], b: Block) -> Block
 // What lane k's message makes of its block.
 fn taken_block(x: ReturnMessage, k: LaneNo, b: Block) -> Block
     requires { k.0 < 8 }
-    ensures { result ≡ takenBy x.kind x.words k b }
+    ensures { result ≡ taken_by x.kind x.words k b }
 {
     let kind = x.kind;
     let ws = x.words;
@@ -54,7 +54,7 @@ fn taken_block(x: ReturnMessage, k: LaneNo, b: Block) -> Block
 
 // Whether a message answers an order.
 fn is_answer(kind: ReturnKind) -> bool
-    ensures { result ≡ isAnswer kind }
+    ensures { result ≡ is_answer kind }
 {
     match kind {
         ReturnKind::Eject => false,
@@ -68,8 +68,8 @@ fn is_answer(kind: ReturnKind) -> bool
 
 // An answer for block a is counted: l and b are the lane and the block before the message is taken, t and u after it.
 fn count_answer(y: Control, a: BlockNo, l: Lane, b: Block, t: Lane, u: Block) -> ByteMove
-    requires { laneBelow y 8 }
-    ensures { move_of result ≡ countedMove (answer_of y a) l b y t u }
+    requires { LaneBelow y 8 }
+    ensures { move_of result ≡ counted_move (answer_of y a) l b y t u }
 {
     let n = y.answer(a);
     match n {
@@ -87,8 +87,8 @@ fn count_answer(y: Control, a: BlockNo, l: Lane, b: Block, t: Lane, u: Block) ->
 
 // Memory takes x, the head of lane k's return queue.
 pub fn return_move(l: Lane, b: Block, y: Control, k: LaneNo, x: ReturnMessage) -> ByteMove
-    requires { (k.0 < 8) × laneBelow y 8 }
-    ensures { move_of result ≡ returnMove k x l b y }
+    requires { (k.0 < 8) × LaneBelow y 8 }
+    ensures { move_of result ≡ return_move k x l b y }
 {
     let q = l.returns;
     let p = q.take();

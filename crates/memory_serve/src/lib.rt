@@ -2,8 +2,8 @@
 // The orders of a serve are one byte, bit j (value 2 to the power j) for lane j, worked out before any of them is queued.
 // Functions with a requires are for the crates above and not for others.
 ghost use Rattle.std.specs.Prelude.{◌≡◌, ◌<◌};
-ghost use Rattle.machine.specs.machine.LaneBytes.{bitsIn, byte_of, ordersByte, move_of};
-ghost use Rattle.machine.specs.machine.Serve.{sendsOf, order_of, bareOf, readyOf, serviceFor, serveMove};
+ghost use Rattle.machine.specs.Machine.LaneBytes.{bits_in, byte_of, orders_byte, move_of};
+ghost use Rattle.machine.specs.Machine.Serve.{sends_of, order_of, bare_of, ready_of, service_for, serve_move};
 
 use answers::{Answer, Refusal};
 use lanes::{Command, Lane, Operation, Waiting};
@@ -14,7 +14,7 @@ use words::LaneNo;
 
 // Whether a command sends orders to the other lanes.
 fn sends(x: Command, modified: bool) -> bool
-    ensures { result ≡ sendsOf x modified }
+    ensures { result ≡ sends_of x modified }
 {
     match x {
         Command::ReadShared => modified,
@@ -46,7 +46,7 @@ fn flags_byte(p: [bool; 8]) -> u8
 // The lanes that lane k's command sends orders to, in a byte.
 fn orders_byte(b: Block, k: LaneNo, x: Command) -> u8
     requires { k.0 < 8 }
-    ensures { result ≡ ordersByte b k x }
+    ensures { result ≡ orders_byte b k x }
 {
     if sends(x, b.modified) {
         let i = k.0 as usize;
@@ -59,14 +59,14 @@ fn orders_byte(b: Block, k: LaneNo, x: Command) -> u8
 
 // How many bits of a byte are set.
 fn count(x: u8) -> u8
-    ensures { result ≡ bitsIn x }
+    ensures { result ≡ bits_in x }
 {
     u8::count_ones(x) as u8
 }
 
 // Whether the grant for a command is bare, by the lane's PRESENT.
 fn is_bare(x: Command, present: bool) -> bool
-    ensures { result ≡ bareOf x present }
+    ensures { result ≡ bare_of x present }
 {
     match x {
         Command::ReadShared => false,
@@ -77,7 +77,7 @@ fn is_bare(x: Command, present: bool) -> bool
 
 // Serve's own checks: 9, 10, 11.
 pub fn check_ready(l: Lane, limit: u8, x: Control) -> Ready
-    ensures { result ≡ readyOf l limit x }
+    ensures { result ≡ ready_of l limit x }
 {
     let w = l.waiting;
     match w {
@@ -99,7 +99,7 @@ pub fn check_ready(l: Lane, limit: u8, x: Control) -> Ready
 // The service of lane k's operation.
 fn service_for(k: LaneNo, o: Operation, b: Block, awaited: u8) -> Service
     requires { k.0 < 8 }
-    ensures { result ≡ serviceFor k o b awaited }
+    ensures { result ≡ service_for k o b awaited }
 {
     let i = k.0 as usize;
     let p = b.present[i];
@@ -119,7 +119,7 @@ fn service_for(k: LaneNo, o: Operation, b: Block, awaited: u8) -> Service
 // Memory takes lane k's command: orders go out, or the service closes at once.
 pub fn serve_move(l: Lane, b: Block, x: Control, k: LaneNo, o: Operation) -> ByteMove
     requires { k.0 < 8 }
-    ensures { move_of result ≡ serveMove k o l b x }
+    ensures { move_of result ≡ serve_move k o l b x }
 {
     let c = o.command;
     let to = orders_byte(b, k, c);

@@ -1,9 +1,9 @@
 // Memory's calls on a store that is not corrupt, serve and return, without the check of 14. They are for the crates above: a call pays that
 // check before it, a tape and settle pay it once for many steps.
 ghost use Rattle.std.specs.Prelude.{◌≡◌, false};
-ghost use Rattle.machine.specs.machine.Corruption.{corruptOf};
-ghost use Rattle.machine.specs.machine.Serve.{serveOf};
-ghost use Rattle.machine.specs.machine.Return.{returnOf};
+ghost use Rattle.machine.specs.Machine.Corruption.{corrupt_of};
+ghost use Rattle.machine.specs.Machine.Serve.{serve_of};
+ghost use Rattle.machine.specs.Machine.Return.{return_of};
 
 use answers::Refusal;
 use machine::Ready;
@@ -12,8 +12,8 @@ use words::LaneNo;
 
 // Serve on a store that is not corrupt.
 pub fn serve_sound(s: Store, k: LaneNo) -> Outcome
-    requires { corruptOf s ≡ false }
-    ensures { result ≡ serveOf s k }
+    requires { corrupt_of s ≡ false }
+    ensures { result ≡ serve_of s k }
 {
     let n = s.shape.n;
     if n <= k.0 {
@@ -36,8 +36,8 @@ pub fn serve_sound(s: Store, k: LaneNo) -> Outcome
 
 // Return on a store that is not corrupt.
 pub fn return_sound(s: Store, k: LaneNo) -> Outcome
-    requires { corruptOf s ≡ false }
-    ensures { result ≡ returnOf s k }
+    requires { corrupt_of s ≡ false }
+    ensures { result ≡ return_of s k }
 {
     let n = s.shape.n;
     if n <= k.0 {

@@ -17,28 +17,28 @@ use Rattle.store.specs.declared.Block.{Block}
 use Rattle.store.specs.declared.Control.{Control}
 use Rattle.store.specs.declared.Outcome.{Outcome}
 use Rattle.store.specs.LaneSets.{nobody}
-use Rattle.store.specs.Control.{slotCount, free}
+use Rattle.store.specs.Control.{slot_count, free}
 
 -- Lanes n: 2 to 8. Lines per lane c: 1 to 8. Blocks m: 1 to 64
-unfoldable pub badShape : Shape → Bool
-badShape shape = any_of (ltb shape.n 2 ∷ ltb 8 shape.n ∷ ltb shape.c 1 ∷ ltb 8 shape.c ∷ ltb shape.m 1 ∷ ltb 64 shape.m ∷ [])
+unfoldable pub bad_shape : Shape → Bool
+bad_shape shape = any_of (ltb shape.n 2 ∷ ltb 8 shape.n ∷ ltb shape.c 1 ∷ ltb 8 shape.c ∷ ltb shape.m 1 ∷ ltb 64 shape.m ∷ [])
 
 -- 18: L outside 1 to 8 (02, W6)
-abbrev pub badLimit : Shape → Bool
-badLimit shape = any_of (ltb shape.limit 1 ∷ ltb 8 shape.limit ∷ [])
+abbrev pub bad_limit : Shape → Bool
+bad_limit shape = any_of (ltb shape.limit 1 ∷ ltb 8 shape.limit ∷ [])
 
 -- words and block number 0, flags reset
-abbrev pub blankLine : Line
-blankLine = record { valid = false; private = false; block = record { 0 = 0 }; words = zeros }
+abbrev pub blank_line : Line
+blank_line = record { valid = false; private = false; block = record { 0 = 0 }; words = zeros }
 
 -- the line of number i, in a use order
 abbrev pub line : ℕ → LineNo
 line i = record { 0 = i }
 
 -- queues empty, no waiting operation; lines are ordered by number, line 0 oldest
-unfoldable pub blankLane : Lane
-blankLane = record {
-  lines = replicate 8 blankLine;
+unfoldable pub blank_lane : Lane
+blank_lane = record {
+  lines = replicate 8 blank_line;
   order = line 0 ∷ line 1 ∷ line 2 ∷ line 3 ∷ line 4 ∷ line 5 ∷ line 6 ∷ line 7 ∷ [];
   returns = record { len = 0; at = replicate capacity (record { kind = Eject; block = record { 0 = 0 }; words = zeros }) };
   downs = record { len = 0; at = replicate capacity (record { kind = Update; block = record { 0 = 0 }; words = zeros }) };
@@ -46,24 +46,24 @@ blankLane = record {
 }
 
 -- words 0, flags reset
-unfoldable pub blankBlock : Block
-blankBlock = record { words = zeros; present = nobody; modified = false }
+unfoldable pub blank_block : Block
+blank_block = record { words = zeros; present = nobody; modified = false }
 
 -- no service
-abbrev pub blankControl : Control
-blankControl = record { slots = replicate slotCount free }
+abbrev pub blank_control : Control
+blank_control = record { slots = replicate slot_count free }
 
 -- the store of an opening; no operation has completed (02, W1: "counting from 1 since opening")
 unfoldable pub fresh_of : Shape → Store
-fresh_of shape = record { shape = shape; control = blankControl; completions = 0; lanes = replicate 8 blankLane; blocks = replicate 64 blankBlock }
+fresh_of shape = record { shape = shape; control = blank_control; completions = 0; lanes = replicate 8 blank_lane; blocks = replicate 64 blank_block }
 
 -- the blank store, which a tape has before it is opened
-abbrev pub blankStore : Store
-blankStore = fresh_of (limited 0 0 0 0)
+abbrev pub blank_store : Store
+blank_store = fresh_of (limited 0 0 0 0)
 
 -- opening: 5 where n, c or m is outside its range, then 18 where L is, each with the blank store
-unfoldable pub openOf : Shape → Outcome
-openOf shape =
-    cond (badShape shape) (record { answer = Refused InvalidShape; store = blankStore })
-    (cond (badLimit shape) (record { answer = Refused InvalidLimit; store = blankStore })
+unfoldable pub open_of : Shape → Outcome
+open_of shape =
+    cond (bad_shape shape) (record { answer = Refused InvalidShape; store = blank_store })
+    (cond (bad_limit shape) (record { answer = Refused InvalidLimit; store = blank_store })
     (record { answer = Opened; store = fresh_of shape }))

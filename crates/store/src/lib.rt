@@ -1,7 +1,7 @@
 // The store: main memory's blocks, the control with its services, the lanes.
 // Functions are for the crates above and not for others.
 ghost use Rattle.std.specs.Prelude.{◌≡◌};
-ghost use Rattle.store.specs.Control.{free, withSlot, isFor, slot_of, serviceOf, openServices, busyOf, busyFor, freeSlot, withService, withUpdated, withoutService, answer_of};
+ghost use Rattle.store.specs.Control.{free, with_slot, is_for, slot_of, service_of, open_services, busy_of, busy_for, free_slot, with_service, with_updated, without_service, answer_of};
 
 use answers::Answer;
 use lanes::{Command, Lane};
@@ -59,7 +59,7 @@ pub enum Counted {
 impl Slot {
     // Whether there is a service of block a in the slot.
     pub fn is_for(self, a: BlockNo) -> bool
-        ensures { result ≡ isFor a self }
+        ensures { result ≡ is_for a self }
     {
         if self.busy {
             return self.service.block.0 == a.0;
@@ -103,7 +103,7 @@ impl Control {
 
     // The lowest free slot, or 8.
     fn vacant(self) -> u8
-        ensures { result ≡ freeSlot self }
+        ensures { result ≡ free_slot self }
     {
         let mut k: u8 = 0;
         while k < SLOTS {
@@ -120,7 +120,7 @@ impl Control {
 
     // How many services are under way.
     pub fn services(self) -> u8
-        ensures { result ≡ openServices self }
+        ensures { result ≡ open_services self }
     {
         let mut n: u8 = 0;
         let mut k: u8 = 0;
@@ -135,14 +135,14 @@ impl Control {
 
     // Whether a service is under way.
     pub fn busy(self) -> bool
-        ensures { result ≡ busyOf self }
+        ensures { result ≡ busy_of self }
     {
         0 < self.services()
     }
 
     // 10: whether block a is in service, or as many services are under way as the limit allows.
     pub fn busy_for(self, limit: u8, a: BlockNo) -> bool
-        ensures { result ≡ busyFor limit self a }
+        ensures { result ≡ busy_for limit self a }
     {
         if self.find(a) < SLOTS {
             return true;
@@ -152,7 +152,7 @@ impl Control {
 
     // The control with another slot i, if there is such a slot.
     fn with_slot(self, i: u8, y: Slot) -> Control
-        ensures { result ≡ withSlot i y self }
+        ensures { result ≡ with_slot i y self }
     {
         if SLOTS <= i {
             return self;
@@ -165,7 +165,7 @@ impl Control {
 
     // A service is opened, in the lowest free slot.
     pub fn open(self, v: Service) -> Control
-        ensures { result ≡ withService v self }
+        ensures { result ≡ with_service v self }
     {
         let i = self.vacant();
         let y = Slot {
@@ -177,7 +177,7 @@ impl Control {
 
     // The service of v's block is v now.
     pub fn update(self, v: Service) -> Control
-        ensures { result ≡ withUpdated v self }
+        ensures { result ≡ with_updated v self }
     {
         let j = self.find(v.block);
         let y = Slot {
@@ -189,7 +189,7 @@ impl Control {
 
     // v's block has no service any more.
     pub fn close(self, v: Service) -> Control
-        ensures { result ≡ withoutService v self }
+        ensures { result ≡ without_service v self }
     {
         let k = self.find(v.block);
         let y = free_slot();
@@ -198,7 +198,7 @@ impl Control {
 
     // The service of block a.
     pub fn service(self, a: BlockNo) -> Lookup
-        ensures { result ≡ serviceOf self a }
+        ensures { result ≡ service_of self a }
     {
         let i = self.find(a);
         if SLOTS <= i {

@@ -2,10 +2,10 @@
 // refusals too. `begin` is for `operations`; the others are open to others.
 ghost use Rattle.std.specs.Prelude.{◌≡◌};
 ghost use Rattle.lanes.specs.UseOrder.{LoadsOldest};
-ghost use Rattle.machine.specs.machine.Begin.{beginOf};
-ghost use Rattle.machine.specs.machine.Serve.{serveOf};
-ghost use Rattle.machine.specs.machine.Return.{returnOf};
-ghost use Rattle.machine.specs.machine.Deliver.{deliverOf};
+ghost use Rattle.machine.specs.Machine.Begin.{begin_of};
+ghost use Rattle.machine.specs.Machine.Serve.{serve_of};
+ghost use Rattle.machine.specs.Machine.Return.{return_of};
+ghost use Rattle.machine.specs.Machine.Deliver.{deliver_of};
 
 use answers::Refusal;
 use store::{Outcome, Store};
@@ -13,7 +13,7 @@ use words::{LaneNo, Op, WordNo};
 
 // A begin call on any store.
 pub fn begin(s: Store, k: LaneNo, op: Op, w: WordNo) -> Outcome
-    ensures { result ≡ beginOf s k op w }
+    ensures { result ≡ begin_of s k op w }
 {
     if store_corruption::corrupt(s) {
         return store_commit::refused(Refusal::Corrupt, s);
@@ -23,7 +23,7 @@ pub fn begin(s: Store, k: LaneNo, op: Op, w: WordNo) -> Outcome
 
 // Serve k.
 pub fn serve(s: Store, k: LaneNo) -> Outcome
-    ensures { result ≡ serveOf s k }
+    ensures { result ≡ serve_of s k }
 {
     if store_corruption::corrupt(s) {
         return store_commit::refused(Refusal::Corrupt, s);
@@ -33,7 +33,7 @@ pub fn serve(s: Store, k: LaneNo) -> Outcome
 
 // Return k; `return` is a word of the language.
 pub fn return_head(s: Store, k: LaneNo) -> Outcome
-    ensures { result ≡ returnOf s k }
+    ensures { result ≡ return_of s k }
 {
     if store_corruption::corrupt(s) {
         return store_commit::refused(Refusal::Corrupt, s);
@@ -43,7 +43,7 @@ pub fn return_head(s: Store, k: LaneNo) -> Outcome
 
 // Deliver k.
 pub fn deliver(s: Store, k: LaneNo) -> Outcome
-    ensures { result ≡ deliverOf LoadsOldest s k }
+    ensures { result ≡ deliver_of LoadsOldest s k }
 {
     if store_corruption::corrupt(s) {
         return store_commit::refused(Refusal::Corrupt, s);

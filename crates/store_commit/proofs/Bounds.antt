@@ -8,41 +8,41 @@ use Rattle.words.specs.declared.LaneNo.{LaneNo}
 use Rattle.words.specs.declared.WordNo.{WordNo}
 use Rattle.words.specs.declared.Op.{Op}
 use Rattle.queues.specs.Queues.{capacity}
-use Rattle.lanes.specs.UseOrder.{placeAt, LoadsOldest}
+use Rattle.lanes.specs.UseOrder.{place_at, LoadsOldest}
 use Rattle.store.specs.declared.Store.{Store}
-use Rattle.store.specs.Stores.{laneAt}
-use Rattle.machine.specs.machine.Begun.{begunIn, lastPlace, exhaustedOf}
-use Rattle.machine.specs.machine.Corruption.{corruptOf}
-use Rattle.machine.specs.machine.Change.{counted}
-use Rattle.machine.specs.machine.Begin.{admitsOf, beginLane}
-use Rattle.machine.specs.machine.Deliver.{deliverLane}
-use Rattle.machine.proofs.bounds.Sound.{sound}
-use Rattle.machine.proofs.rules.Rules.{admitted}
-use Rattle.machine.proofs.bounds.KeepsBegun.{begin-lane-begins, deliver-lane-begins, lane-counted}
+use Rattle.store.specs.Stores.{lane_at}
+use Rattle.machine.specs.Machine.Begun.{begun_in, last_place, exhausted_of}
+use Rattle.machine.specs.Machine.Corruption.{corrupt_of}
+use Rattle.machine.specs.Machine.Change.{counted}
+use Rattle.machine.specs.Machine.Begin.{admits_of, begin_lane}
+use Rattle.machine.specs.Machine.Deliver.{deliver_lane}
+use Rattle.machine.proofs.Bounds.Sound.{sound}
+use Rattle.machine.proofs.Rules.Rules.{admitted}
+use Rattle.machine.proofs.Bounds.KeepsBegun.{begin_lane_begins, deliver_lane_begins, lane_counted}
 
-module _ (s : Store) (k : LaneNo) (e : corruptOf s ≡ false) (h : k.0 < s.shape.n) where
+module _ (s : Store) (k : LaneNo) (e : corrupt_of s ≡ false) (h : k.0 < s.shape.n) where
   pub lane_bound : k.0 < 8
-  lane_bound = let g = (sound s e).n-high in omega arith
+  lane_bound = let g = (sound s e).n_high in omega arith
 
-  pub lanes-bound : s.shape.n ≤ 8
-  lanes-bound = (sound s e).n-high
+  pub lanes_bound : s.shape.n ≤ 8
+  lanes_bound = (sound s e).n_high
 
-  pub lines-bound : s.shape.c ≤ 8
-  lines-bound = (sound s e).c-high
+  pub lines_bound : s.shape.c ≤ 8
+  lines_bound = (sound s e).c_high
 
-  pub oldest-bound : (placeAt (laneAt s k.0).order 0).0 < 8
-  oldest-bound = let g = sound s e in let p = (g.lane k.0 h).order.named 0 g.c-low in let q = g.c-high in omega arith
+  pub oldest_bound : (place_at (lane_at s k.0).order 0).0 < 8
+  oldest_bound = let g = sound s e in let p = (g.lane k.0 h).order.named 0 g.c_low in let q = g.c_high in omega arith
 
   -- a completion's place is no more than the last one
-  pub begin-counted : (op : Op) (w : WordNo) → admitsOf s.shape.c op w (laneAt s k.0) ≡ true → exhaustedOf s ≡ false →
-      counted (beginLane capacity s.shape.c op w (laneAt s k.0)).answer s.completions ≤ lastPlace
-  begin-counted op w admits left =
+  pub begin_counted : (op : Op) (w : WordNo) → admits_of s.shape.c op w (lane_at s k.0) ≡ true → exhausted_of s ≡ false →
+      counted (begin_lane capacity s.shape.c op w (lane_at s k.0)).answer s.completions ≤ last_place
+  begin_counted op w admits left =
       let g = (sound s e).begun in
-      let p = lane-counted 1 s k (beginLane capacity s.shape.c op w (laneAt s k.0)) h (begin-lane-begins s.shape.c op w (laneAt s k.0) (admitted s.shape.c op w (laneAt s k.0) admits)) in
-      omega (arith, eqb-false (begunIn s) lastPlace left)
+      let p = lane_counted 1 s k (begin_lane capacity s.shape.c op w (lane_at s k.0)) h (begin_lane_begins s.shape.c op w (lane_at s k.0) (admitted s.shape.c op w (lane_at s k.0) admits)) in
+      omega (arith, eqb-false (begun_in s) last_place left)
 
-  pub deliver-counted : counted (deliverLane capacity LoadsOldest s.shape.c (laneAt s k.0)).answer s.completions ≤ lastPlace
-  deliver-counted =
+  pub deliver_counted : counted (deliver_lane capacity LoadsOldest s.shape.c (lane_at s k.0)).answer s.completions ≤ last_place
+  deliver_counted =
       let g = (sound s e).begun in
-      let p = lane-counted 0 s k (deliverLane capacity LoadsOldest s.shape.c (laneAt s k.0)) h (deliver-lane-begins LoadsOldest s.shape.c (laneAt s k.0)) in
+      let p = lane_counted 0 s k (deliver_lane capacity LoadsOldest s.shape.c (lane_at s k.0)) h (deliver_lane_begins LoadsOldest s.shape.c (lane_at s k.0)) in
       omega arith

@@ -2,9 +2,9 @@
 // The lanes that a message goes to are the set bits of a byte, bit j for lane j: the look at full queues and the queueing walk the set bits, the lowest first.
 // The store is handed in by value and changed in a local. Functions with a requires are for the crates above and not for others.
 ghost use Rattle.std.specs.Prelude.{◌≡◌, ◌<◌};
-ghost use Rattle.machine.specs.machine.LaneBytes.{move_of};
-ghost use Rattle.machine.specs.machine.Change.{refuse, posted, commitMove};
-ghost use Rattle.store_commit.specs.Bits.{lowestBit, withoutLowest};
+ghost use Rattle.machine.specs.Machine.LaneBytes.{move_of};
+ghost use Rattle.machine.specs.Machine.Change.{refuse, posted, commit_move};
+ghost use Rattle.store_commit.specs.Bits.{lowest_bit, without_lowest};
 ghost use Rattle.queues.specs.Queues.{capacity};
 
 use answers::{Answer, Refusal};
@@ -16,7 +16,7 @@ use words::{BlockNo, LaneNo};
 
 // The lowest set bit of a byte, 8 for the byte 0.
 fn lowest(x: u8) -> usize
-    ensures { result ≡ lowestBit x }
+    ensures { result ≡ lowest_bit x }
 {
     u8::trailing_zeros(x) as usize
 }
@@ -24,7 +24,7 @@ fn lowest(x: u8) -> usize
 // A byte without its lowest set bit.
 fn without_lowest(x: u8) -> u8
     requires { 0 < x }
-    ensures { result ≡ withoutLowest x }
+    ensures { result ≡ without_lowest x }
 {
     x & (x - 1)
 }
@@ -54,7 +54,7 @@ pub fn refused(r: Refusal, s: Store) -> Outcome
 // Lane k, block a, the control and the down queues after memory's part of a call; 12, with the store as it was, if a queue that its message joins is full.
 pub fn commit_move(s: Store, k: LaneNo, a: BlockNo, v: ByteMove) -> Outcome
     requires { (k.0 < 8) × (a.0 < 64) }
-    ensures { result ≡ commitMove s k a (move_of v) }
+    ensures { result ≡ commit_move s k a (move_of v) }
 {
     let e = v.answer;
     if e.refused() {

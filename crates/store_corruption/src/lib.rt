@@ -1,11 +1,11 @@
 // Refusal 14: whether a store breaks its own bounds. Each function mirrors the definition of its name in
 // machine/specs/machine/Corruption.antt. Only `corrupt` is open to others.
 ghost use Rattle.std.specs.Prelude.{◌≡◌, ◌<◌, ◌≤◌};
-ghost use Rattle.words.specs.Folds.{anyTo};
+ghost use Rattle.words.specs.Folds.{any_to};
 ghost use Rattle.queues.specs.Queues.{capacity};
-ghost use Rattle.store.specs.Control.{slot_at, isFor};
-ghost use Rattle.store.specs.Stores.{laneAt, block_at};
-ghost use Rattle.machine.specs.machine.Corruption.{badLane, badFlag, badFlags, badService, badSlot, badControl, corruptOf};
+ghost use Rattle.store.specs.Control.{slot_at, is_for};
+ghost use Rattle.store.specs.Stores.{lane_at, block_at};
+ghost use Rattle.machine.specs.Machine.Corruption.{bad_lane, bad_flag, bad_flags, bad_service, bad_slot, bad_control, corrupt_of};
 
 use store::{Block, Control, SLOTS, Service, Store};
 use words::{BlockNo, Shape};
@@ -13,7 +13,7 @@ use words::{BlockNo, Shape};
 // Whether one of the n lanes breaks a bound.
 fn bad_lanes(s: Store) -> bool
     requires { (s.shape.n ≤ 8) × (s.shape.c ≤ 8) }
-    ensures { result ≡ anyTo (λ k. badLane capacity s.shape.c s.shape.m (laneAt s k)) s.shape.n }
+    ensures { result ≡ any_to (λ k. bad_lane capacity s.shape.c s.shape.m (lane_at s k)) s.shape.n }
 {
     let n = s.shape.n;
     let c = s.shape.c;
@@ -33,7 +33,7 @@ fn bad_lanes(s: Store) -> bool
 // Whether PRESENT is set for lane k although k is n or above.
 fn bad_flag(b: Block, n: u8, k: u8) -> bool
     requires { k < 8 }
-    ensures { result ≡ badFlag n b k }
+    ensures { result ≡ bad_flag n b k }
 {
     let i = k as usize;
     let x = b.present[i];
@@ -42,7 +42,7 @@ fn bad_flag(b: Block, n: u8, k: u8) -> bool
 
 // .. for some lane.
 fn bad_flags(b: Block, n: u8) -> bool
-    ensures { result ≡ badFlags n b }
+    ensures { result ≡ bad_flags n b }
 {
     let mut k: u8 = 0;
     while k < 8 {
@@ -57,7 +57,7 @@ fn bad_flags(b: Block, n: u8) -> bool
 // .. in one of the m blocks.
 fn bad_blocks(s: Store) -> bool
     requires { s.shape.m ≤ 64 }
-    ensures { result ≡ anyTo (λ a. badFlags s.shape.n (block_at s a)) s.shape.m }
+    ensures { result ≡ any_to (λ a. bad_flags s.shape.n (block_at s a)) s.shape.m }
 {
     let n = s.shape.n;
     let m = s.shape.m;
@@ -75,7 +75,7 @@ fn bad_blocks(s: Store) -> bool
 
 // Whether a service has a lane or block number out of range, or awaits more than n - 1 answers.
 fn bad_service(v: Service, n: u8, m: u8) -> bool
-    ensures { result ≡ badService n m v }
+    ensures { result ≡ bad_service n m v }
 {
     if n <= v.lane.0 {
         return true;
@@ -89,7 +89,7 @@ fn bad_service(v: Service, n: u8, m: u8) -> bool
 // Whether a slot before slot k has a service of block a.
 fn taken_before(x: Control, a: BlockNo, k: u8) -> bool
     requires { k ≤ 8 }
-    ensures { result ≡ anyTo (λ j. isFor a (slot_at x j)) k }
+    ensures { result ≡ any_to (λ j. is_for a (slot_at x j)) k }
 {
     let mut j: u8 = 0;
     while j < k {
@@ -106,7 +106,7 @@ fn taken_before(x: Control, a: BlockNo, k: u8) -> bool
 // Whether the service in slot k breaks a bound, or an earlier one has its block.
 fn bad_slot(x: Control, n: u8, m: u8, k: u8) -> bool
     requires { k < 8 }
-    ensures { result ≡ badSlot n m x k }
+    ensures { result ≡ bad_slot n m x k }
 {
     let i = k as usize;
     let y = x.slots[i];
@@ -123,7 +123,7 @@ fn bad_slot(x: Control, n: u8, m: u8, k: u8) -> bool
 
 // Whether the services exceed L, or one of them is bad.
 fn bad_control(shape: Shape, x: Control) -> bool
-    ensures { result ≡ badControl shape x }
+    ensures { result ≡ bad_control shape x }
 {
     if shape.limit < x.services() {
         return true;
@@ -140,7 +140,7 @@ fn bad_control(shape: Shape, x: Control) -> bool
 
 // Whether the store breaks its own bounds.
 pub fn corrupt(s: Store) -> bool
-    ensures { result ≡ corruptOf s }
+    ensures { result ≡ corrupt_of s }
 {
     let shape = s.shape;
     if store_opening::bad_shape(shape) {

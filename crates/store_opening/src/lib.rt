@@ -1,7 +1,7 @@
 // Opening: a store of n lanes of c lines and m blocks, with a limit L of services. The definitions are store's (store/specs/Opening.antt).
 // open is open to others and has no requires; the other functions are for the crates above.
 ghost use Rattle.std.specs.Prelude.{◌≡◌};
-ghost use Rattle.store.specs.Opening.{badShape, badLimit, blankLine, blankLane, blankBlock, fresh_of, blankStore, openOf};
+ghost use Rattle.store.specs.Opening.{bad_shape, bad_limit, blank_line, blank_lane, blank_block, fresh_of, blank_store, open_of};
 
 use answers::{Answer, Refusal};
 use lanes::{Lane, Waiting};
@@ -11,7 +11,7 @@ use words::{BlockNo, Line, LineNo, Shape};
 
 // Whether n, c or m is outside its range.
 pub fn bad_shape(shape: Shape) -> bool
-    ensures { result ≡ badShape shape }
+    ensures { result ≡ bad_shape shape }
 {
     let n = shape.n;
     let c = shape.c;
@@ -36,7 +36,7 @@ pub fn bad_shape(shape: Shape) -> bool
 
 // Whether L is outside its range.
 pub fn bad_limit(shape: Shape) -> bool
-    ensures { result ≡ badLimit shape }
+    ensures { result ≡ bad_limit shape }
 {
     let limit = shape.limit;
     if limit < 1 {
@@ -46,7 +46,7 @@ pub fn bad_limit(shape: Shape) -> bool
 }
 
 fn blank_line() -> Line
-    ensures { result ≡ blankLine }
+    ensures { result ≡ blank_line }
 {
     Line {
         valid: false,
@@ -57,7 +57,7 @@ fn blank_line() -> Line
 }
 
 fn blank_lane() -> Lane
-    ensures { result ≡ blankLane }
+    ensures { result ≡ blank_lane }
 {
     let line = blank_line();
     let up = ReturnMessage {
@@ -95,7 +95,7 @@ fn blank_lane() -> Lane
 }
 
 fn blank_block() -> Block
-    ensures { result ≡ blankBlock }
+    ensures { result ≡ blank_block }
 {
     Block {
         words: [0; 4],
@@ -122,7 +122,7 @@ pub fn fresh(shape: Shape) -> Store
 
 // The blank store, before any opening.
 pub fn blank() -> Store
-    ensures { result ≡ blankStore }
+    ensures { result ≡ blank_store }
 {
     let shape = Shape {
         n: 0,
@@ -135,7 +135,7 @@ pub fn blank() -> Store
 
 // Opening.
 pub fn open(shape: Shape) -> Outcome
-    ensures { result ≡ openOf shape }
+    ensures { result ≡ open_of shape }
 {
     if bad_shape(shape) {
         let s = blank();

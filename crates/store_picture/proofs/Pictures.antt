@@ -8,24 +8,24 @@ use lib.ListN.{length}
 use Rattle.answers.specs.declared.Refusal.TheVariants.{Corrupt, BufferTooShort}
 use Rattle.store.specs.declared.Store.{Store}
 use Rattle.machine.specs.declared.Filled.TheVariants.{Length, Refused}
-use Rattle.machine.specs.machine.Corruption.{corruptOf}
-use Rattle.machine.specs.machine.Picture.{pictureBytes, pictureOf}
+use Rattle.machine.specs.Machine.Corruption.{corrupt_of}
+use Rattle.machine.specs.Machine.Picture.{picture_bytes, picture_of}
 use Rattle.buffers.specs.Written.{written}
-use Rattle.buffers.proofs.Writing.{written-front}
+use Rattle.buffers.proofs.Writing.{written_front}
 
 -- 14
-pub picture-corrupt : (s : Store) (b : List ℕ) → corruptOf s ≡ true → pictureOf s b ≡ record { answer = Refused Corrupt; buffer = b }
-unfolding pictureOf
-picture-corrupt s b e = rw e
+pub picture_corrupt : (s : Store) (b : List ℕ) → corrupt_of s ≡ true → picture_of s b ≡ record { answer = Refused Corrupt; buffer = b }
+unfolding picture_of
+picture_corrupt s b e = rw e
 
 -- 15
-pub picture-short : (s : Store) (b : List ℕ) → corruptOf s ≡ false → length b < length (pictureBytes s) →
-    pictureOf s b ≡ record { answer = Refused BufferTooShort; buffer = b }
-unfolding pictureOf
-picture-short s b e l = rw (e, lt-ltb _ _ l)
+pub picture_short : (s : Store) (b : List ℕ) → corrupt_of s ≡ false → length b < length (picture_bytes s) →
+    picture_of s b ≡ record { answer = Refused BufferTooShort; buffer = b }
+unfolding picture_of
+picture_short s b e l = rw (e, lt-ltb _ _ l)
 
 -- the records from the start on
-pub picture-fits : (s : Store) (b : List ℕ) → corruptOf s ≡ false → length (pictureBytes s) ≤ length b →
-    pictureOf s b ≡ record { answer = Length (length (pictureBytes s)); buffer = written b 0 (pictureBytes s) }
-unfolding pictureOf
-picture-fits s b e l = rw (e, le-ltb (length b) (length (pictureBytes s)) l, written-front b (pictureBytes s))
+pub picture_fits : (s : Store) (b : List ℕ) → corrupt_of s ≡ false → length (picture_bytes s) ≤ length b →
+    picture_of s b ≡ record { answer = Length (length (picture_bytes s)); buffer = written b 0 (picture_bytes s) }
+unfolding picture_of
+picture_fits s b e l = rw (e, le-ltb (length b) (length (picture_bytes s)) l, written_front b (picture_bytes s))

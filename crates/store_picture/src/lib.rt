@@ -2,8 +2,8 @@
 // Only `picture` is open to others; the other functions require what it has checked.
 ghost use Rattle.std.specs.Prelude.{◌≡◌, cond, ◌+◌, ◌≤◌, length};
 ghost use Rattle.buffers.specs.Written.{written};
-ghost use Rattle.machine.specs.machine.Picture.{word_bytes, recordBytes, pictureBytes, pictureOf};
-ghost use Rattle.store_picture.specs.Records.{lineRecord, laneRecords, blockRecords, validIn, valid_of};
+ghost use Rattle.machine.specs.Machine.Picture.{word_bytes, record_bytes, picture_bytes, picture_of};
+ghost use Rattle.store_picture.specs.Records.{line_record, lane_records, block_records, valid_in, valid_of};
 
 use answers::Refusal;
 use lanes::Lane;
@@ -27,7 +27,7 @@ fn one(l: Line) -> usize
 // How many of the first c lines of a lane are valid.
 fn valid_in(l: Lane, c: u8) -> usize
     requires { c ≤ 8 }
-    ensures { result ≡ validIn l c }
+    ensures { result ≡ valid_in l c }
 {
     let mut count: usize = 0;
     let mut i: u8 = 0;
@@ -75,7 +75,7 @@ fn write_word(part: &mut [u8], at: usize, x: u32) -> usize
 // A record, from the start of a part of the buffer on.
 fn write_record(part: &mut [u8], k: LaneNo, x: Line)
     requires { 19 ≤ length part.old }
-    ensures { part.new ≡ written part.old 0 (recordBytes k.0 x) }
+    ensures { part.new ≡ written part.old 0 (record_bytes k.0 x) }
 {
     let first = buffers::put3(part, 0, 16, k.0, x.block.0);
     let second = write_word(part, first, x.words[0]);
@@ -86,8 +86,8 @@ fn write_record(part: &mut [u8], k: LaneNo, x: Line)
 
 // The record of a line, where it is valid and has block a, into the part of the buffer that starts at its offset; the next offset.
 fn write_line(buffer: &mut [u8], at: usize, a: BlockNo, k: LaneNo, x: Line) -> usize
-    requires { at + length (lineRecord a.0 k.0 x) ≤ length buffer.old }
-    ensures { (result ≡ at + length (lineRecord a.0 k.0 x)) × (buffer.new ≡ written buffer.old at (lineRecord a.0 k.0 x)) }
+    requires { at + length (line_record a.0 k.0 x) ≤ length buffer.old }
+    ensures { (result ≡ at + length (line_record a.0 k.0 x)) × (buffer.new ≡ written buffer.old at (line_record a.0 k.0 x)) }
 {
     if x.holds(a) {
         write_record(&mut buffer[at..], k, x);
@@ -98,8 +98,8 @@ fn write_line(buffer: &mut [u8], at: usize, a: BlockNo, k: LaneNo, x: Line) -> u
 
 // The records of block a in lane k.
 fn write_lane(buffer: &mut [u8], at: usize, a: BlockNo, k: LaneNo, l: Lane, c: u8) -> usize
-    requires { (c ≤ 8) × (at + length (laneRecords a.0 k.0 l c) ≤ length buffer.old) }
-    ensures { (result ≡ at + length (laneRecords a.0 k.0 l c)) × (buffer.new ≡ written buffer.old at (laneRecords a.0 k.0 l c)) }
+    requires { (c ≤ 8) × (at + length (lane_records a.0 k.0 l c) ≤ length buffer.old) }
+    ensures { (result ≡ at + length (lane_records a.0 k.0 l c)) × (buffer.new ≡ written buffer.old at (lane_records a.0 k.0 l c)) }
 {
     let mut place = at;
     let mut i: u8 = 0;
@@ -115,8 +115,8 @@ fn write_lane(buffer: &mut [u8], at: usize, a: BlockNo, k: LaneNo, l: Lane, c: u
 
 // The records of block a.
 fn write_block(buffer: &mut [u8], at: usize, a: BlockNo, s: Store) -> usize
-    requires { (s.shape.n ≤ 8) × (s.shape.c ≤ 8) × (at + length (blockRecords s a.0) ≤ length buffer.old) }
-    ensures { (result ≡ at + length (blockRecords s a.0)) × (buffer.new ≡ written buffer.old at (blockRecords s a.0)) }
+    requires { (s.shape.n ≤ 8) × (s.shape.c ≤ 8) × (at + length (block_records s a.0) ≤ length buffer.old) }
+    ensures { (result ≡ at + length (block_records s a.0)) × (buffer.new ≡ written buffer.old at (block_records s a.0)) }
 {
     let n = s.shape.n;
     let c = s.shape.c;
@@ -134,8 +134,8 @@ fn write_block(buffer: &mut [u8], at: usize, a: BlockNo, s: Store) -> usize
 
 // The records of all blocks.
 fn write_blocks(buffer: &mut [u8], s: Store) -> usize
-    requires { (s.shape.n ≤ 8) × (s.shape.c ≤ 8) × (length (pictureBytes s) ≤ length buffer.old) }
-    ensures { (result ≡ length (pictureBytes s)) × (buffer.new ≡ written buffer.old 0 (pictureBytes s)) }
+    requires { (s.shape.n ≤ 8) × (s.shape.c ≤ 8) × (length (picture_bytes s) ≤ length buffer.old) }
+    ensures { (result ≡ length (picture_bytes s)) × (buffer.new ≡ written buffer.old 0 (picture_bytes s)) }
 {
     let m = s.shape.m;
     let mut place: usize = 0;
@@ -150,7 +150,7 @@ fn write_blocks(buffer: &mut [u8], s: Store) -> usize
 
 // Picture.
 pub fn picture(s: Store, buffer: &mut [u8]) -> Filled
-    ensures { (result ≡ (pictureOf s buffer.old).answer) × (buffer.new ≡ (pictureOf s buffer.old).buffer) }
+    ensures { (result ≡ (picture_of s buffer.old).answer) × (buffer.new ≡ (picture_of s buffer.old).buffer) }
 {
     if store_corruption::corrupt(s) {
         return Filled::Refused(Refusal::Corrupt);

@@ -5,11 +5,11 @@ use mathlib.Core.Bool.{false, not}
 use borrow.Author.Tests.{ne_eqb}
 use native.Mathlib.Omega.{arith}
 use Rattle.words.proofs.Folds.{count_most}
-use Rattle.lanes.specs.Waits.{idleOf}
+use Rattle.lanes.specs.Waits.{idle_of}
 use Rattle.store.specs.declared.Store.{Store}
-use Rattle.store.specs.Stores.{laneAt}
-use Rattle.machine.specs.machine.Begun.{waitingIn, begunIn, lastPlace, exhaustedOf}
+use Rattle.store.specs.Stores.{lane_at}
+use Rattle.machine.specs.Machine.Begun.{waiting_in, begun_in, last_place, exhausted_of}
 
-pub far-left : (s : Store) → s.shape.n ≤ 8 → s.completions < 4294967287 → exhaustedOf s ≡ false
-unfolding begunIn waitingIn
-far-left s h l = let m = count_most (λ k. not (idleOf (laneAt s k).waiting)) s.shape.n in ne_eqb (begunIn s) lastPlace (λ e. omega arith)
+pub far_left : (s : Store) → s.shape.n ≤ 8 → s.completions < 4294967287 → exhausted_of s ≡ false
+unfolding begun_in waiting_in
+far_left s h l = let m = count_most (λ k. not (idle_of (lane_at s k).waiting)) s.shape.n in ne_eqb (begun_in s) last_place (λ e. omega arith)

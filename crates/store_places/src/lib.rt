@@ -1,8 +1,8 @@
 // Document 02, W1: completions so far plus operations waiting, which never pass the last place in 32 bits. The definitions are
 // machine's (machine/specs/machine/Begun.antt). For our own crates above.
 ghost use Rattle.std.specs.Prelude.{◌≡◌, not, cond, ◌≤◌};
-ghost use Rattle.lanes.specs.Waits.{idleOf};
-ghost use Rattle.machine.specs.machine.Begun.{waitingIn, begunIn, exhaustedOf, overrunOf};
+ghost use Rattle.lanes.specs.Waits.{idle_of};
+ghost use Rattle.machine.specs.Machine.Begun.{waiting_in, begun_in, exhausted_of, overrun_of};
 
 use lanes::Lane;
 use store::Store;
@@ -15,7 +15,7 @@ const NEAR_END: u32 = 4294967287;
 
 // 1 where the lane's operation waits, else 0.
 fn waits(l: Lane) -> u64
-    ensures { (result ≡ cond (not (idleOf l.waiting)) 1 0) × (result ≤ 1) }
+    ensures { (result ≡ cond (not (idle_of l.waiting)) 1 0) × (result ≤ 1) }
 {
     let w = l.waiting;
     if w.idle() {
@@ -27,7 +27,7 @@ fn waits(l: Lane) -> u64
 // Operations waiting.
 fn waiting(s: Store) -> u64
     requires { s.shape.n ≤ 8 }
-    ensures { (result ≡ waitingIn s) × (result ≤ 8) }
+    ensures { (result ≡ waiting_in s) × (result ≤ 8) }
 {
     let n = s.shape.n;
     let mut sum: u64 = 0;
@@ -44,7 +44,7 @@ fn waiting(s: Store) -> u64
 // Completions so far plus operations waiting.
 fn begun(s: Store) -> u64
     requires { s.shape.n ≤ 8 }
-    ensures { result ≡ begunIn s }
+    ensures { result ≡ begun_in s }
 {
     let w = waiting(s);
     s.completions as u64 + w
@@ -53,7 +53,7 @@ fn begun(s: Store) -> u64
 // 17: no place is left for one operation more. A tape pays one comparison for it.
 pub fn exhausted(s: Store) -> bool
     requires { s.shape.n ≤ 8 }
-    ensures { result ≡ exhaustedOf s }
+    ensures { result ≡ exhausted_of s }
 {
     if s.completions < NEAR_END {
         return false;
@@ -64,7 +64,7 @@ pub fn exhausted(s: Store) -> bool
 // 14: there are more operations than places.
 pub fn overrun(s: Store) -> bool
     requires { s.shape.n ≤ 8 }
-    ensures { result ≡ overrunOf s }
+    ensures { result ≡ overrun_of s }
 {
     LAST_PLACE < begun(s)
 }

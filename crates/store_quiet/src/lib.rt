@@ -1,14 +1,14 @@
 // Quiet: whether there is nothing left to do for settle. The definitions are store's (store/specs/Quiet.antt).
 // For settle and not for others.
 ghost use Rattle.std.specs.Prelude.{◌≡◌};
-ghost use Rattle.store.specs.Quiet.{activeOf, quietOf};
+ghost use Rattle.store.specs.Quiet.{active_of, quiet_of};
 
 use lanes::Lane;
 use store::Store;
 
 // Whether the lane's operation waits or one of its queues is filled.
 fn active(l: Lane) -> bool
-    ensures { result ≡ activeOf l }
+    ensures { result ≡ active_of l }
 {
     let w = l.waiting;
     if w.idle() {
@@ -22,7 +22,7 @@ fn active(l: Lane) -> bool
 
 // Whether the store is quiet: no operation waits, no service, queues empty. For settle, on a store that is not corrupt.
 pub fn quiet(s: Store) -> bool
-    ensures { result ≡ quietOf s }
+    ensures { result ≡ quiet_of s }
 {
     let x = s.control;
     if x.busy() {

@@ -5,29 +5,29 @@ use Rattle.answers.specs.declared.Answer.TheVariants.{Opened, Done, Wait, Step}
 use Rattle.answers.specs.declared.Completion.{Completion}
 use Rattle.answers.specs.declared.Refusal.{Refusal}
 use Rattle.answers.specs.declared.Refusal.TheVariants.{Unexpected}
-use Rattle.answers.specs.Completions.{completionOf}
+use Rattle.answers.specs.Completions.{completion_of}
 use Rattle.machine.specs.declared.Settled.{Settled}
 use Rattle.machine.specs.declared.Settled.TheVariants.{Steps}
 use Rattle.store.specs.declared.Store.{Store}
-use Rattle.machine.specs.machine.Settle.{boundOf, exactOf, Settlement}
+use Rattle.machine.specs.Machine.Settle.{bound_of, exact_of, Settlement}
 use Rattle.store_settle.specs.declared.Completions.{Completions}
 use Rattle.store_settle.specs.declared.SettleOutcome.{SettleOutcome}
 
 -- the array of 8 completions: the completions in order, then that of lane 0 with value 0 and place 0 where there is none
 abbrev pub padded : List Completion → List Completion
-padded cs = cs ++ replicate (8 - length cs) (completionOf (record { 0 = 0 }) 0 0)
+padded cs = cs ++ replicate (8 - length cs) (completion_of (record { 0 = 0 }) 0 0)
 
 -- the completions in order and their number
 abbrev pub array_of : List Completion → Completions
 array_of cs = record { len = length cs; at = padded cs }
 
 -- what a settle gives, the completions in an array
-abbrev pub outcomeOf : Settlement → SettleOutcome
-outcomeOf r = record { answer = r.answer; completions = array_of r.completions; store = r.store }
+abbrev pub outcome_of : Settlement → SettleOutcome
+outcome_of r = record { answer = r.answer; completions = array_of r.completions; store = r.store }
 
 -- the count of steps is exact, so at most the bound, both of the store before; a refusal has none
 abbrev pub Counted : Store → Settled → Type 0
-Counted s (Steps counts) = (counts.steps ≡ exactOf s counts.orders) × (counts.steps ≤ boundOf s)
+Counted s (Steps counts) = (counts.steps ≡ exact_of s counts.orders) × (counts.steps ≤ bound_of s)
 Counted s (Settled.Refused r) = Unit {0}
 
 -- the completion of an answer, if it has one, behind the others
@@ -39,9 +39,9 @@ listed_of d Step = d
 listed_of d (Answer.Refused r) = d
 
 -- why an answer is a refusal
-abbrev pub refusalOf : Answer → Refusal
-refusalOf Opened = Unexpected
-refusalOf (Done x) = Unexpected
-refusalOf Wait = Unexpected
-refusalOf Step = Unexpected
-refusalOf (Answer.Refused r) = r
+abbrev pub refusal_of : Answer → Refusal
+refusal_of Opened = Unexpected
+refusal_of (Done x) = Unexpected
+refusal_of Wait = Unexpected
+refusal_of Step = Unexpected
+refusal_of (Answer.Refused r) = r

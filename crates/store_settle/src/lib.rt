@@ -2,10 +2,10 @@
 // settle is open to others and has no requires.
 ghost use Rattle.std.specs.Prelude.{◌≡◌, false, [], ◌+◌, ◌≤◌, length};
 ghost use Rattle.lanes.specs.UseOrder.{LoadsOldest};
-ghost use Rattle.machine.specs.machine.Corruption.{corruptOf};
-ghost use Rattle.answers.specs.Completions.{doneIn};
-ghost use Rattle.machine.specs.machine.Settle.{settleOf, refuseSettle};
-ghost use Rattle.store_settle.specs.Settles.{array_of, outcomeOf, Counted, listed_of, refusalOf};
+ghost use Rattle.machine.specs.Machine.Corruption.{corrupt_of};
+ghost use Rattle.answers.specs.Completions.{done_in};
+ghost use Rattle.machine.specs.Machine.Settle.{settle_of, refuse_settle};
+ghost use Rattle.store_settle.specs.Settles.{array_of, outcome_of, Counted, listed_of, refusal_of};
 
 use answers::{Answer, Completion, Refusal};
 use machine::{SettleCounts, Settled};
@@ -38,7 +38,7 @@ fn none() -> Completions
 
 // The completion of an answer, if it has one, goes behind the others.
 fn list(d: Completions, a: Answer) -> Completions
-    requires { length (doneIn a) + d.len ≤ 8 }
+    requires { length (done_in a) + d.len ≤ 8 }
     ensures { result ≡ listed_of d a }
 {
     match a {
@@ -58,7 +58,7 @@ fn list(d: Completions, a: Answer) -> Completions
 
 // Why an answer is a refusal; for an answer that is no refusal the value is not used.
 fn refusal(a: Answer) -> Refusal
-    ensures { result ≡ refusalOf a }
+    ensures { result ≡ refusal_of a }
 {
     match a {
         Answer::Opened => Refusal::Unexpected,
@@ -71,7 +71,7 @@ fn refusal(a: Answer) -> Refusal
 
 // A refused settle gives its number alone; the store is the one before the call.
 fn refuse(r: Refusal, s: Store) -> SettleOutcome
-    ensures { (result ≡ outcomeOf (refuseSettle r s)) × Counted s result.answer }
+    ensures { (result ≡ outcome_of (refuse_settle r s)) × Counted s result.answer }
 {
     let d = none();
     SettleOutcome {
@@ -83,8 +83,8 @@ fn refuse(r: Refusal, s: Store) -> SettleOutcome
 
 // Settle of a store that is not corrupt.
 fn settle_sound(first: Store) -> SettleOutcome
-    requires { corruptOf first ≡ false }
-    ensures { (result ≡ outcomeOf (settleOf LoadsOldest first)) × Counted first result.answer }
+    requires { corrupt_of first ≡ false }
+    ensures { (result ≡ outcome_of (settle_of LoadsOldest first)) × Counted first result.answer }
 {
     let mut s = first;
     let mut done = none();
@@ -119,7 +119,7 @@ fn settle_sound(first: Store) -> SettleOutcome
 // Settle: the step count, the orders that its own serves sent, by which the count is exact, and the completions in order; or why it was
 // refused: 14, or the number of the step that was.
 pub fn settle(s: Store) -> SettleOutcome
-    ensures { (result ≡ outcomeOf (settleOf LoadsOldest s)) × Counted s result.answer }
+    ensures { (result ≡ outcome_of (settle_of LoadsOldest s)) × Counted s result.answer }
 {
     if store_corruption::corrupt(s) {
         return refuse(Refusal::Corrupt, s);

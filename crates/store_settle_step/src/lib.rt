@@ -1,14 +1,14 @@
 // One step of settle on a store that is not corrupt: found and taken, and the orders counted that it queued. For settle and not for others.
 ghost use Rattle.std.specs.Prelude.{◌≡◌, false, ◌<◌, ◌≤◌};
-ghost use Rattle.words.specs.Folds.{lowestTo};
-ghost use Rattle.store.specs.Stores.{laneAt};
-ghost use Rattle.store.specs.Control.{awaitedOf};
+ghost use Rattle.words.specs.Folds.{lowest_to};
+ghost use Rattle.store.specs.Stores.{lane_at};
+ghost use Rattle.store.specs.Control.{awaited_of};
 ghost use Rattle.lanes.specs.UseOrder.{LoadsOldest};
-ghost use Rattle.machine.specs.machine.Corruption.{corruptOf};
-ghost use Rattle.machine.specs.machine.Serve.{serveOf};
-ghost use Rattle.machine.specs.machine.Settle.{settleStep};
-ghost use Rattle.machine.specs.machine.Sized.{Sized};
-ghost use Rattle.store_settle_step.specs.Kinds.{enabledOf, step_of, withOrders, taken_of, sentFor};
+ghost use Rattle.machine.specs.Machine.Corruption.{corrupt_of};
+ghost use Rattle.machine.specs.Machine.Serve.{serve_of};
+ghost use Rattle.machine.specs.Machine.Settle.{settle_step};
+ghost use Rattle.machine.specs.Machine.Sized.{Sized};
+ghost use Rattle.store_settle_step.specs.Kinds.{enabled_of, step_of, with_orders, taken_of, sent_for};
 
 use answers::Refusal;
 use lanes::{Lane, Waiting};
@@ -32,7 +32,7 @@ pub struct TakenStep {
 
 // Whether a lane has something for the step.
 fn enabled(x: StepKind, l: Lane) -> bool
-    ensures { result ≡ enabledOf x l }
+    ensures { result ≡ enabled_of x l }
 {
     match x {
         StepKind::Deliver => 0 < l.downs.len,
@@ -47,7 +47,7 @@ fn enabled(x: StepKind, l: Lane) -> bool
 // The lowest lane that has something for the step, or n.
 fn lowest(x: StepKind, s: Store) -> u8
     requires { s.shape.n ≤ 8 }
-    ensures { result ≡ lowestTo (λ k. enabledOf x (laneAt s k)) s.shape.n }
+    ensures { result ≡ lowest_to (λ k. enabled_of x (lane_at s k)) s.shape.n }
 {
     let n = s.shape.n;
     let mut k: u8 = 0;
@@ -64,7 +64,7 @@ fn lowest(x: StepKind, s: Store) -> u8
 
 // The answers that a service awaits, 0 where there is none.
 fn awaited(x: Lookup) -> u8
-    ensures { result ≡ awaitedOf x }
+    ensures { result ≡ awaited_of x }
 {
     match x {
         Lookup::Of(v) => v.awaited,
@@ -75,7 +75,7 @@ fn awaited(x: Lookup) -> u8
 // The orders that a serve sent, by what waited and the control after it: the service that it opened awaits an answer to each; one that has closed
 // sent none.
 fn sent_for(w: Waiting, x: Control) -> u8
-    ensures { result ≡ sentFor w x }
+    ensures { result ≡ sent_for w x }
 {
     match w {
         Waiting::Idle => 0,
@@ -90,7 +90,7 @@ fn sent_for(w: Waiting, x: Control) -> u8
 
 // A step that queues no order.
 fn without_orders(r: Outcome) -> TakenStep
-    ensures { result ≡ withOrders 0 r }
+    ensures { result ≡ with_orders 0 r }
 {
     TakenStep {
         outcome: r,
@@ -100,8 +100,8 @@ fn without_orders(r: Outcome) -> TakenStep
 
 // Serve lane k, and count its orders.
 fn serve_step(s: Store, k: LaneNo) -> TakenStep
-    requires { (corruptOf s ≡ false) × (k.0 < s.shape.n) × Sized s }
-    ensures { result ≡ taken_of s (serveOf s k) }
+    requires { (corrupt_of s ≡ false) × (k.0 < s.shape.n) × Sized s }
+    ensures { result ≡ taken_of s (serve_of s k) }
 {
     let r = memory_steps::serve_sound(s, k);
     let e = r.answer;
@@ -121,7 +121,7 @@ fn serve_step(s: Store, k: LaneNo) -> TakenStep
 
 // The step on lane k.
 fn take_step(x: StepKind, s: Store, k: LaneNo) -> TakenStep
-    requires { (corruptOf s ≡ false) × (k.0 < s.shape.n) × Sized s }
+    requires { (corrupt_of s ≡ false) × (k.0 < s.shape.n) × Sized s }
     ensures { result ≡ taken_of s (step_of x s k) }
 {
     match x {
@@ -139,8 +139,8 @@ fn take_step(x: StepKind, s: Store, k: LaneNo) -> TakenStep
 
 // The next step: deliver, else return, else serve, at the lowest lane; 16 where there is none of these.
 pub fn step(s: Store) -> TakenStep
-    requires { corruptOf s ≡ false }
-    ensures { result ≡ taken_of s (settleStep LoadsOldest s) }
+    requires { corrupt_of s ≡ false }
+    ensures { result ≡ taken_of s (settle_step LoadsOldest s) }
 {
     let n = s.shape.n;
     let d = lowest(StepKind::Deliver, s);

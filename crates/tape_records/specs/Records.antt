@@ -14,13 +14,13 @@ use Rattle.tape_records.specs.declared.Record.TheVariants as Record
 use Rattle.tape_records.specs.declared.Parsed.{Parsed}
 
 -- the highest kind: 2 starts above it (02, W6: "here and wherever a kind is added later")
-abbrev pub highestKind : ℕ
-highestKind = 8
+abbrev pub highest_kind : ℕ
+highest_kind = 8
 
 -- Kinds: 00 open; 01 load; 02 store, 03 exchange, 04 add; 05 serve, 06 return, 07 deliver; 08 open with a limit
 abbrev pub kind_of : ℕ → Kind
 kind_of byte =
-    cond (ltb highestKind byte) Kind.Unknown
+    cond (ltb highest_kind byte) Kind.Unknown
     (cond (eqb byte 0) Kind.Open
     (cond (eqb byte 1) Kind.Load
     (cond (eqb byte 2) Kind.Store
@@ -45,24 +45,24 @@ known_of Kind.OpenLimited = true
 known_of Kind.Unknown = false
 
 -- a body whose length the kind fixes: lanes, lines, blocks; lane, word; lane, word, v in four bytes; lane; lanes, lines, blocks, L
-abbrev pub bodyLength : Kind → ℕ
-bodyLength Kind.Open = 3
-bodyLength Kind.Load = 2
-bodyLength Kind.Store = 6
-bodyLength Kind.Exchange = 6
-bodyLength Kind.Add = 6
-bodyLength Kind.Serve = 1
-bodyLength Kind.Return = 1
-bodyLength Kind.Deliver = 1
-bodyLength Kind.OpenLimited = 4
-bodyLength Kind.Unknown = 0
+abbrev pub body_length : Kind → ℕ
+body_length Kind.Open = 3
+body_length Kind.Load = 2
+body_length Kind.Store = 6
+body_length Kind.Exchange = 6
+body_length Kind.Add = 6
+body_length Kind.Serve = 1
+body_length Kind.Return = 1
+body_length Kind.Deliver = 1
+body_length Kind.OpenLimited = 4
+body_length Kind.Unknown = 0
 
 -- what a kind byte picks: body length and step
-abbrev pub formWith : ℕ → Kind → Form
-formWith length kind = record { length = length; kind = kind }
+abbrev pub form_with : ℕ → Kind → Form
+form_with length kind = record { length = length; kind = kind }
 
 abbrev pub form_of : ℕ → Form
-form_of byte = formWith (bodyLength (kind_of byte)) (kind_of byte)
+form_of byte = form_with (body_length (kind_of byte)) (kind_of byte)
 
 -- a field of one byte
 abbrev pub field : List ℕ → ℕ → ℕ
@@ -73,39 +73,39 @@ abbrev pub value_of : List ℕ → ℕ
 value_of bytes = field bytes 0 + 256 * field bytes 1 + 65536 * field bytes 2 + 16777216 * field bytes 3
 
 -- .. behind lane and word
-abbrev pub operandOf : List ℕ → ℕ
-operandOf body = value_of (drop 2 body)
+abbrev pub operand_of : List ℕ → ℕ
+operand_of body = value_of (drop 2 body)
 
 -- the first field as a lane, the second as a word
-abbrev pub laneField : List ℕ → LaneNo
-laneField body = record { 0 = field body 0 }
+abbrev pub lane_field : List ℕ → LaneNo
+lane_field body = record { 0 = field body 0 }
 
-abbrev pub wordField : List ℕ → WordNo
-wordField body = record { 0 = field body 1 }
+abbrev pub word_field : List ℕ → WordNo
+word_field body = record { 0 = field body 1 }
 
 -- a load, store, exchange or add: lane, word
-abbrev pub beginFields : Op → List ℕ → Record
-beginFields op body = Record.Begin (laneField body) op (wordField body)
+abbrev pub begin_fields : Op → List ℕ → Record
+begin_fields op body = Record.Begin (lane_field body) op (word_field body)
 
 -- an open of kind 00: n, c, m; it means L = 1
 abbrev pub shape_of : List ℕ → Shape
 shape_of body = shaped (field body 0) (field body 1) (field body 2)
 
 -- an open of kind 08: n, c, m, L
-abbrev pub limitedShapeOf : List ℕ → Shape
-limitedShapeOf body = limited (field body 0) (field body 1) (field body 2) (field body 3)
+abbrev pub limited_shape_of : List ℕ → Shape
+limited_shape_of body = limited (field body 0) (field body 1) (field body 2) (field body 3)
 
 -- the record of a kind from its body
 abbrev pub fields_of : Kind → List ℕ → Record
 fields_of Kind.Open body = Record.Open (shape_of body)
-fields_of Kind.Load body = beginFields Op.Load body
-fields_of Kind.Store body = beginFields (Op.Store (operandOf body)) body
-fields_of Kind.Exchange body = beginFields (Op.Exchange (operandOf body)) body
-fields_of Kind.Add body = beginFields (Op.Add (operandOf body)) body
-fields_of Kind.Serve body = Record.Serve (laneField body)
-fields_of Kind.Return body = Record.Return (laneField body)
-fields_of Kind.Deliver body = Record.Deliver (laneField body)
-fields_of Kind.OpenLimited body = Record.Open (limitedShapeOf body)
+fields_of Kind.Load body = begin_fields Op.Load body
+fields_of Kind.Store body = begin_fields (Op.Store (operand_of body)) body
+fields_of Kind.Exchange body = begin_fields (Op.Exchange (operand_of body)) body
+fields_of Kind.Add body = begin_fields (Op.Add (operand_of body)) body
+fields_of Kind.Serve body = Record.Serve (lane_field body)
+fields_of Kind.Return body = Record.Return (lane_field body)
+fields_of Kind.Deliver body = Record.Deliver (lane_field body)
+fields_of Kind.OpenLimited body = Record.Open (limited_shape_of body)
 fields_of Kind.Unknown body = Record.Unknown
 
 -- After refusal 1 or 2 no more records are read: such a record takes all that is left of the tape
@@ -113,9 +113,9 @@ abbrev pub last_of : ℕ → Record → Parsed
 last_of left r = record { size = left; rec = r }
 
 -- A record is one byte of kind, then a body: what stands at the start of a tape, and how many bytes it takes. 2, 1, then the record
-unfoldable pub parseOf : List ℕ → Parsed
-parseOf tape =
+unfoldable pub parse_of : List ℕ → Parsed
+parse_of tape =
     let kind = kind_of (field tape 0) in
     cond (known_of kind)
-    (cond (ltb (length tape - 1) (bodyLength kind)) (last_of (length tape) Record.Truncated) (record { size = 1 + bodyLength kind; rec = fields_of kind (drop 1 tape) }))
+    (cond (ltb (length tape - 1) (body_length kind)) (last_of (length tape) Record.Truncated) (record { size = 1 + body_length kind; rec = fields_of kind (drop 1 tape) }))
     (last_of (length tape) Record.Unknown)

@@ -1,7 +1,7 @@
 // A tape's records: what stands at the start of a tape, and how many bytes of it that takes. This is the one place that reads a kind byte
 // and knows how long a record is.
 ghost use Rattle.std.specs.Prelude.{◌≡◌, ◌≤◌, length};
-ghost use Rattle.tape_records.specs.Records.{known_of, bodyLength, formWith, form_of, value_of, operandOf, beginFields, fields_of, shape_of, limitedShapeOf, last_of, parseOf};
+ghost use Rattle.tape_records.specs.Records.{known_of, body_length, form_with, form_of, value_of, operand_of, begin_fields, fields_of, shape_of, limited_shape_of, last_of, parse_of};
 
 use words::{LaneNo, Op, Shape, WordNo};
 
@@ -24,7 +24,7 @@ const DELIVER: u8 = 7;
 
 const OPEN_LIMITED: u8 = 8;
 
-// The first above the highest kind (records/specs/Records.antt, highestKind): no record has it.
+// The first above the highest kind (records/specs/Records.antt, highest_kind): no record has it.
 const NO_KIND: u8 = 9;
 
 // The step that a kind byte picks.
@@ -89,7 +89,7 @@ pub struct Parsed {
 }
 
 fn picks(length: usize, kind: Kind) -> Form
-    ensures { result ≡ formWith length kind }
+    ensures { result ≡ form_with length kind }
 {
     Form {
         length: length,
@@ -132,7 +132,7 @@ fn value(bytes: &[u8]) -> u32
 // v of a store, exchange or add, behind lane and word.
 fn operand(body: &[u8]) -> u32
     requires { 6 ≤ length body.now }
-    ensures { result ≡ operandOf body.now }
+    ensures { result ≡ operand_of body.now }
 {
     value(&body[2..])
 }
@@ -140,7 +140,7 @@ fn operand(body: &[u8]) -> u32
 // Lane and word of a begin record, with its operation.
 fn begin_fields(body: &[u8], op: Op) -> Record
     requires { 2 ≤ length body.now }
-    ensures { result ≡ beginFields op body.now }
+    ensures { result ≡ begin_fields op body.now }
 {
     Record::Begin(LaneNo(body[0]), op, WordNo(body[1]))
 }
@@ -161,7 +161,7 @@ fn shape(body: &[u8]) -> Shape
 // .. of kind 08, which has L behind the blocks.
 fn limited_shape(body: &[u8]) -> Shape
     requires { 4 ≤ length body.now }
-    ensures { result ≡ limitedShapeOf body.now }
+    ensures { result ≡ limited_shape_of body.now }
 {
     Shape {
         n: body[0],
@@ -173,7 +173,7 @@ fn limited_shape(body: &[u8]) -> Shape
 
 // The record of a kind from its body.
 fn fields(kind: Kind, body: &[u8]) -> Record
-    requires { bodyLength kind ≤ length body.now }
+    requires { body_length kind ≤ length body.now }
     ensures { result ≡ fields_of kind body.now }
 {
     match kind {
@@ -202,7 +202,7 @@ fn last(left: usize, rec: Record) -> Parsed
 
 // What stands at the start of a tape: 2, 1, then the record.
 pub fn parse(tape: &[u8]) -> Parsed
-    ensures { result ≡ parseOf tape.now }
+    ensures { result ≡ parse_of tape.now }
 {
     let left = tape.len();
     if left == 0 {

@@ -6,23 +6,23 @@ use borrow.Author.Tests.{lt-ltb, le-ltb}
 use lib.ListN.{length}
 use Rattle.answers.specs.declared.Refusal.TheVariants.{TapeTooLong, BufferTooShort}
 use Rattle.machine.specs.declared.Filled.TheVariants.{Length}
-use Rattle.machine.specs.machine.Fill.{unwritten}
-use Rattle.machine.specs.machine.Text.{refusedText, tapeMost, textMost, printed, printOf}
+use Rattle.machine.specs.Machine.Fill.{unwritten}
+use Rattle.machine.specs.Machine.Text.{refused_text, tape_most, text_most, printed, print_of}
 use Rattle.buffers.specs.Written.{written}
-use Rattle.buffers.proofs.Writing.{written-front}
+use Rattle.buffers.proofs.Writing.{written_front}
 
 module _ (tape out : List ℕ) where
   -- a buffer that may not hold the longest text
-  pub print-short : length out < textMost → printOf tape out ≡ unwritten BufferTooShort out
-  unfolding printOf
-  print-short h = rw (lt-ltb (length out) textMost h)
+  pub print_short : length out < text_most → print_of tape out ≡ unwritten BufferTooShort out
+  unfolding print_of
+  print_short h = rw (lt-ltb (length out) text_most h)
 
   -- any other has the text from its start on
-  pub print-fits : textMost ≤ length out → printOf tape out ≡ record { answer = Length (length (printed tape)); buffer = written out 0 (printed tape) }
-  unfolding printOf
-  print-fits h = rw (le-ltb (length out) textMost h, written-front out (printed tape))
+  pub print_fits : text_most ≤ length out → print_of tape out ≡ record { answer = Length (length (printed tape)); buffer = written out 0 (printed tape) }
+  unfolding print_of
+  print_fits h = rw (le-ltb (length out) text_most h, written_front out (printed tape))
 
   -- 13
-  pub printed-long : tapeMost < length tape → printed tape ≡ refusedText TapeTooLong ++ (10 ∷ [])
+  pub printed_long : tape_most < length tape → printed tape ≡ refused_text TapeTooLong ++ (10 ∷ [])
   unfolding printed
-  printed-long h = rw (lt-ltb tapeMost (length tape) h)
+  printed_long h = rw (lt-ltb tape_most (length tape) h)

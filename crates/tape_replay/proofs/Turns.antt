@@ -9,54 +9,54 @@ use lib.ListN.{length, drop, length-append, length-drop}
 use lib.Seq.{drop-drop}
 use denote.Laws.{Is}
 use Rattle.tape_records.specs.declared.Parsed.{Parsed}
-use Rattle.tape_records.specs.Records.{parseOf}
-use Rattle.tape_records.proofs.Parsing.{parse-takes}
+use Rattle.tape_records.specs.Records.{parse_of}
+use Rattle.tape_records.proofs.Parsing.{parse_takes}
 use Rattle.answers.specs.declared.Answer.{Answer}
 use Rattle.store.specs.declared.Store.{Store}
-use Rattle.store.specs.Opening.{fresh_of, blankStore}
+use Rattle.store.specs.Opening.{fresh_of, blank_store}
 use Rattle.store.specs.contracts.Store as T
-use Rattle.machine.specs.machine.Tape.{recordOf, replayFrom, replayOf}
-use Rattle.machine.specs.machine.Text.{lineText, linesText, endText, tapeMost, textMost, printed}
-use Rattle.machine.proofs.Lengths.{replay-none, text-fits}
+use Rattle.machine.specs.Machine.Tape.{record_of, replay_from, replay_of}
+use Rattle.machine.specs.Machine.Text.{line_text, lines_text, end_text, tape_most, text_most, printed}
+use Rattle.machine.proofs.Lengths.{replay_none, text_fits}
 use Rattle.buffers.specs.Written.{written}
 use Rattle.buffers.proofs.Writing.{written_then}
-use Rattle.tape_steps.proofs.Steady.{Tapes, blank-tapes, record-after}
+use Rattle.tape_steps.proofs.Steady.{Tapes, blank_tapes, record_after}
 use Rattle.tape_records.proofs.Parsing.{Takes}
 use Rattle.tape_replay.proofs.Types.{mach}
 use mathlib.Core.Logic.{◌⊎◌, inl, inr}
 
 -- one more record
-replay-more : (k : ℕ) (s : Store) (t : List ℕ) → (length t ≡ 0 → ⊥) →
-    replayFrom (suc k) s t ≡ (recordOf s (parseOf t).rec).answer ∷ replayFrom k (recordOf s (parseOf t).rec).store (drop (parseOf t).size t)
-unfolding replayFrom
-replay-more k s t n = rw (ne_eqb (length t) 0 n)
+replay_more : (k : ℕ) (s : Store) (t : List ℕ) → (length t ≡ 0 → ⊥) →
+    replay_from (suc k) s t ≡ (record_of s (parse_of t).rec).answer ∷ replay_from k (record_of s (parse_of t).rec).store (drop (parse_of t).size t)
+unfolding replay_from
+replay_more k s t n = rw (ne_eqb (length t) 0 n)
 
 -- the lines from an index on, and `end`
-abbrev pub textFrom : ℕ → List Answer → List ℕ
-textFrom index lines = linesText index lines ++ endText (index + length lines)
+abbrev pub text_from : ℕ → List Answer → List ℕ
+text_from index lines = lines_text index lines ++ end_text (index + length lines)
 
-text-none : (index : ℕ) → textFrom index [] ≡ endText index
-unfolding linesText
-text-none index = let e : index + 0 ≡ index = omega arith in rw e
+text_none : (index : ℕ) → text_from index [] ≡ end_text index
+unfolding lines_text
+text_none index = let e : index + 0 ≡ index = omega arith in rw e
 
-text-more : (index : ℕ) (a : Answer) (lines : List Answer) → textFrom index (a ∷ lines) ≡ lineText index a ++ textFrom (index + 1) lines
-unfolding linesText
-text-more index a lines = let e : index + suc (length lines) ≡ suc index + length lines = omega arith in rw (e, add-one, append_assoc)
+text_more : (index : ℕ) (a : Answer) (lines : List Answer) → text_from index (a ∷ lines) ≡ line_text index a ++ text_from (index + 1) lines
+unfolding lines_text
+text_more index a lines = let e : index + suc (length lines) ≡ suc index + length lines = omega arith in rw (e, add-one, append_assoc)
 
 -- a record takes at most what is left of the tape
-takes-most : (t : List ℕ) (p : Parsed) → Takes t p → p.size ≤ length t
-takes-most t p (inl e) = omega arith
-takes-most t p (inr h) = h.1
+takes_most : (t : List ℕ) (p : Parsed) → Takes t p → p.size ≤ length t
+takes_most t p (inl e) = omega arith
+takes_most t p (inr h) = h.1
 
 -- .. and a byte or more of it
-takes-some : (t : List ℕ) (p : Parsed) → 0 < length t → Takes t p → 0 < p.size
-takes-some t p some (inl e) = omega arith
-takes-some t p some (inr h) = omega (arith, h.0)
+takes_some : (t : List ℕ) (p : Parsed) → 0 < length t → Takes t p → 0 < p.size
+takes_some t p some (inl e) = omega arith
+takes_some t p some (inr h) = omega (arith, h.0)
 
 module _ (tape out : List ℕ) where
   -- what is still to be written
   abbrev Rest : ℕ → ℕ → Store → ℕ → List ℕ
-  Rest left at z index = textFrom index (replayFrom left z (drop at tape))
+  Rest left at z index = text_from index (replay_from left z (drop at tape))
 
   pub record Going (left at : ℕ) (z : Store) (buf : List ℕ) (filled index : ℕ) : Type 0 where
     pub enough : length tape ≤ at + left
@@ -76,76 +76,76 @@ module _ (tape out : List ℕ) where
     pub filled : ℕ
     pub index : ℕ
     pub going : Going left at z buf filled index
-    pub is-z : Is T.the_row z (mach z ∷ [])
+    pub is_z : Is T.the_row z (mach z ∷ [])
 
   abbrev pub Short : Type 0
-  Short = (length tape ≤ tapeMost) × (textMost ≤ length out)
+  Short = (length tape ≤ tape_most) × (text_most ≤ length out)
 
-  pub going_start : Short → (z : Store) → z ≡ blankStore → Going (length tape) 0 z out 0 0
-  unfolding printed replayOf
+  pub going_start : Short → (z : Store) → z ≡ blank_store → Going (length tape) 0 z out 0 0
+  unfolding printed replay_of
   going_start h z e =
-      let same : 0 + length (replayFrom (length tape) blankStore tape) ≡ length (replayFrom (length tape) blankStore tape) = omega arith in
-      let is : Rest (length tape) 0 z 0 ≡ printed tape = rw (e, le-ltb tapeMost (length tape) h.0, same) in
+      let same : 0 + length (replay_from (length tape) blank_store tape) ≡ length (replay_from (length tape) blank_store tape) = omega arith in
+      let is : Rest (length tape) 0 z 0 ≡ printed tape = rw (e, le-ltb tape_most (length tape) h.0, same) in
       record {
         enough = omega arith;
         inside = omega arith;
         counted = omega arith;
         same = refl;
-        tapes = subst Tapes (sym e) blank-tapes;
+        tapes = subst Tapes (sym e) blank_tapes;
         size = let l = ap length is in omega (arith, l);
         goes = ap (written out 0) is;
       }
 
   module _ (h : Short) {left at : ℕ} {z : Store} {buf : List ℕ} {filled index : ℕ} (g : Going left at z buf filled index) where
     -- there is room for a line
-    pub going-room : filled + 64 ≤ length buf
-    going-room = let s = g.size in omega (arith, text-fits tape, g.same, h.1)
+    pub going_room : filled + 64 ≤ length buf
+    going_room = let s = g.size in omega (arith, text_fits tape, g.same, h.1)
 
-    pub filled-fits : filled < 2 ^ 64
-    filled-fits = let s = g.size in omega (arith, text-fits tape)
+    pub filled_fits : filled < 2 ^ 64
+    filled_fits = let s = g.size in omega (arith, text_fits tape)
 
-    pub index-fits : index + 1 < 2 ^ 32
-    index-fits = omega (arith, g.counted, g.inside, h.0)
+    pub index_fits : index + 1 < 2 ^ 32
+    index_fits = omega (arith, g.counted, g.inside, h.0)
 
     -- the tape is read: `end` is left to be written
-    pub going_end : length tape ≤ at → {r : ℕ} {after : List ℕ} → (r ≡ filled + length (endText index)) × (after ≡ written buf filled (endText index)) →
+    pub going_end : length tape ≤ at → {r : ℕ} {after : List ℕ} → (r ≡ filled + length (end_text index)) × (after ≡ written buf filled (end_text index)) →
         (r ≡ length (printed tape)) × (after ≡ written out 0 (printed tape))
     going_end read wrote =
         let none : length (drop at tape) ≡ 0 = length-drop at tape ∙ omega arith in
-        let is : Rest left at z index ≡ endText index = rw (replay-none left z (drop at tape) none) (text-none index) in
+        let is : Rest left at z index ≡ end_text index = rw (replay_none left z (drop at tape) none) (text_none index) in
         (wrote.0 ∙ rw is at g.size, wrote.1 ∙ rw is at g.goes)
 
   -- a turn
-  module _ (h : Short) (at : ℕ) (z : Store) (buf : List ℕ) (filled index : ℕ) (small : at < length tape) {p : Parsed} (parsed : p ≡ parseOf (drop at tape)) where
+  module _ (h : Short) (at : ℕ) (z : Store) (buf : List ℕ) (filled index : ℕ) (small : at < length tape) {p : Parsed} (parsed : p ≡ parse_of (drop at tape)) where
     takes : Takes (drop at tape) p
-    takes = subst (Takes (drop at tape)) (sym parsed) (parse-takes (drop at tape) (subst (λ (n : ℕ). 0 < n) (sym (length-drop at tape)) (omega arith)))
+    takes = subst (Takes (drop at tape)) (sym parsed) (parse_takes (drop at tape) (subst (λ (n : ℕ). 0 < n) (sym (length-drop at tape)) (omega arith)))
 
-    pub next-inside : at + p.size ≤ length tape
-    next-inside = let m = takes-most (drop at tape) p takes in omega (arith, length-drop at tape)
+    pub next_inside : at + p.size ≤ length tape
+    next_inside = let m = takes_most (drop at tape) p takes in omega (arith, length-drop at tape)
 
     pub going_next : (left : ℕ) → Going left at z buf filled index → {a : Answer} {z' : Store} {buf' : List ℕ} {filled' : ℕ} →
-        (a ≡ (recordOf z p.rec).answer) × (z' ≡ (recordOf z p.rec).store) →
-        (filled' ≡ filled + length (lineText index a)) × (buf' ≡ written buf filled (lineText index a)) → length buf' ≡ length buf →
+        (a ≡ (record_of z p.rec).answer) × (z' ≡ (record_of z p.rec).store) →
+        (filled' ≡ filled + length (line_text index a)) × (buf' ≡ written buf filled (line_text index a)) → length buf' ≡ length buf →
         (left' : ℕ) × ((left' < left) × Going left' (at + p.size) z' buf' filled' (index + 1))
     going_next zero g does wrote keeps = absurd (let i = g.enough in omega arith)
     going_next (suc k) g {a} {z'} does wrote keeps =
         let some : 0 < length (drop at tape) = subst (λ (n : ℕ). 0 < n) (sym (length-drop at tape)) (omega arith) in
-        let taken = takes-some (drop at tape) p some takes in
-        let is : Rest (suc k) at z index ≡ lineText index a ++ Rest k (at + p.size) z' (index + 1) =
-        rw (replay-more k z (drop at tape) (λ e. omega arith), ← parsed, ← does.0, ← does.1, drop-drop p.size at tape) (text-more index a (replayFrom k z' (drop (at + p.size) tape))) in
-        let long = rw (is, length-append (lineText index a) (Rest k (at + p.size) z' (index + 1))) at g.size in
-        let room : filled + length (lineText index a) + length (Rest k (at + p.size) z' (index + 1)) ≤ length buf = omega (arith, text-fits tape, g.same, h.1, long) in (
+        let taken = takes_some (drop at tape) p some takes in
+        let is : Rest (suc k) at z index ≡ line_text index a ++ Rest k (at + p.size) z' (index + 1) =
+        rw (replay_more k z (drop at tape) (λ e. omega arith), ← parsed, ← does.0, ← does.1, drop-drop p.size at tape) (text_more index a (replay_from k z' (drop (at + p.size) tape))) in
+        let long = rw (is, length-append (line_text index a) (Rest k (at + p.size) z' (index + 1))) at g.size in
+        let room : filled + length (line_text index a) + length (Rest k (at + p.size) z' (index + 1)) ≤ length buf = omega (arith, text_fits tape, g.same, h.1, long) in (
           k,
           (
             omega arith,
             record {
               enough = let i = g.enough in omega (arith, i, taken);
-              inside = next-inside;
+              inside = next_inside;
               counted = let i = g.counted in omega (arith, i, taken);
               same = keeps ∙ g.same;
-              tapes = subst Tapes (sym does.1) (record-after z g.tapes p.rec);
+              tapes = subst Tapes (sym does.1) (record_after z g.tapes p.rec);
               size = rw wrote.0 (omega (arith, long));
-              goes = rw (wrote.0, wrote.1, written_then buf filled (lineText index a) (Rest k (at + p.size) z' (index + 1)) room, ← is) g.goes;
+              goes = rw (wrote.0, wrote.1, written_then buf filled (line_text index a) (Rest k (at + p.size) z' (index + 1)) room, ← is) g.goes;
             },
           ),
         )

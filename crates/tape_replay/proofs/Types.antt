@@ -35,86 +35,86 @@ use Rattle.tape_records.specs.contracts.Parsed as P
 use Rattle.tape_records.proofs.Parsed.TheLaws as P'
 
 -- the types as their rows lay them out: no name is left in them
-abbrev pub storeTy : Ty
-storeTy = SS.layout (SD.shape Y.the_type)
+abbrev pub store_ty : Ty
+store_ty = SS.layout (SD.shape Y.the_type)
 
-abbrev pub outcomeTy : Ty
-outcomeTy = SS.layout (SD.shape U.the_type)
+abbrev pub outcome_ty : Ty
+outcome_ty = SS.layout (SD.shape U.the_type)
 
-abbrev pub answerTy : Ty
-answerTy = ES.layout (ED.shape N.the_type)
+abbrev pub answer_ty : Ty
+answer_ty = ES.layout (ED.shape N.the_type)
 
-abbrev pub recordTy : Ty
-recordTy = ES.layout (ED.shape R.the_type)
+abbrev pub record_ty : Ty
+record_ty = ES.layout (ED.shape R.the_type)
 
-abbrev pub parsedTy : Ty
-parsedTy = SS.layout (SD.shape P.the_type)
+abbrev pub parsed_ty : Ty
+parsed_ty = SS.layout (SD.shape P.the_type)
 
 -- the names, spelled by f
-abbrev pub storeBy : (Head → Ty) → Ty
-storeBy f = spell_with f (Y.the_row).written.ty
+abbrev pub store_by : (Head → Ty) → Ty
+store_by f = spell_with f (Y.the_row).written.ty
 
-abbrev pub outcomeBy : (Head → Ty) → Ty
-outcomeBy f = spell_with f (U.the_row).written.ty
+abbrev pub outcome_by : (Head → Ty) → Ty
+outcome_by f = spell_with f (U.the_row).written.ty
 
-abbrev pub answerBy : (Head → Ty) → Ty
-answerBy f = spell_with f (N.the_row).written.ty
+abbrev pub answer_by : (Head → Ty) → Ty
+answer_by f = spell_with f (N.the_row).written.ty
 
-abbrev pub recordBy : (Head → Ty) → Ty
-recordBy f = spell_with f (R.the_row).written.ty
+abbrev pub record_by : (Head → Ty) → Ty
+record_by f = spell_with f (R.the_row).written.ty
 
-abbrev pub parsedBy : (Head → Ty) → Ty
-parsedBy f = spell_with f (P.the_row).written.ty
+abbrev pub parsed_by : (Head → Ty) → Ty
+parsed_by f = spell_with f (P.the_row).written.ty
 
 -- the machine values
 abbrev pub mach : Store → Val
 mach h = LL.val Y.the_type Y'.the_laws h
 
-abbrev pub machOutcome : Outcome → Val
-machOutcome r = LL.val U.the_type U'.the_laws r
+abbrev pub mach_outcome : Outcome → Val
+mach_outcome r = LL.val U.the_type U'.the_laws r
 
 abbrev pub said : Answer → Val
 said a = EL.val N.the_type N'.the_laws a
 
-abbrev pub machRecord : Record → Val
-machRecord r = EL.val R.the_type R'.the_laws r
+abbrev pub mach_record : Record → Val
+mach_record r = EL.val R.the_type R'.the_laws r
 
-abbrev pub machParsed : Parsed → Val
-machParsed p = LL.val P.the_type P'.the_laws p
+abbrev pub mach_parsed : Parsed → Val
+mach_parsed p = LL.val P.the_type P'.the_laws p
 
 -- where the fields of a call's result and of a parsed record lie
-pub answer_at : field_of outcomeTy 0 ≡ some (answerTy, 0)
+pub answer_at : field_of outcome_ty 0 ≡ some (answer_ty, 0)
 answer_at = refl
 
-pub store_at : field_of outcomeTy 1 ≡ some (storeTy, 16)
+pub store_at : field_of outcome_ty 1 ≡ some (store_ty, 16)
 store_at = refl
 
-pub size-at : field_of parsedTy 0 ≡ some (ty_int w64, 0)
-size-at = refl
+pub size_at : field_of parsed_ty 0 ≡ some (ty_int w64, 0)
+size_at = refl
 
-pub rec-at : field_of parsedTy 1 ≡ some (recordTy, 8)
-rec-at = refl
+pub rec_at : field_of parsed_ty 1 ≡ some (record_ty, 8)
+rec_at = refl
 
 -- .. and in the same types, however they are spelled
 pub field_in : (σ τ : Ty) (i : ℕ) {l : Option (Ty × ℕ)} → σ ≡ τ → field_of σ i ≡ l → field_of τ i ≡ l
 field_in σ τ i e at = ap (λ (t : Ty). field_of t i) (sym e) ∙ at
 
 -- what a row relates to a value is of the row's type, however that is spelled
-spelt-as : (σ τ : Ty) (v : Val) → σ ≡ τ → T (has_ty σ v) × WT v → T (has_ty τ v) × WT v
-spelt-as σ τ v e = subst (λ (t : Ty). T (has_ty t v) × WT v) e
+spelt_as : (σ τ : Ty) (v : Val) → σ ≡ τ → T (has_ty σ v) × WT v → T (has_ty τ v) × WT v
+spelt_as σ τ v e = subst (λ (t : Ty). T (has_ty t v) × WT v) e
 
 module _ {M : Type 1} {𝓤 : Ura M} (𝓛 : Logic 𝓤) where
-  pub store-typed : (τ : Ty) → storeTy ≡ τ → (h : Store) (v : Val) → Is Y.the_row h (v ∷ []) → T (has_ty τ v) × WT v
-  store-typed τ e h v is = spelt-as storeTy τ v e ((LL.lawful Y.the_type Y'.the_laws 𝓛).typed h (v ∷ []) is).0
+  pub store_typed : (τ : Ty) → store_ty ≡ τ → (h : Store) (v : Val) → Is Y.the_row h (v ∷ []) → T (has_ty τ v) × WT v
+  store_typed τ e h v is = spelt_as store_ty τ v e ((LL.lawful Y.the_type Y'.the_laws 𝓛).typed h (v ∷ []) is).0
 
-  pub outcome-typed : (τ : Ty) → outcomeTy ≡ τ → (r : Outcome) (v : Val) → Is U.the_row r (v ∷ []) → T (has_ty τ v) × WT v
-  outcome-typed τ e r v is = spelt-as outcomeTy τ v e ((LL.lawful U.the_type U'.the_laws 𝓛).typed r (v ∷ []) is).0
+  pub outcome_typed : (τ : Ty) → outcome_ty ≡ τ → (r : Outcome) (v : Val) → Is U.the_row r (v ∷ []) → T (has_ty τ v) × WT v
+  outcome_typed τ e r v is = spelt_as outcome_ty τ v e ((LL.lawful U.the_type U'.the_laws 𝓛).typed r (v ∷ []) is).0
 
-  pub answer_typed : (τ : Ty) → answerTy ≡ τ → (r : Answer) (v : Val) → Is N.the_row r (v ∷ []) → T (has_ty τ v) × WT v
-  answer_typed τ e r v is = spelt-as answerTy τ v e ((EL.lawful N.the_type N'.the_laws 𝓛 tt).typed r (v ∷ []) is).0
+  pub answer_typed : (τ : Ty) → answer_ty ≡ τ → (r : Answer) (v : Val) → Is N.the_row r (v ∷ []) → T (has_ty τ v) × WT v
+  answer_typed τ e r v is = spelt_as answer_ty τ v e ((EL.lawful N.the_type N'.the_laws 𝓛 tt).typed r (v ∷ []) is).0
 
-  pub record-typed : (τ : Ty) → recordTy ≡ τ → (r : Record) (v : Val) → Is R.the_row r (v ∷ []) → T (has_ty τ v) × WT v
-  record-typed τ e r v is = spelt-as recordTy τ v e ((EL.lawful R.the_type R'.the_laws 𝓛 tt).typed r (v ∷ []) is).0
+  pub record_typed : (τ : Ty) → record_ty ≡ τ → (r : Record) (v : Val) → Is R.the_row r (v ∷ []) → T (has_ty τ v) × WT v
+  record_typed τ e r v is = spelt_as record_ty τ v e ((EL.lawful R.the_type R'.the_laws 𝓛 tt).typed r (v ∷ []) is).0
 
-  pub parsed-typed : (τ : Ty) → parsedTy ≡ τ → (p : Parsed) (v : Val) → Is P.the_row p (v ∷ []) → T (has_ty τ v) × WT v
-  parsed-typed τ e p v is = spelt-as parsedTy τ v e ((LL.lawful P.the_type P'.the_laws 𝓛).typed p (v ∷ []) is).0
+  pub parsed_typed : (τ : Ty) → parsed_ty ≡ τ → (p : Parsed) (v : Val) → Is P.the_row p (v ∷ []) → T (has_ty τ v) × WT v
+  parsed_typed τ e p v is = spelt_as parsed_ty τ v e ((LL.lawful P.the_type P'.the_laws 𝓛).typed p (v ∷ []) is).0

@@ -1,8 +1,8 @@
 // A tape's text. One store serves a whole tape: it is lent from record to record and changed there. Only `print` is open to others; apply
 // asks for a store that a tape can have, print_records for what `print` has checked.
 ghost use Rattle.std.specs.Prelude.{◌≡◌, ◌≤◌, length};
-ghost use Rattle.machine.specs.machine.Tape.{recordOf};
-ghost use Rattle.machine.specs.machine.Text.{tapeMost, textMost, printed, printOf};
+ghost use Rattle.machine.specs.Machine.Tape.{record_of};
+ghost use Rattle.machine.specs.Machine.Text.{tape_most, text_most, printed, print_of};
 ghost use Rattle.buffers.specs.Written.{written};
 ghost use Rattle.tape_steps.specs.Steady.{Steady};
 
@@ -20,7 +20,7 @@ pub const TEXT_MOST: usize = 1638400;
 // The thin function: a record is done on the store that is lent to it.
 fn apply(store: &mut Store, rec: Record) -> Answer
     requires { Steady store.old }
-    ensures { (result ≡ (recordOf store.old rec).answer) × (store.new ≡ (recordOf store.old rec).store) }
+    ensures { (result ≡ (record_of store.old rec).answer) × (store.new ≡ (record_of store.old rec).store) }
 {
     let s = *store;
     let r = tape_steps::record_sound(s, rec);
@@ -30,7 +30,7 @@ fn apply(store: &mut Store, rec: Record) -> Answer
 
 // The text of a tape that is not too long. Its one store is lent to `apply` for each record.
 fn print_records(tape: &[u8], out: &mut [u8]) -> usize
-    requires { (length tape.now ≤ tapeMost) × (textMost ≤ length out.old) }
+    requires { (length tape.now ≤ tape_most) × (text_most ≤ length out.old) }
     ensures { (result ≡ length (printed tape.now)) × (out.new ≡ written out.old 0 (printed tape.now)) }
 {
     let mut store = store_opening::blank();
@@ -49,7 +49,7 @@ fn print_records(tape: &[u8], out: &mut [u8]) -> usize
 
 // All that `benchtape` prints of a tape, into a lent buffer.
 pub fn print(tape: &[u8], out: &mut [u8]) -> Filled
-    ensures { (result ≡ (printOf tape.now out.old).answer) × (out.new ≡ (printOf tape.now out.old).buffer) }
+    ensures { (result ≡ (print_of tape.now out.old).answer) × (out.new ≡ (print_of tape.now out.old).buffer) }
 {
     if out.len() < TEXT_MOST {
         return Filled::Refused(Refusal::BufferTooShort);

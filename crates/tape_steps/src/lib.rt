@@ -2,8 +2,8 @@
 // (Steady).
 ghost use Rattle.std.specs.Prelude.{◌≡◌};
 ghost use Rattle.answers.specs.declared.Refusal.TheVariants.{NotOpen};
-ghost use Rattle.machine.specs.machine.Change.{refuse};
-ghost use Rattle.machine.specs.machine.Tape.{openRecord, recordOf};
+ghost use Rattle.machine.specs.Machine.Change.{refuse};
+ghost use Rattle.machine.specs.Machine.Tape.{open_record, record_of};
 ghost use Rattle.tape_steps.specs.Steady.{Steady};
 
 use answers::{Answer, Refusal};
@@ -13,7 +13,7 @@ use words::Shape;
 
 // A record of kind 00 or 08: 4, 5, 18, then the store of the opening.
 fn open_record(s: Store, shape: Shape) -> Outcome
-    ensures { result ≡ openRecord s shape }
+    ensures { result ≡ open_record s shape }
 {
     if s.shape.n == 0 {
         if store_opening::bad_shape(shape) {
@@ -41,7 +41,7 @@ fn not_open(s: Store) -> Outcome
 // What a record does: 2, 1, or what its kind says; 3 before an opening.
 pub fn record_sound(s: Store, rec: Record) -> Outcome
     requires { Steady s }
-    ensures { result ≡ recordOf s rec }
+    ensures { result ≡ record_of s rec }
 {
     match rec {
         Record::Unknown => store_commit::refused(Refusal::UnknownKind, s),

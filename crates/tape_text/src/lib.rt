@@ -3,7 +3,7 @@
 ghost use Rattle.std.specs.Prelude.{◌≡◌, [], ◌∷◌, ◌++◌, ◌+◌, ◌≤◌, length};
 ghost use Rattle.answers.specs.declared.Refusal.TheVariants.{TapeTooLong};
 ghost use Rattle.answers.specs.declared.Answer.TheVariants.{Done};
-ghost use Rattle.machine.specs.machine.Text.{spaced, refusedText, answerText, lineText, endText};
+ghost use Rattle.machine.specs.Machine.Text.{spaced, refused_text, answer_text, line_text, end_text};
 ghost use Rattle.buffers.specs.Written.{written};
 
 use answers::{Answer, Completion, Refusal};
@@ -20,7 +20,7 @@ fn spaced_into(out: &mut [u8], at: usize, n: u32) -> usize
 // `refused` with the number.
 fn refused_into(out: &mut [u8], at: usize, x: Refusal) -> usize
     requires { at + 18 ≤ length out.old }
-    ensures { (result ≡ at + length (refusedText x)) × (out.new ≡ written out.old at (refusedText x)) }
+    ensures { (result ≡ at + length (refused_text x)) × (out.new ≡ written out.old at (refused_text x)) }
 {
     let half = buffers::put4(out, at, b'r', b'e', b'f', b'u');
     let number = buffers::put3(out, half, b's', b'e', b'd');
@@ -31,7 +31,7 @@ fn refused_into(out: &mut [u8], at: usize, x: Refusal) -> usize
 // `done` with lane, value and place.
 fn done_into(out: &mut [u8], at: usize, x: Completion) -> usize
     requires { at + 37 ≤ length out.old }
-    ensures { (result ≡ at + length (answerText (Done x))) × (out.new ≡ written out.old at (answerText (Done x))) }
+    ensures { (result ≡ at + length (answer_text (Done x))) × (out.new ≡ written out.old at (answer_text (Done x))) }
 {
     let lane = buffers::put4(out, at, b'd', b'o', b'n', b'e');
     let k = x.lane.0 as u32;
@@ -45,7 +45,7 @@ fn done_into(out: &mut [u8], at: usize, x: Completion) -> usize
 // What a record answers.
 fn answer_into(out: &mut [u8], at: usize, a: Answer) -> usize
     requires { at + 37 ≤ length out.old }
-    ensures { (result ≡ at + length (answerText a)) × (out.new ≡ written out.old at (answerText a)) }
+    ensures { (result ≡ at + length (answer_text a)) × (out.new ≡ written out.old at (answer_text a)) }
 {
     match a {
         Answer::Opened => buffers::put4(out, at, b'o', b'p', b'e', b'n'),
@@ -59,7 +59,7 @@ fn answer_into(out: &mut [u8], at: usize, a: Answer) -> usize
 // A record's line.
 pub fn line_into(out: &mut [u8], at: usize, index: u32, a: Answer) -> usize
     requires { at + 64 ≤ length out.old }
-    ensures { (result ≡ at + length (lineText index a)) × (out.new ≡ written out.old at (lineText index a)) }
+    ensures { (result ≡ at + length (line_text index a)) × (out.new ≡ written out.old at (line_text index a)) }
 {
     let space = tape_decimals::decimal_in(out, at, 10, index);
     let answer = buffers::put(out, space, b' ');
@@ -70,7 +70,7 @@ pub fn line_into(out: &mut [u8], at: usize, index: u32, a: Answer) -> usize
 // The last line: `end` and the number of lines before it.
 pub fn end_into(out: &mut [u8], at: usize, count: u32) -> usize
     requires { at + 64 ≤ length out.old }
-    ensures { (result ≡ at + length (endText count)) × (out.new ≡ written out.old at (endText count)) }
+    ensures { (result ≡ at + length (end_text count)) × (out.new ≡ written out.old at (end_text count)) }
 {
     let number = buffers::put3(out, at, b'e', b'n', b'd');
     let stop = spaced_into(out, number, count);
@@ -80,7 +80,7 @@ pub fn end_into(out: &mut [u8], at: usize, count: u32) -> usize
 // The one line of a tape that is too long.
 pub fn too_long_into(out: &mut [u8], at: usize) -> usize
     requires { at + 64 ≤ length out.old }
-    ensures { (result ≡ at + length (refusedText TapeTooLong ++ (10 ∷ []))) × (out.new ≡ written out.old at (refusedText TapeTooLong ++ (10 ∷ []))) }
+    ensures { (result ≡ at + length (refused_text TapeTooLong ++ (10 ∷ []))) × (out.new ≡ written out.old at (refused_text TapeTooLong ++ (10 ∷ []))) }
 {
     let after = refused_into(out, at, Refusal::TapeTooLong);
     buffers::put(out, after, b'\n')

@@ -2,10 +2,10 @@
 // the reference's.
 ghost use Rattle.std.specs.Prelude.{◌<◌, ◌≤◌, not, cond, ◌&&◌, ◌≡◌, ltb, get_or};
 ghost use Rattle.words.specs.Folds.{sum_to};
-ghost use Rattle.queues.specs.Queues.{noDown};
-ghost use Rattle.store.specs.Stores.{laneAt};
-ghost use Rattle.machine.specs.machine.Corruption.{corruptOf};
-ghost use Rattle.machine.specs.machine.Settle.{is_order, downsOf, returnsIn, servicesIn, unservedIn, boundOf};
+ghost use Rattle.queues.specs.Queues.{no_down};
+ghost use Rattle.store.specs.Stores.{lane_at};
+ghost use Rattle.machine.specs.Machine.Corruption.{corrupt_of};
+ghost use Rattle.machine.specs.Machine.Settle.{is_order, downs_of, returns_in, services_in, unserved_in, bound_of};
 
 use lanes::Lane;
 use queues::{CAPACITY, DownKind, DownQueue};
@@ -40,7 +40,7 @@ fn wanted(order: bool, x: DownKind) -> bool
 // Whether place i of a down queue has such a message.
 fn wanted_at(order: bool, q: DownQueue, i: u8) -> bool
     requires { i < 8 }
-    ensures { result ≡ (ltb i q.len && cond order (is_order (get_or q.at i noDown).kind) (not (is_order (get_or q.at i noDown).kind))) }
+    ensures { result ≡ (ltb i q.len && cond order (is_order (get_or q.at i no_down).kind) (not (is_order (get_or q.at i no_down).kind))) }
 {
     let j = i as usize;
     let y = q.at[j];
@@ -60,7 +60,7 @@ fn one_if(b: bool) -> u16
 
 // The orders of a down queue, or its grants.
 fn downs(order: bool, q: DownQueue) -> u16
-    ensures { (result ≡ downsOf order q) × (result ≤ 8) }
+    ensures { (result ≡ downs_of order q) × (result ≤ 8) }
 {
     let mut sum: u16 = 0;
     let mut i: u8 = 0;
@@ -82,7 +82,7 @@ fn returns(l: Lane) -> u16
 // R: messages in return queues.
 fn returns_in(s: Store) -> u16
     requires { s.shape.n ≤ 8 }
-    ensures { (result ≡ returnsIn s) × (result ≤ 2040) }
+    ensures { (result ≡ returns_in s) × (result ≤ 2040) }
 {
     let n = s.shape.n;
     let mut sum: u16 = 0;
@@ -99,7 +99,7 @@ fn returns_in(s: Store) -> u16
 // Q: orders in down queues; or G: grants.
 fn downs_in(order: bool, s: Store) -> u16
     requires { s.shape.n ≤ 8 }
-    ensures { (result ≡ sum_to (λ k. downsOf order (laneAt s k).downs) s.shape.n) × (result ≤ 64) }
+    ensures { (result ≡ sum_to (λ k. downs_of order (lane_at s k).downs) s.shape.n) × (result ≤ 64) }
 {
     let n = s.shape.n;
     let mut sum: u16 = 0;
@@ -117,7 +117,7 @@ fn downs_in(order: bool, s: Store) -> u16
 // U: unserved operations.
 fn unserved_in(s: Store) -> u16
     requires { s.shape.n ≤ 8 }
-    ensures { (result ≡ unservedIn s) × (result ≤ 8) }
+    ensures { (result ≡ unserved_in s) × (result ≤ 8) }
 {
     let n = s.shape.n;
     let mut sum: u16 = 0;
@@ -135,7 +135,7 @@ fn unserved_in(s: Store) -> u16
 
 // S: services.
 fn services_in(s: Store) -> u16
-    ensures { (result ≡ servicesIn s) × (result ≤ 255) }
+    ensures { (result ≡ services_in s) × (result ≤ 255) }
 {
     let x = s.control;
     x.services() as u16
@@ -144,7 +144,7 @@ fn services_in(s: Store) -> u16
 // The bound of a store of at most 8 lanes.
 fn bound(s: Store) -> u16
     requires { s.shape.n ≤ 8 }
-    ensures { result ≡ boundOf s }
+    ensures { result ≡ bound_of s }
 {
     let r = returns_in(s);
     let g = downs_in(false, s);
@@ -157,7 +157,7 @@ fn bound(s: Store) -> u16
 
 // The bound of a store that is not corrupt; of another 0.
 pub fn checked_bound(s: Store) -> u16
-    ensures { result ≡ cond (corruptOf s) 0 (boundOf s) }
+    ensures { result ≡ cond (corrupt_of s) 0 (bound_of s) }
 {
     if store_corruption::corrupt(s) {
         return 0;

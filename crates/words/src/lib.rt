@@ -1,7 +1,7 @@
 // The four units of number, a shape, the four operations on a word, and a line.
 ghost use Rattle.std.specs.Prelude.{◌≡◌};
 ghost use Rattle.words.specs.Units.{block_of};
-ghost use Rattle.words.specs.Operations.{isLoad, applyOf, performOf};
+ghost use Rattle.words.specs.Operations.{is_load, apply_of, perform_of};
 ghost use Rattle.words.specs.Lines.{invalid, holds_of};
 
 // The number of a lane (000: knum).
@@ -57,7 +57,7 @@ pub struct Effect {
 impl Op {
     // Whether the operation is load.
     pub fn is_load(self) -> bool
-        ensures { result ≡ isLoad self }
+        ensures { result ≡ is_load self }
     {
         match self {
             Op::Load => true,
@@ -69,7 +69,7 @@ impl Op {
 
     // The operation done on one word.
     pub fn apply(self, former: u32) -> Effect
-        ensures { result ≡ applyOf self former }
+        ensures { result ≡ apply_of self former }
     {
         match self {
             Op::Load => Effect {
@@ -127,7 +127,7 @@ impl Line {
 
     // The operation done on the line's word at w's place.
     pub fn perform(self, op: Op, w: WordNo) -> Performed
-        ensures { result ≡ performOf self op w }
+        ensures { result ≡ perform_of self op w }
     {
         let i = (w.0 % 4) as usize;
         let former = self.words[i];

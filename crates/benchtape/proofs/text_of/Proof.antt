@@ -1,5 +1,5 @@
 -- `benchtape::text_of` meets its contract: the printed length; a refusal cannot be, the room is enough. Assumes nothing.
-use Rattle.benchtape.proofs.Told.{told-length, told-refused}
+use Rattle.benchtape.proofs.Told.{told_length, told_refused}
 use borrow.Author.Rules.{rules}
 use Rattle.benchtape.proofs.text_of.Statement.{statement}
 use Rattle.benchtape.proofs.text_of.Tie as tie
@@ -20,7 +20,7 @@ returns : tie.Need-returns
 returns c =
     let at-print = c.before.before.before.before.before in
     let start = at-print.before.before.before.before in
-    told-length start.args.tape.now start.args.out.now start.requires at-print.print.ensures c.before.answer.given.1
+    told_length start.args.tape.now start.args.out.now start.requires at-print.print.ensures c.before.answer.given.1
 
 same-length-2 : tie.Need-same-length-2
 same-length-2 c = search rules
@@ -29,7 +29,7 @@ returns-2 : tie.Need-returns-2
 returns-2 c =
     let at-print = c.before.before.before.before in
     let start = at-print.before.before.before.before in
-    absurd (told-refused start.args.tape.now start.args.out.now start.requires at-print.print.ensures c.enum_told.given.1)
+    absurd (told_refused start.args.tape.now start.args.out.now start.requires at-print.print.ensures c.enum_told.given.1)
 
 pub text-of-spec : {M : Type 1} → statement M
 text-of-spec =

@@ -1,8 +1,8 @@
 -- `lane_begin::begin_lane` meets its contract. Assumes nothing.
 use mathlib.Core.Path.{sym, ◌∙◌}
 use native.Mathlib.Omega.{arith}
-use Rattle.lanes.proofs.Firsts.{first-bound}
-use Rattle.machine.specs.machine.Begin.{beginLane}
+use Rattle.lanes.proofs.Firsts.{first_bound}
+use Rattle.machine.specs.Machine.Begin.{begin_lane}
 use borrow.Author.Rules.{rules}
 use Rattle.lane_begin.proofs.begin_lane.Statement.{statement}
 use Rattle.lane_begin.proofs.begin_lane.Tie as tie
@@ -23,15 +23,15 @@ miss-requires : tie.Need-miss-requires
 miss-requires c κs = search rules
 
 returns : tie.Need-returns
-unfolding beginLane
-returns c = let e = rw c.before.before.before.before.block.ensures at c.before.before.before.search.ensures in rw (beginLane, ← e, c.before.enum_told.given.1, c.miss.ensures)
+unfolding begin_lane
+returns c = let e = rw c.before.before.before.before.block.ensures at c.before.before.before.search.ensures in rw (begin_lane, ← e, c.before.enum_told.given.1, c.miss.ensures)
 
 hit-requires : tie.Need-hit-requires
-hit-requires c κs = (omega arith, omega (arith, first-bound _ _ _ _ _ (sym c.before.before.before.search.ensures ∙ c.before.i.given.1)))
+hit-requires c κs = (omega arith, omega (arith, first_bound _ _ _ _ _ (sym c.before.before.before.search.ensures ∙ c.before.i.given.1)))
 
 returns-2 : tie.Need-returns-2
-unfolding beginLane
-returns-2 c = let e = rw c.before.before.before.before.before.block.ensures at c.before.before.before.before.search.ensures in rw (beginLane, ← e, c.before.before.i.given.1, c.hit.ensures)
+unfolding begin_lane
+returns-2 c = let e = rw c.before.before.before.before.before.block.ensures at c.before.before.before.before.search.ensures in rw (begin_lane, ← e, c.before.before.i.given.1, c.hit.ensures)
 
 pub begin-lane-spec : {M : Type 1} → statement M
 begin-lane-spec =

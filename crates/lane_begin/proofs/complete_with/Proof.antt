@@ -1,5 +1,5 @@
 -- `lane_begin::complete_with` meets its contract. Assumes nothing.
-use Rattle.machine.specs.machine.Begin.{completeWith}
+use Rattle.machine.specs.Machine.Begin.{complete_with}
 use borrow.Author.Rules.{rules}
 use Rattle.lane_begin.proofs.complete_with.Statement.{statement}
 use Rattle.lane_begin.proofs.complete_with.Tie as tie
@@ -17,8 +17,8 @@ element-set-from-y : tie.Need-element-set-from-y
 element-set-from-y c = search rules
 
 returns : tie.Need-returns
-unfolding completeWith
-returns c = rw (completeWith, c.before.before.perform.ensures)
+unfolding complete_with
+returns c = rw (complete_with, c.before.before.perform.ensures)
 
 pub complete-with-spec : {M : Type 1} → statement M
 complete-with-spec =

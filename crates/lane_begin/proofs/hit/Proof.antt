@@ -1,5 +1,5 @@
 -- `lane_begin::hit` meets its contract. Assumes nothing.
-use Rattle.machine.specs.machine.Begin.{hit}
+use Rattle.machine.specs.Machine.Begin.{hit}
 use borrow.Author.Rules.{rules}
 use Rattle.lane_begin.proofs.hit.Statement.{statement}
 use Rattle.lane_begin.proofs.hit.Tie as tie

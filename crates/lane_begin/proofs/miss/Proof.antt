@@ -1,5 +1,5 @@
 -- `lane_begin::miss` meets its contract. Assumes nothing.
-use Rattle.machine.specs.machine.Begin.{miss}
+use Rattle.machine.specs.Machine.Begin.{miss}
 use borrow.Author.Rules.{rules}
 use Rattle.lane_begin.proofs.miss.Statement.{statement}
 use Rattle.lane_begin.proofs.miss.Tie as tie

@@ -7,7 +7,7 @@ with-waiting-requires : tie.Need-with-waiting-requires
 with-waiting-requires c κs = search rules
 
 returns : tie.Need-returns
-returns c = rw c.with-waiting.ensures
+returns c = rw c.with_waiting_lem.ensures
 
 pub wait_spec : {M : Type 1} → statement M
 wait_spec = tie.close (tie.spec with-waiting-requires returns)

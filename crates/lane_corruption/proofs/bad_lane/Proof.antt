@@ -1,6 +1,6 @@
 -- `lane_corruption::bad_lane` meets its contract: lines, order, returns, downs, waiting, in this order; the first bad one tells. Assumes nothing.
 use Rattle.words.specs.Folds.{any_of}
-use Rattle.machine.specs.machine.Corruption.{badLane}
+use Rattle.machine.specs.Machine.Corruption.{bad_lane}
 use borrow.Author.Rules.{rules}
 use Rattle.lane_corruption.proofs.bad_lane.Statement.{statement}
 use Rattle.lane_corruption.proofs.bad_lane.Tie as tie
@@ -9,28 +9,28 @@ bad-lines-requires : tie.Need-bad-lines-requires
 bad-lines-requires c κs = search rules
 
 returns : tie.Need-returns
-unfolding badLane any_of
-returns c = rw (badLane, any_of, ← c.before.bad-lines.ensures, c.if1.true)
+unfolding bad_lane any_of
+returns c = rw (bad_lane, any_of, ← c.before.bad-lines.ensures, c.if1.true)
 
 bad-order-requires : tie.Need-bad-order-requires
 bad-order-requires c κs = search rules
 
 returns-2 : tie.Need-returns-2
-unfolding badLane any_of
-returns-2 c = rw (badLane, any_of, ← c.before.before.before.before.bad-lines.ensures, c.before.before.before.if1.false, ← c.before.bad-order.ensures, c.if2.true)
+unfolding bad_lane any_of
+returns-2 c = rw (bad_lane, any_of, ← c.before.before.before.before.bad-lines.ensures, c.before.before.before.if1.false, ← c.before.bad-order.ensures, c.if2.true)
 
 bad-returns-requires : tie.Need-bad-returns-requires
 bad-returns-requires c κs = search rules
 
 returns-3 : tie.Need-returns-3
-unfolding badLane any_of
+unfolding bad_lane any_of
 returns-3 c =
     let at-if2 = c.before.before.before in
     let at-bad-order = at-if2.before in
     let at-if1 = at-bad-order.before.before in
     let at-bad-lines = at-if1.before in
     rw (
-      badLane,
+      bad_lane,
       any_of,
       ← at-bad-lines.bad-lines.ensures,
       at-if1.if1.false,
@@ -44,7 +44,7 @@ bad-downs-requires : tie.Need-bad-downs-requires
 bad-downs-requires c κs = search rules
 
 returns-4 : tie.Need-returns-4
-unfolding badLane any_of
+unfolding bad_lane any_of
 returns-4 c =
     let at-if3 = c.before.before.before in
     let at-bad-returns = at-if3.before in
@@ -53,7 +53,7 @@ returns-4 c =
     let at-if1 = at-bad-order.before.before in
     let at-bad-lines = at-if1.before in
     rw (
-      badLane,
+      bad_lane,
       any_of,
       ← at-bad-lines.bad-lines.ensures,
       at-if1.if1.false,
@@ -69,7 +69,7 @@ bad-waiting-requires : tie.Need-bad-waiting-requires
 bad-waiting-requires c κs = search rules
 
 returns-5 : tie.Need-returns-5
-unfolding badLane any_of
+unfolding bad_lane any_of
 returns-5 c =
     let at-if3 = c.before.before.before.before in
     let at-bad-returns = at-if3.before in
@@ -78,7 +78,7 @@ returns-5 c =
     let at-if1 = at-bad-order.before.before in
     let at-bad-lines = at-if1.before in
     rw (
-      badLane,
+      bad_lane,
       any_of,
       ← at-bad-lines.bad-lines.ensures,
       at-if1.if1.false,

@@ -5,15 +5,15 @@ use native.Mathlib.Omega.{arith}
 use mathlib.Core.Bool.{false}
 use mathlib.Core.Path.{◌≡◌, sym, ◌∙◌}
 use lib.ListN.{get_or}
-use Rattle.words.specs.Folds.{anyTo}
-use Rattle.words.proofs.Folds.{any_none, any-more, any-true}
-use Rattle.words.specs.Lines.{noLine}
-use Rattle.machine.specs.machine.Corruption.{badLine}
+use Rattle.words.specs.Folds.{any_to}
+use Rattle.words.proofs.Folds.{any_none, any_more, any_true}
+use Rattle.words.specs.Lines.{no_line}
+use Rattle.machine.specs.Machine.Corruption.{bad_line}
 use Rattle.lane_corruption.proofs.bad_lines.Statement.{statement}
 use Rattle.lane_corruption.proofs.bad_lines.Tie as tie
 
 abbrev invariant-loop : tie.invariant-loop
-invariant-loop c m lines k₀ k = (k ≤ c) × (anyTo (λ i. badLine m (get_or lines i noLine)) k ≡ false)
+invariant-loop c m lines k₀ k = (k ≤ c) × (any_to (λ i. bad_line m (get_or lines i no_line)) k ≡ false)
 
 abbrev decreases-loop : tie.decreases-loop
 decreases-loop c m lines k₀ k = c - k
@@ -34,7 +34,7 @@ bad-line-requires : tie.Need-bad-line-requires invariant-loop decreases-loop
 bad-line-requires c κs = search rules
 
 returns : tie.Need-returns invariant-loop decreases-loop
-returns c = sym (any-true _ _ c.before.before.before.before.loop.k (sym c.before.bad-line.ensures ∙ c.if1.true) (omega arith))
+returns c = sym (any_true _ _ c.before.before.before.before.loop.k (sym c.before.bad-line.ensures ∙ c.if1.true) (omega arith))
 
 add-k : tie.Need-overflow-add-k invariant-loop decreases-loop
 add-k c = search rules
@@ -43,7 +43,7 @@ loop-less : tie.Need-loop-smaller invariant-loop decreases-loop
 loop-less c = search rules
 
 loop-again : tie.Need-loop-preserved invariant-loop decreases-loop
-loop-again c = (omega arith, any-more _ _ c.before.before.before.before.loop.invariant.1 (sym c.before.bad-line.ensures ∙ c.if1.false))
+loop-again c = (omega arith, any_more _ _ c.before.before.before.before.loop.invariant.1 (sym c.before.bad-line.ensures ∙ c.if1.false))
 
 returns-2 : tie.Need-returns-2 invariant-loop decreases-loop
 returns-2 c = let e : c.before.loop.k ≡ c.before.before.args.c = omega arith in sym (rw e at c.before.loop.invariant.1)

@@ -4,14 +4,14 @@ use Prim.Native.Nat.{◌≤◌, ◌-◌}
 use native.Mathlib.Omega.{arith}
 use mathlib.Core.Bool.{false}
 use mathlib.Core.Path.{◌≡◌, sym, ◌∙◌}
-use Rattle.words.specs.Folds.{anyTo}
-use Rattle.words.proofs.Folds.{any_none, any-more, any-true}
-use Rattle.machine.specs.machine.Corruption.{badUse}
+use Rattle.words.specs.Folds.{any_to}
+use Rattle.words.proofs.Folds.{any_none, any_more, any_true}
+use Rattle.machine.specs.Machine.Corruption.{bad_use}
 use Rattle.lane_corruption.proofs.bad_order.Statement.{statement}
 use Rattle.lane_corruption.proofs.bad_order.Tie as tie
 
 abbrev invariant-loop : tie.invariant-loop
-invariant-loop order c k₀ k = (k ≤ c) × (anyTo (badUse c order) k ≡ false)
+invariant-loop order c k₀ k = (k ≤ c) × (any_to (bad_use c order) k ≡ false)
 
 abbrev decreases-loop : tie.decreases-loop
 decreases-loop order c k₀ k = c - k
@@ -23,7 +23,7 @@ bad-use-requires : tie.Need-bad-use-requires invariant-loop decreases-loop
 bad-use-requires c κs = search rules
 
 returns : tie.Need-returns invariant-loop decreases-loop
-returns c = sym (any-true _ _ c.before.before.before.loop.k (sym c.before.bad-use.ensures ∙ c.if1.true) (omega arith))
+returns c = sym (any_true _ _ c.before.before.before.loop.k (sym c.before.bad-use.ensures ∙ c.if1.true) (omega arith))
 
 add-k : tie.Need-overflow-add-k invariant-loop decreases-loop
 add-k c = search rules
@@ -32,7 +32,7 @@ loop-less : tie.Need-loop-smaller invariant-loop decreases-loop
 loop-less c = search rules
 
 loop-again : tie.Need-loop-preserved invariant-loop decreases-loop
-loop-again c = (omega arith, any-more _ _ c.before.before.before.loop.invariant.1 (sym c.before.bad-use.ensures ∙ c.if1.false))
+loop-again c = (omega arith, any_more _ _ c.before.before.before.loop.invariant.1 (sym c.before.bad-use.ensures ∙ c.if1.false))
 
 returns-2 : tie.Need-returns-2 invariant-loop decreases-loop
 returns-2 c = let e : c.before.loop.k ≡ c.before.before.args.c = omega arith in sym (rw e at c.before.loop.invariant.1)

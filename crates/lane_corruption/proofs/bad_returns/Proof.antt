@@ -6,15 +6,15 @@ use native.Mathlib.Omega.{arith}
 use mathlib.Core.Bool.{false}
 use mathlib.Core.Path.{◌≡◌, sym, ◌∙◌}
 use lib.ListN.{get_or}
-use Rattle.words.specs.Folds.{anyTo}
-use Rattle.words.proofs.Folds.{any_none, any-more, any-true}
-use Rattle.queues.specs.Queues.{noReturn}
-use Rattle.machine.specs.machine.Corruption.{badPlace}
+use Rattle.words.specs.Folds.{any_to}
+use Rattle.words.proofs.Folds.{any_none, any_more, any_true}
+use Rattle.queues.specs.Queues.{no_return}
+use Rattle.machine.specs.Machine.Corruption.{bad_place}
 use Rattle.lane_corruption.proofs.bad_returns.Statement.{statement}
 use Rattle.lane_corruption.proofs.bad_returns.Tie as tie
 
 abbrev invariant-loop : tie.invariant-loop
-invariant-loop m q len k₀ k = (k ≤ 8) × (anyTo (λ i. badPlace m len i (get_or q.at i noReturn).block) k ≡ false)
+invariant-loop m q len k₀ k = (k ≤ 8) × (any_to (λ i. bad_place m len i (get_or q.at i no_return).block) k ≡ false)
 
 abbrev decreases-loop : tie.decreases-loop
 decreases-loop m q len k₀ k = 8 - k
@@ -41,7 +41,7 @@ returns-2 : tie.Need-returns-2 invariant-loop decreases-loop
 returns-2 c =
     let at-loop = c.before.before.before.before.before in
     let q = at-loop.before.before.args.t1 in
-    let p = any-true (λ i. badPlace at-loop.before.before.args.m q.len i (get_or q.at i noReturn).block) 8 at-loop.loop.k (sym c.before.bad-place.ensures ∙ c.if2.true) (omega arith) in
+    let p = any_true (λ i. bad_place at-loop.before.before.args.m q.len i (get_or q.at i no_return).block) 8 at-loop.loop.k (sym c.before.bad-place.ensures ∙ c.if2.true) (omega arith) in
     rw (le-ltb _ _ at-loop.before.if1.false, p)
 
 add-k : tie.Need-overflow-add-k invariant-loop decreases-loop
@@ -51,7 +51,7 @@ loop-less : tie.Need-loop-smaller invariant-loop decreases-loop
 loop-less c = search rules
 
 loop-again : tie.Need-loop-preserved invariant-loop decreases-loop
-loop-again c = (omega arith, any-more _ _ c.before.before.before.before.before.loop.invariant.1 (sym c.before.bad-place.ensures ∙ c.if2.false))
+loop-again c = (omega arith, any_more _ _ c.before.before.before.before.before.loop.invariant.1 (sym c.before.bad-place.ensures ∙ c.if2.false))
 
 returns-3 : tie.Need-returns-3 invariant-loop decreases-loop
 returns-3 c =

@@ -4,16 +4,16 @@ use Prim.Native.Nat.{◌≤◌, ◌-◌}
 use native.Mathlib.Omega.{arith}
 use mathlib.Core.Bool.{false}
 use mathlib.Core.Path.{◌≡◌, sym}
-use Rattle.words.specs.Folds.{anyTo}
-use Rattle.words.proofs.Folds.{any_none, any-more, any-true}
+use Rattle.words.specs.Folds.{any_to}
+use Rattle.words.proofs.Folds.{any_none, any_more, any_true}
 use borrow.Author.Tests.{le-leb, lt-leb, eq-eqb, ne_eqb}
 use lib.Dec.{eqb}
-use Rattle.lanes.specs.UseOrder.{placeAt}
+use Rattle.lanes.specs.UseOrder.{place_at}
 use Rattle.lane_corruption.proofs.bad_use.Statement.{statement}
 use Rattle.lane_corruption.proofs.bad_use.Tie as tie
 
 abbrev invariant-loop : tie.invariant-loop
-invariant-loop c k order i x j₀ j = (j ≤ i) × (anyTo (λ h. eqb (placeAt order h).0 x.0) j ≡ false)
+invariant-loop c k order i x j₀ j = (j ≤ i) × (any_to (λ h. eqb (place_at order h).0 x.0) j ≡ false)
 
 abbrev decreases-loop : tie.decreases-loop
 decreases-loop c k order i x j₀ j = i - j
@@ -34,7 +34,7 @@ returns-2 : tie.Need-returns-2 invariant-loop decreases-loop
 returns-2 c =
     let at-loop = c.before.before.before.before.before in
     let at-if1 = at-loop.before in
-    simp (lt-leb _ _ at-if1.if1.false) (sym (any-true _ _ at-loop.loop.j (eq-eqb _ _ c.if2.true) (omega arith)))
+    simp (lt-leb _ _ at-if1.if1.false) (sym (any_true _ _ at-loop.loop.j (eq-eqb _ _ c.if2.true) (omega arith)))
 
 add-j : tie.Need-overflow-add-j invariant-loop decreases-loop
 add-j c = search rules
@@ -43,7 +43,7 @@ loop-less : tie.Need-loop-smaller invariant-loop decreases-loop
 loop-less c = search rules
 
 loop-again : tie.Need-loop-preserved invariant-loop decreases-loop
-loop-again c = (omega arith, any-more _ _ c.before.before.before.before.before.loop.invariant.1 (ne_eqb _ _ c.if2.false))
+loop-again c = (omega arith, any_more _ _ c.before.before.before.before.before.loop.invariant.1 (ne_eqb _ _ c.if2.false))
 
 returns-3 : tie.Need-returns-3 invariant-loop decreases-loop
 returns-3 c = let e : c.before.loop.j ≡ c.before.before.before.before.before.args.k = omega arith in simp (lt-leb _ _ c.before.before.if1.false) (sym (rw e at c.before.loop.invariant.1))

@@ -1,7 +1,7 @@
 -- `lane_deliver::bare_grant` meets its contract: the line is found and claimed, and the operation is completed on it; not found, it is refused. Assumes nothing.
 use mathlib.Core.Path.{sym, ◌∙◌}
 use native.Mathlib.Omega.{arith}
-use Rattle.lanes.proofs.Firsts.{first-bound}
+use Rattle.lanes.proofs.Firsts.{first_bound}
 use borrow.Author.Rules.{rules}
 use Rattle.lane_deliver.proofs.bare_grant.Statement.{statement}
 use Rattle.lane_deliver.proofs.bare_grant.Tie as tie
@@ -28,7 +28,7 @@ mul-held : tie.Need-overflow-mul-held
 mul-held c = search rules
 
 element-copy-out-held : tie.Need-element-copy-out-held
-element-copy-out-held c = omega (arith, first-bound _ _ _ _ _ (sym c.before.before.before.before.search.ensures ∙ c.before.before.i.given.1))
+element-copy-out-held c = omega (arith, first_bound _ _ _ _ _ (sym c.before.before.before.before.search.ensures ∙ c.before.before.i.given.1))
 
 claim-requires : tie.Need-claim-requires
 claim-requires c κs = search rules
@@ -40,7 +40,7 @@ complete-requires : tie.Need-complete-requires
 complete-requires c κs =
     let at_i = c.before.before.before.before.before.before in
     let at-search = at_i.before.before in
-    (omega arith, omega (arith, first-bound _ _ _ _ _ (sym at-search.search.ensures ∙ at_i.i.given.1)))
+    (omega arith, omega (arith, first_bound _ _ _ _ _ (sym at-search.search.ensures ∙ at_i.i.given.1)))
 
 returns-2 : tie.Need-returns-2
 returns-2 c =
@@ -48,7 +48,7 @@ returns-2 c =
     let at-claim = at-waiting.before in
     let at_i = at-claim.before.before.before.before.before in
     let at-search = at_i.before.before in
-    rw (← at-search.search.ensures, at_i.i.given.1, c.complete.ensures, at-waiting.with-waiting.ensures, at-claim.claim.ensures)
+    rw (← at-search.search.ensures, at_i.i.given.1, c.complete.ensures, at-waiting.with_waiting_lem.ensures, at-claim.claim.ensures)
 
 pub bare-grant-spec : {M : Type 1} → statement M
 bare-grant-spec =

@@ -19,10 +19,10 @@ refuse-requires : tie.Need-refuse-requires
 refuse-requires c κs = search rules
 
 returns : tie.Need-returns
-returns c = rw (← c.before.before.before.before.served-on.ensures, c.before.before.o.given.1, c.bare-grant.ensures)
+returns c = rw (← c.before.before.before.before.served_on_lem.ensures, c.before.before.o.given.1, c.bare-grant.ensures)
 
 returns-2 : tie.Need-returns-2
-returns-2 c = rw (← c.before.before.before.before.served-on.ensures, c.before.before.x.given.1, c.refuse.ensures)
+returns-2 c = rw (← c.before.before.before.before.served_on_lem.ensures, c.before.before.x.given.1, c.refuse.ensures)
 
 pub bare-to-spec : {M : Type 1} → statement M
 bare-to-spec =

@@ -1,7 +1,7 @@
 -- `lane_deliver::fill` meets its contract: a vacant line takes the message's words and is claimed, and the operation is completed on it. Assumes nothing.
 use mathlib.Core.Path.{sym, ◌∙◌}
 use native.Mathlib.Omega.{arith}
-use Rattle.lanes.proofs.Firsts.{first-bound}
+use Rattle.lanes.proofs.Firsts.{first_bound}
 use borrow.Author.Rules.{rules}
 use Rattle.lane_deliver.proofs.fill.Statement.{statement}
 use Rattle.lane_deliver.proofs.fill.Tie as tie
@@ -34,7 +34,7 @@ complete-with-requires : tie.Need-complete-with-requires
 complete-with-requires c κs =
     let at_i = c.before.before.before.before.before.before.before.before in
     let at-vacant = at_i.before.before in
-    omega (arith, first-bound _ _ _ _ _ (sym at-vacant.vacant.ensures ∙ at_i.i.given.1))
+    omega (arith, first_bound _ _ _ _ _ (sym at-vacant.vacant.ensures ∙ at_i.i.given.1))
 
 returns-2 : tie.Need-returns-2
 returns-2 c =
@@ -43,7 +43,7 @@ returns-2 c =
     let at-inserted = at-claim.before in
     let at_i = at-inserted.before.before.before.before.before.before in
     let at-vacant = at_i.before.before in
-    rw (← at-vacant.vacant.ensures, at_i.i.given.1, c.complete-with.ensures, at-waiting.with-waiting.ensures, at-inserted.inserted.ensures, at-claim.claim.ensures)
+    rw (← at-vacant.vacant.ensures, at_i.i.given.1, c.complete-with.ensures, at-waiting.with_waiting_lem.ensures, at-inserted.inserted.ensures, at-claim.claim.ensures)
 
 pub fill_spec : {M : Type 1} → statement M
 fill_spec =

@@ -1,5 +1,5 @@
 -- `lane_deliver::reply` meets its contract. Assumes nothing.
-use Rattle.machine.specs.machine.Deliver.{reply}
+use Rattle.machine.specs.Machine.Deliver.{reply}
 use borrow.Author.Rules.{rules}
 use Rattle.lane_deliver.proofs.reply.Statement.{statement}
 use Rattle.lane_deliver.proofs.reply.Tie as tie

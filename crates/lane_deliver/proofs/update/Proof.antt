@@ -1,7 +1,7 @@
 -- `lane_deliver::update` meets its contract: a line not there is answered gone; one there is shared from now on, and its words go back. Assumes nothing.
 use mathlib.Core.Path.{sym, ◌∙◌}
 use native.Mathlib.Omega.{arith}
-use Rattle.lanes.proofs.Firsts.{first-bound}
+use Rattle.lanes.proofs.Firsts.{first_bound}
 use borrow.Author.Rules.{rules}
 use Rattle.lane_deliver.proofs.update.Statement.{statement}
 use Rattle.lane_deliver.proofs.update.Tie as tie
@@ -31,7 +31,7 @@ mul-x : tie.Need-overflow-mul-x
 mul-x c = search rules
 
 element-copy-out-x : tie.Need-element-copy-out-x
-element-copy-out-x c = omega (arith, first-bound _ _ _ _ _ (sym c.before.before.before.before.search.ensures ∙ c.before.before.i.given.1))
+element-copy-out-x c = omega (arith, first_bound _ _ _ _ _ (sym c.before.before.before.before.search.ensures ∙ c.before.before.i.given.1))
 
 words-return-requires : tie.Need-words-return-requires
 words-return-requires c κs = search rules
@@ -43,7 +43,7 @@ element-set-from-x : tie.Need-element-set-from-x
 element-set-from-x c =
     let at_i = c.before.before.before.before.before in
     let at-search = at_i.before.before in
-    omega (arith, first-bound _ _ _ _ _ (sym at-search.search.ensures ∙ at_i.i.given.1))
+    omega (arith, first_bound _ _ _ _ _ (sym at-search.search.ensures ∙ at_i.i.given.1))
 
 reply-requires-2 : tie.Need-reply-requires-2
 reply-requires-2 c κs = search rules

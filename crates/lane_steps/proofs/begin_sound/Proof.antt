@@ -3,10 +3,10 @@ use Prim.Native.Nat.{◌*◌}
 use mathlib.Core.Path.{sym, ◌∙◌}
 use borrow.Author.Tests.{le-leb, lt-leb}
 use native.Mathlib.Omega.{arith}
-use Rattle.store_commit.proofs.Bounds.{lane_bound, lines-bound, oldest-bound, begin-counted, lanes-bound}
-use Rattle.machine.specs.machine.Change.{commitLane}
-use Rattle.machine.specs.machine.Begin.{beginOf}
-use Rattle.machine.proofs.rules.Rules.{answer-goes}
+use Rattle.store_commit.proofs.Bounds.{lane_bound, lines_bound, oldest_bound, begin_counted, lanes_bound}
+use Rattle.machine.specs.Machine.Change.{commit_lane}
+use Rattle.machine.specs.Machine.Begin.{begin_of}
+use Rattle.machine.proofs.Rules.Rules.{answer_goes}
 use borrow.Author.Rules.{rules}
 use Rattle.lane_steps.proofs.begin_sound.Statement.{statement}
 use Rattle.lane_steps.proofs.begin_sound.Tie as tie
@@ -15,18 +15,18 @@ refused-requires : tie.Need-refused-requires
 refused-requires c κs = search rules
 
 returns : tie.Need-returns
-unfolding beginOf
-returns c = rw (beginOf, c.before.before.before.requires, le-leb _ _ c.before.if1.true, c.refused.ensures)
+unfolding begin_of
+returns c = rw (begin_of, c.before.before.before.requires, le-leb _ _ c.before.if1.true, c.refused.ensures)
 
 refused-requires-2 : tie.Need-refused-requires-2
 refused-requires-2 c κs = search rules
 
 returns-2 : tie.Need-returns-2
-unfolding beginOf
+unfolding begin_of
 returns-2 c =
     let at-if1 = c.before.before.before in
     let start = at-if1.before.before in
-    rw (beginOf, start.requires, lt-leb _ _ at-if1.if1.false, le-leb (4 * start.args.s.shape.m) start.args.w.0 (omega arith), c.refused2.ensures)
+    rw (begin_of, start.requires, lt-leb _ _ at-if1.if1.false, le-leb (4 * start.args.s.shape.m) start.args.w.0 (omega arith), c.refused2.ensures)
 
 cast-i : tie.Need-overflow-cast-i
 cast-i c = search rules
@@ -44,26 +44,26 @@ admits-requires : tie.Need-admits-requires
 admits-requires c κs =
     let at-if1 = c.before.before.before.before in
     let start = at-if1.before.before in
-    lines-bound _ _ start.requires at-if1.if1.false
+    lines_bound _ _ start.requires at-if1.if1.false
 
 exhausted-requires : tie.Need-exhausted-requires
 exhausted-requires c κs =
     let at-if1 = c.before.before.before.before.before.before in
     let start = at-if1.before.before in
-    lanes-bound _ _ start.requires at-if1.if1.false
+    lanes_bound _ _ start.requires at-if1.if1.false
 
 refused-requires-3 : tie.Need-refused-requires-3
 refused-requires-3 c κs = search rules
 
 returns-3 : tie.Need-returns-3
-unfolding beginOf
+unfolding begin_of
 returns-3 c =
     let at-exhausted = c.before.before in
     let at-admits = at-exhausted.before.before in
     let at-if1 = at-admits.before.before.before.before.before in
     let start = at-if1.before.before in
     rw (
-      beginOf,
+      begin_of,
       start.requires,
       lt-leb _ _ at-if1.if1.false,
       lt-leb (4 * start.args.s.shape.m) start.args.w.0 (omega arith),
@@ -78,7 +78,7 @@ begin-lane-requires : tie.Need-begin-lane-requires
 begin-lane-requires c κs =
     let at-if1 = c.before.before.before.before.before.before.before.before in
     let start = at-if1.before.before in
-    (lines-bound _ _ start.requires at-if1.if1.false, oldest-bound _ _ start.requires at-if1.if1.false)
+    (lines_bound _ _ start.requires at-if1.if1.false, oldest_bound _ _ start.requires at-if1.if1.false)
 
 count-requires : tie.Need-count-requires
 count-requires c κs =
@@ -87,7 +87,7 @@ count-requires c κs =
     let at-if1 = at-admits.before.before.before.before.before in
     let start = at-if1.before.before in
     rw c.begin-lane.ensures
-    (begin-counted _ _ start.requires at-if1.if1.false _ _ (sym at-admits.admits.ensures ∙ at-exhausted.before.if3.true)
+    (begin_counted _ _ start.requires at-if1.if1.false _ _ (sym at-admits.admits.ensures ∙ at-exhausted.before.if3.true)
     (sym at-exhausted.exhausted.ensures ∙ c.before.if4.false))
 
 answer-to-requires : tie.Need-answer-to-requires
@@ -97,7 +97,7 @@ refused-requires-4 : tie.Need-refused-requires-4
 refused-requires-4 c κs = search rules
 
 returns-4 : tie.Need-returns-4
-unfolding beginOf commitLane
+unfolding begin_of commit_lane
 returns-4 c =
     let at_count = c.before.before.before in
     let at-exhausted = at_count.before.before.before in
@@ -105,7 +105,7 @@ returns-4 c =
     let at-if1 = at-admits.before.before.before.before.before in
     let start = at-if1.before.before in
     rw (
-      beginOf,
+      begin_of,
       start.requires,
       lt-leb _ _ at-if1.if1.false,
       lt-leb (4 * start.args.s.shape.m) start.args.w.0 (omega arith),
@@ -114,9 +114,9 @@ returns-4 c =
       ← at-exhausted.exhausted.ensures,
       at_count.before.before.if4.false,
       ← at_count.before.begin-lane.ensures,
-      commitLane,
+      commit_lane,
       ← at_count.count.ensures,
-      ← answer-goes start.args.k at_count.count.result,
+      ← answer_goes start.args.k at_count.count.result,
       ← c.before.before.answer-to.ensures,
       ← c.before.refused4.ensures,
       c.if5.true,
@@ -133,7 +133,7 @@ element-set-from-u c =
     lane_bound _ _ start.requires at-if1.if1.false
 
 returns-5 : tie.Need-returns-5
-unfolding beginOf commitLane
+unfolding begin_of commit_lane
 returns-5 c =
     let at_count = c.before.before.before.before in
     let at-exhausted = at_count.before.before.before in
@@ -141,7 +141,7 @@ returns-5 c =
     let at-if1 = at-admits.before.before.before.before.before in
     let start = at-if1.before.before in
     rw (
-      beginOf,
+      begin_of,
       start.requires,
       lt-leb _ _ at-if1.if1.false,
       lt-leb (4 * start.args.s.shape.m) start.args.w.0 (omega arith),
@@ -150,9 +150,9 @@ returns-5 c =
       ← at-exhausted.exhausted.ensures,
       at_count.before.before.if4.false,
       ← at_count.before.begin-lane.ensures,
-      commitLane,
+      commit_lane,
       ← at_count.count.ensures,
-      ← answer-goes start.args.k at_count.count.result,
+      ← answer_goes start.args.k at_count.count.result,
       ← c.before.before.before.answer-to.ensures,
       ← c.before.before.refused4.ensures,
       c.before.if5.false,
@@ -162,13 +162,13 @@ refused-requires-5 : tie.Need-refused-requires-5
 refused-requires-5 c κs = search rules
 
 returns-6 : tie.Need-returns-6
-unfolding beginOf
+unfolding begin_of
 returns-6 c =
     let at-admits = c.before.before in
     let at-if1 = at-admits.before.before.before.before.before in
     let start = at-if1.before.before in
     rw (
-      beginOf,
+      begin_of,
       start.requires,
       lt-leb _ _ at-if1.if1.false,
       lt-leb (4 * start.args.s.shape.m) start.args.w.0 (omega arith),

@@ -7,7 +7,7 @@ only-lane-requires : tie.Need-only-lane-requires
 only-lane-requires c κs = search rules
 
 returns : tie.Need-returns
-returns c = rw c.only-lane.ensures
+returns c = rw c.only_lane.ensures
 
 pub exclusive-block-spec : {M : Type 1} → statement M
 exclusive-block-spec = tie.close (tie.spec only-lane-requires returns)

@@ -1,6 +1,6 @@
 -- `memory_return::count_answer` meets its contract. Assumes nothing.
 use mathlib.Core.Path.{sym, ◌∙◌}
-use Rattle.memory_return.proofs.Closing.{closes-below}
+use Rattle.memory_return.proofs.Closing.{closes_below}
 use borrow.Author.Rules.{rules}
 use Rattle.memory_return.proofs.count_answer.Statement.{statement}
 use Rattle.memory_return.proofs.count_answer.Tie as tie
@@ -24,7 +24,7 @@ close-requires : tie.Need-close-requires
 close-requires c κs = search rules
 
 close-service-requires : tie.Need-close-service-requires
-close-service-requires c κs = let start = c.before.before.before.before.before in closes-below start.args.y start.args.a 8 start.requires (sym c.before.before.before.before.answer.ensures ∙ c.before.before.n2.given.1)
+close-service-requires c κs = let start = c.before.before.before.before.before in closes_below start.args.y start.args.a 8 start.requires (sym c.before.before.before.before.answer.ensures ∙ c.before.before.n2.given.1)
 
 enum_told : tie.Need-enum-told
 enum_told c = search rules

@@ -1,6 +1,6 @@
 -- `memory_serve::flags_byte` meets its contract. Assumes nothing.
 use borrow.Author.Rules.{rules}
-use Rattle.memory_serve.proofs.Bytes.{joined-byte}
+use Rattle.memory_serve.proofs.Bytes.{joined_byte}
 use Rattle.memory_serve.proofs.flags_byte.Statement.{statement}
 use Rattle.memory_serve.proofs.flags_byte.Tie as tie
 
@@ -53,7 +53,7 @@ cast-high-4 : tie.Need-overflow-cast-high-4
 cast-high-4 c = search rules
 
 returns : tie.Need-returns
-returns c = joined-byte c.args.t1 c.well-formed.0.1.0.1
+returns c = joined_byte c.args.t1 c.well-formed.0.1.0.1
 
 pub flags-byte-spec : {M : Type 1} → statement M
 flags-byte-spec =

@@ -1,7 +1,7 @@
 -- `memory_serve::orders_byte` meets its contract. Assumes nothing.
 use Rattle.words.specs.Folds.{sum_to}
-use Rattle.machine.specs.machine.LaneBytes.{byte_of, ordersByte}
-use Rattle.machine.specs.machine.Serve.{ordered}
+use Rattle.machine.specs.Machine.LaneBytes.{byte_of, orders_byte}
+use Rattle.machine.specs.Machine.Serve.{ordered}
 use borrow.Author.Rules.{rules}
 use Rattle.memory_serve.proofs.orders_byte.Statement.{statement}
 use Rattle.memory_serve.proofs.orders_byte.Tie as tie
@@ -19,12 +19,12 @@ flags-byte-requires : tie.Need-flags-byte-requires
 flags-byte-requires c κs = search rules
 
 returns : tie.Need-returns
-unfolding ordersByte ordered
-returns c = rw (ordersByte, ordered, ← c.before.before.before.before.sends.ensures, c.before.before.before.if1.true, c.flags-byte.ensures)
+unfolding orders_byte ordered
+returns c = rw (orders_byte, ordered, ← c.before.before.before.before.sends.ensures, c.before.before.before.if1.true, c.flags-byte.ensures)
 
 returns-2 : tie.Need-returns-2
-unfolding ordersByte ordered byte_of sum_to
-returns-2 c = rw (ordersByte, ordered, ← c.before.sends.ensures, c.if1.false)
+unfolding orders_byte ordered byte_of sum_to
+returns-2 c = rw (orders_byte, ordered, ← c.before.sends.ensures, c.if1.false)
 
 pub orders-byte-spec : {M : Type 1} → statement M
 orders-byte-spec =

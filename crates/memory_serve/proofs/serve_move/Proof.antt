@@ -4,9 +4,9 @@ use native.Mathlib.Omega.{arith}
 use mathlib.Core.Path.{◌≡◌, ap}
 use lib.ListN.{length, length-map}
 use Rattle.store.specs.declared.Service.{Service}
-use Rattle.machine.specs.machine.Serve.{serveMove}
-use Rattle.machine.proofs.store.ServeByte.{orders-lanes}
-use Rattle.memory_serve.proofs.Bytes.{count-orders}
+use Rattle.machine.specs.Machine.Serve.{serve_move}
+use Rattle.machine.proofs.Store.ServeByte.{orders_lanes}
+use Rattle.memory_serve.proofs.Bytes.{count_orders}
 use borrow.Author.Rules.{rules}
 use Rattle.memory_serve.proofs.serve_move.Statement.{statement}
 use Rattle.memory_serve.proofs.serve_move.Tie as tie
@@ -27,12 +27,12 @@ close-service-requires : tie.Need-close-service-requires
 close-service-requires c κs = omega (arith, ap (λ (v : Service). v.lane.0) c.before.before.service-for.ensures)
 
 returns : tie.Need-returns
-unfolding serveMove
+unfolding serve_move
 returns c =
     let at_count = c.before.before.before.before in
     let args = at_count.before.before.args in
-    let n = count-orders args.b args.k args.o.command at_count.before.orders-byte.ensures at_count.count.ensures in
-    rw (serveMove, ← n, eq-eqb _ _ c.before.if1.true, c.close-service.ensures, c.before.before.with-waiting.ensures, c.before.before.before.service-for.ensures)
+    let n = count_orders args.b args.k args.o.command at_count.before.orders-byte.ensures at_count.count.ensures in
+    rw (serve_move, ← n, eq-eqb _ _ c.before.if1.true, c.close-service.ensures, c.before.before.with_waiting_lem.ensures, c.before.before.before.service-for.ensures)
 
 order-kind-requires : tie.Need-order-kind-requires
 order-kind-requires c κs = search rules
@@ -47,7 +47,7 @@ open-requires : tie.Need-open-requires
 open-requires c κs = search rules
 
 returns-2 : tie.Need-returns-2
-unfolding serveMove
+unfolding serve_move
 returns-2 c =
     let at-bare-down = c.before in
     let at-order-kind = at-bare-down.before.before.before in
@@ -56,19 +56,19 @@ returns-2 c =
     let at-service-for = at-with-waiting.before in
     let at_count = at-service-for.before in
     let args = at_count.before.before.args in
-    let n = count-orders args.b args.k args.o.command at_count.before.orders-byte.ensures at_count.count.ensures in
+    let n = count_orders args.b args.k args.o.command at_count.before.orders-byte.ensures at_count.count.ensures in
     let flags : length args.b.present ≡ 8 = simp length-map at at_count.before.before.well-formed.1.0.1.1.1.0.1.0.1 in
     rw (
-      serveMove,
+      serve_move,
       ← n,
       ne_eqb _ _ at-if1.if1.false,
       at_count.before.orders-byte.ensures,
-      orders-lanes args.b args.k args.o.command flags,
+      orders_lanes args.b args.k args.o.command flags,
       c.«open».ensures,
       at-bare-down.bare-down.ensures,
       at-bare-down.before.block.ensures,
       at-order-kind.order-kind.ensures,
-      at-with-waiting.with-waiting.ensures,
+      at-with-waiting.with_waiting_lem.ensures,
       at-service-for.service-for.ensures,
     )
 

@@ -1,8 +1,8 @@
 -- `memory_steps::return_sound` meets its contract. Assumes nothing.
 use borrow.Author.Tests.{le-leb, lt-leb, eq-eqb, ne_eqb}
 use Rattle.store_commit.proofs.Bounds.{lane_bound}
-use Rattle.memory_steps.proofs.Bounds.{head-bound, service-bound}
-use Rattle.machine.specs.machine.Return.{returnOf}
+use Rattle.memory_steps.proofs.Bounds.{head_bound, service_bound}
+use Rattle.machine.specs.Machine.Return.{return_of}
 use borrow.Author.Rules.{rules}
 use Rattle.memory_steps.proofs.return_sound.Statement.{statement}
 use Rattle.memory_steps.proofs.return_sound.Tie as tie
@@ -11,8 +11,8 @@ refused-requires : tie.Need-refused-requires
 refused-requires c κs = search rules
 
 returns : tie.Need-returns
-unfolding returnOf
-returns c = rw (returnOf, c.before.before.before.requires, le-leb _ _ c.before.if1.true, c.refused.ensures)
+unfolding return_of
+returns c = rw (return_of, c.before.before.before.requires, le-leb _ _ c.before.if1.true, c.refused.ensures)
 
 cast-i : tie.Need-overflow-cast-i
 cast-i c = search rules
@@ -27,11 +27,11 @@ refused-requires-2 : tie.Need-refused-requires-2
 refused-requires-2 c κs = search rules
 
 returns-2 : tie.Need-returns-2
-unfolding returnOf
+unfolding return_of
 returns-2 c =
     let at-if1 = c.before.before.before.before.before in
     let start = at-if1.before.before in
-    rw (returnOf, start.requires, lt-leb _ _ at-if1.if1.false, eq-eqb _ _ c.before.if2.true, c.refused2.ensures)
+    rw (return_of, start.requires, lt-leb _ _ at-if1.if1.false, eq-eqb _ _ c.before.if2.true, c.refused2.ensures)
 
 element-copy-out-y : tie.Need-element-copy-out-y
 element-copy-out-y c = search rules
@@ -47,36 +47,36 @@ element-copy-out-b c =
     let at-if2 = c.before.before.before in
     let at-if1 = at-if2.before.before.before.before in
     let start = at-if1.before.before in
-    head-bound _ _ start.requires at-if1.if1.false at-if2.if2.false
+    head_bound _ _ start.requires at-if1.if1.false at-if2.if2.false
 
 return-move-requires : tie.Need-return-move-requires
 return-move-requires c κs =
     let at-if2 = c.before.before.before.before.before in
     let at-if1 = at-if2.before.before.before.before in
     let start = at-if1.before.before in
-    (lane_bound _ _ start.requires at-if1.if1.false, service-bound _ _ start.requires at-if1.if1.false)
+    (lane_bound _ _ start.requires at-if1.if1.false, service_bound _ _ start.requires at-if1.if1.false)
 
 commit-move-requires : tie.Need-commit-move-requires
 commit-move-requires c κs =
     let at-if2 = c.before.before.before.before.before.before in
     let at-if1 = at-if2.before.before.before.before in
     let start = at-if1.before.before in
-    (lane_bound _ _ start.requires at-if1.if1.false, head-bound _ _ start.requires at-if1.if1.false at-if2.if2.false)
+    (lane_bound _ _ start.requires at-if1.if1.false, head_bound _ _ start.requires at-if1.if1.false at-if2.if2.false)
 
 returns-3 : tie.Need-returns-3
-unfolding returnOf
+unfolding return_of
 returns-3 c =
     let at-return-move = c.before in
     let at-if2 = at-return-move.before.before.before.before.before.before in
     let at-if1 = at-if2.before.before.before.before in
     let start = at-if1.before.before in
     rw (
-      returnOf,
+      return_of,
       start.requires,
       lt-leb _ _ at-if1.if1.false,
       ne_eqb _ _ at-if2.if2.false,
-      ← at-return-move.return-move.ensures,
-      c.commit-move.ensures,
+      ← at-return-move.return_move_lem.ensures,
+      c.commit_move_lem.ensures,
     )
 
 pub return-sound-spec : {M : Type 1} → statement M

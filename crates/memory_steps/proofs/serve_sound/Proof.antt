@@ -3,9 +3,9 @@ use borrow.Author.Tests.{le-leb, lt-leb}
 use native.Mathlib.Omega.{arith}
 use mathlib.Core.Path.{sym, ap, ◌∙◌}
 use Rattle.store_commit.proofs.Bounds.{lane_bound}
-use Rattle.memory_steps.proofs.Bounds.{ready-bound}
+use Rattle.memory_steps.proofs.Bounds.{ready_bound}
 use Rattle.words.specs.declared.BlockNo.{BlockNo}
-use Rattle.machine.specs.machine.Serve.{serveOf}
+use Rattle.machine.specs.Machine.Serve.{serve_of}
 use borrow.Author.Rules.{rules}
 use Rattle.memory_steps.proofs.serve_sound.Statement.{statement}
 use Rattle.memory_steps.proofs.serve_sound.Tie as tie
@@ -14,8 +14,8 @@ refused-requires : tie.Need-refused-requires
 refused-requires c κs = search rules
 
 returns : tie.Need-returns
-unfolding serveOf
-returns c = rw (serveOf, c.before.before.before.requires, le-leb _ _ c.before.if1.true, c.refused.ensures)
+unfolding serve_of
+returns c = rw (serve_of, c.before.before.before.requires, le-leb _ _ c.before.if1.true, c.refused.ensures)
 
 cast-i : tie.Need-overflow-cast-i
 cast-i c = search rules
@@ -53,7 +53,7 @@ element-copy-out-b c =
     let at-check-ready = at-o.before.before in
     let at-if1 = at-check-ready.before.before.before.before in
     let start = at-if1.before.before in
-    let ready = ready-bound _ _ start.requires at-if1.if1.false _ (sym at-check-ready.check-ready.ensures ∙ at-o.o.given.1) in
+    let ready = ready_bound _ _ start.requires at-if1.if1.false _ (sym at-check-ready.check-ready.ensures ∙ at-o.o.given.1) in
     omega (arith, ready, ap (λ (x : BlockNo). x.0) c.before.block.ensures)
 
 serve-move-requires : tie.Need-serve-move-requires
@@ -70,17 +70,17 @@ commit-move-requires c κs =
     let at-check-ready = at-o.before.before in
     let at-if1 = at-check-ready.before.before.before.before in
     let start = at-if1.before.before in
-    let ready = ready-bound _ _ start.requires at-if1.if1.false _ (sym at-check-ready.check-ready.ensures ∙ at-o.o.given.1) in
+    let ready = ready_bound _ _ start.requires at-if1.if1.false _ (sym at-check-ready.check-ready.ensures ∙ at-o.o.given.1) in
     (lane_bound _ _ start.requires at-if1.if1.false, omega (arith, ready, ap (λ (x : BlockNo). x.0) at_block.block.ensures))
 
 returns-2 : tie.Need-returns-2
-unfolding serveOf
+unfolding serve_of
 returns-2 c =
     let at-check-ready = c.before.before.before.before in
     let at-if1 = at-check-ready.before.before.before.before in
     let start = at-if1.before.before in
     rw (
-      serveOf,
+      serve_of,
       start.requires,
       lt-leb _ _ at-if1.if1.false,
       ← at-check-ready.check-ready.ensures,
@@ -89,7 +89,7 @@ returns-2 c =
     )
 
 returns-3 : tie.Need-returns-3
-unfolding serveOf
+unfolding serve_of
 returns-3 c =
     let at_block = c.before.before.before.before in
     let at-o = at_block.before.before in
@@ -97,13 +97,13 @@ returns-3 c =
     let at-if1 = at-check-ready.before.before.before.before in
     let start = at-if1.before.before in
     rw (
-      serveOf,
+      serve_of,
       start.requires,
       lt-leb _ _ at-if1.if1.false,
       ← at-check-ready.check-ready.ensures,
       at-o.o.given.1,
-      c.commit-move.ensures,
-      c.before.serve-move.ensures,
+      c.commit_move_lem.ensures,
+      c.before.serve_move_lem.ensures,
       at_block.block.ensures,
     )
 

@@ -1,5 +1,5 @@
 -- `store_calls::begin` meets its contract. Assumes nothing.
-use Rattle.machine.specs.machine.Begin.{beginOf}
+use Rattle.machine.specs.Machine.Begin.{begin_of}
 use mathlib.Core.Path.{sym, ◌∙◌}
 use borrow.Author.Rules.{rules}
 use Rattle.store_calls.proofs.begin.Statement.{statement}
@@ -12,8 +12,8 @@ refused-requires : tie.Need-refused-requires
 refused-requires c κs = search rules
 
 returns : tie.Need-returns
-unfolding beginOf
-returns c = rw (beginOf, ← c.before.before.corrupt.ensures, c.before.if1.true, c.refused.ensures)
+unfolding begin_of
+returns c = rw (begin_of, ← c.before.before.corrupt.ensures, c.before.if1.true, c.refused.ensures)
 
 begin-sound-requires : tie.Need-begin-sound-requires
 begin-sound-requires c κs = sym c.before.corrupt.ensures ∙ c.if1.false

@@ -1,5 +1,5 @@
 -- `store_calls::deliver` meets its contract. Assumes nothing.
-use Rattle.machine.specs.machine.Deliver.{deliverOf}
+use Rattle.machine.specs.Machine.Deliver.{deliver_of}
 use mathlib.Core.Path.{sym, ◌∙◌}
 use borrow.Author.Rules.{rules}
 use Rattle.store_calls.proofs.deliver.Statement.{statement}
@@ -12,8 +12,8 @@ refused-requires : tie.Need-refused-requires
 refused-requires c κs = search rules
 
 returns : tie.Need-returns
-unfolding deliverOf
-returns c = rw (deliverOf, ← c.before.before.corrupt.ensures, c.before.if1.true, c.refused.ensures)
+unfolding deliver_of
+returns c = rw (deliver_of, ← c.before.before.corrupt.ensures, c.before.if1.true, c.refused.ensures)
 
 deliver-sound-requires : tie.Need-deliver-sound-requires
 deliver-sound-requires c κs = sym c.before.corrupt.ensures ∙ c.if1.false

@@ -1,5 +1,5 @@
 -- `store_calls::return_head` meets its contract. Assumes nothing.
-use Rattle.machine.specs.machine.Return.{returnOf}
+use Rattle.machine.specs.Machine.Return.{return_of}
 use mathlib.Core.Path.{sym, ◌∙◌}
 use borrow.Author.Rules.{rules}
 use Rattle.store_calls.proofs.return_head.Statement.{statement}
@@ -12,8 +12,8 @@ refused-requires : tie.Need-refused-requires
 refused-requires c κs = search rules
 
 returns : tie.Need-returns
-unfolding returnOf
-returns c = rw (returnOf, ← c.before.before.corrupt.ensures, c.before.if1.true, c.refused.ensures)
+unfolding return_of
+returns c = rw (return_of, ← c.before.before.corrupt.ensures, c.before.if1.true, c.refused.ensures)
 
 return-sound-requires : tie.Need-return-sound-requires
 return-sound-requires c κs = sym c.before.corrupt.ensures ∙ c.if1.false

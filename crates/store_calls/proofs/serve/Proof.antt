@@ -1,5 +1,5 @@
 -- `store_calls::serve` meets its contract. Assumes nothing.
-use Rattle.machine.specs.machine.Serve.{serveOf}
+use Rattle.machine.specs.Machine.Serve.{serve_of}
 use mathlib.Core.Path.{sym, ◌∙◌}
 use borrow.Author.Rules.{rules}
 use Rattle.store_calls.proofs.serve.Statement.{statement}
@@ -12,8 +12,8 @@ refused-requires : tie.Need-refused-requires
 refused-requires c κs = search rules
 
 returns : tie.Need-returns
-unfolding serveOf
-returns c = rw (serveOf, ← c.before.before.corrupt.ensures, c.before.if1.true, c.refused.ensures)
+unfolding serve_of
+returns c = rw (serve_of, ← c.before.before.corrupt.ensures, c.before.if1.true, c.refused.ensures)
 
 serve-sound-requires : tie.Need-serve-sound-requires
 serve-sound-requires c κs = sym c.before.corrupt.ensures ∙ c.if1.false

@@ -7,12 +7,12 @@ use mathlib.Core.Bool.{true}
 use mathlib.Core.Path.{◌≡◌, sym, ap, ◌∙◌}
 use lib.ListN.{set}
 use Rattle.store.specs.declared.Store.{Store}
-use Rattle.store.specs.Stores.{withControl}
-use Rattle.machine.specs.machine.LaneBytes.{lanes_of}
-use Rattle.machine.specs.machine.Change.{someFull, commitMove}
-use Rattle.store_commit.specs.Bits.{lowestBit}
+use Rattle.store.specs.Stores.{with_control}
+use Rattle.machine.specs.Machine.LaneBytes.{lanes_of}
+use Rattle.machine.specs.Machine.Change.{some_full, commit_move}
+use Rattle.store_commit.specs.Bits.{lowest_bit}
 use Rattle.store_commit.proofs.Walks.{fewer}
-use Rattle.store_commit.proofs.Posting.{Posted, posted-none, posted-all, room-all, turn_below, turn-full, turn-posts}
+use Rattle.store_commit.proofs.Posting.{Posted, posted_none, posted_all, room_all, turn_below, turn_full, turn_posts}
 use Rattle.store_commit.proofs.commit_move.Statement.{statement}
 use Rattle.store_commit.proofs.commit_move.Tie as tie
 use Rattle.queues.specs.Queues.{capacity}
@@ -27,8 +27,8 @@ refused-requires : tie.Need-refused-requires invariant-loop decreases-loop
 refused-requires c κs = search rules
 
 returns : tie.Need-returns invariant-loop decreases-loop
-unfolding commitMove
-returns c = rw (commitMove, sym c.before.refused.ensures ∙ c.if1.true)
+unfolding commit_move
+returns c = rw (commit_move, sym c.before.refused.ensures ∙ c.if1.true)
 
 cast-i : tie.Need-overflow-cast-i invariant-loop decreases-loop
 cast-i c = search rules
@@ -49,7 +49,7 @@ element-set-from-b : tie.Need-element-set-from-b invariant-loop decreases-loop
 element-set-from-b c = search rules
 
 loop-holds : tie.Need-loop-init invariant-loop decreases-loop
-loop-holds c = (0, posted-none _ _ _ (omega arith))
+loop-holds c = (0, posted_none _ _ _ (omega arith))
 
 lowest-requires : tie.Need-lowest-requires invariant-loop decreases-loop
 lowest-requires c κs = search rules
@@ -64,16 +64,16 @@ refused-requires-2 : tie.Need-refused-requires-2 invariant-loop decreases-loop
 refused-requires-2 c κs = search rules
 
 returns-2 : tie.Need-returns-2 invariant-loop decreases-loop
-unfolding commitMove
+unfolding commit_move
 returns-2 c =
     let at-lowest = c.before.before.before.before in
     let at-loop = at-lowest.before.before in
     let at-if1 = at-loop.before.before.before.before.before.before in
     let args = at-if1.before.before.args in
-    let f : someFull capacity (lanes_of args.v.to) (set args.s.lanes args.k.0 args.v.lane) ≡ true =
-    turn-full args.v.to args.v.message _ at-loop.loop.t at-loop.loop.left _ at-loop.loop.invariant.1 at-lowest.before.loop-test.true
+    let f : some_full capacity (lanes_of args.v.to) (set args.s.lanes args.k.0 args.v.lane) ≡ true =
+    turn_full args.v.to args.v.message _ at-loop.loop.t at-loop.loop.left _ at-loop.loop.invariant.1 at-lowest.before.loop-test.true
     (rw (← at-lowest.lowest.ensures) (le-leb _ _ c.before.if2.true)) in
-    rw (commitMove, sym at-if1.before.refused.ensures ∙ at-if1.if1.false, f, c.refused2.ensures)
+    rw (commit_move, sym at-if1.before.refused.ensures ∙ at-if1.if1.false, f, c.refused2.ensures)
 
 post-requires : tie.Need-post-requires invariant-loop decreases-loop
 post-requires c κs = search rules
@@ -102,14 +102,14 @@ loop-again c =
     let at-lowest = c.before.before.before.before.before in
     let at-loop = at-lowest.before.before in
     let args = at-loop.before.before.before.before.before.before.before.before.args in (
-      lowestBit at-loop.loop.left + 1,
+      lowest_bit at-loop.loop.left + 1,
       rw (c.without-lowest.ensures, at-lowest.lowest.ensures)
-          (turn-posts args.v.to args.v.message _ at-loop.loop.t at-loop.loop.left _ at-loop.loop.invariant.1 at-lowest.before.loop-test.true
+          (turn_posts args.v.to args.v.message _ at-loop.loop.t at-loop.loop.left _ at-loop.loop.invariant.1 at-lowest.before.loop-test.true
           (rw (← at-lowest.lowest.ensures) (lt-leb _ _ c.before.before.if2.false)) (rw (← at-lowest.lowest.ensures) c.before.post.ensures)),
     )
 
 returns-3 : tie.Need-returns-3 invariant-loop decreases-loop
-unfolding commitMove
+unfolding commit_move
 returns-3 c =
     let at-loop = c.before.before in
     let at-if1 = at-loop.before.before.before.before.before.before in
@@ -117,12 +117,12 @@ returns-3 c =
     let none : at-loop.loop.left ≡ 0 = omega arith in
     let w : Posted args.v.to args.v.message _ at-loop.loop.t 0 at-loop.loop.invariant.0 = rw none at at-loop.loop.invariant.1 in
     rw (
-      commitMove,
+      commit_move,
       sym at-if1.before.refused.ensures ∙ at-if1.if1.false,
-      room-all args.v.to args.v.message _ at-loop.loop.t at-loop.loop.invariant.0 w,
+      room_all args.v.to args.v.message _ at-loop.loop.t at-loop.loop.invariant.0 w,
     )
-    (ap (λ (u : Store). record { answer = args.v.answer; store = withControl u args.v.control })
-    (posted-all args.v.to args.v.message _ at-loop.loop.t at-loop.loop.invariant.0 w))
+    (ap (λ (u : Store). record { answer = args.v.answer; store = with_control u args.v.control })
+    (posted_all args.v.to args.v.message _ at-loop.loop.t at-loop.loop.invariant.0 w))
 
 pub commit-move-spec : {M : Type 1} → statement M
 commit-move-spec =

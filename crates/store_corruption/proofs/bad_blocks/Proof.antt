@@ -4,15 +4,15 @@ use Prim.Native.Nat.{◌≤◌, ◌-◌}
 use native.Mathlib.Omega.{arith}
 use mathlib.Core.Bool.{false}
 use mathlib.Core.Path.{◌≡◌, sym, ◌∙◌}
-use Rattle.words.specs.Folds.{anyTo}
-use Rattle.words.proofs.Folds.{any_none, any-more, any-true}
+use Rattle.words.specs.Folds.{any_to}
+use Rattle.words.proofs.Folds.{any_none, any_more, any_true}
 use Rattle.store.specs.Stores.{block_at}
-use Rattle.machine.specs.machine.Corruption.{badFlags}
+use Rattle.machine.specs.Machine.Corruption.{bad_flags}
 use Rattle.store_corruption.proofs.bad_blocks.Statement.{statement}
 use Rattle.store_corruption.proofs.bad_blocks.Tie as tie
 
 abbrev invariant-loop : tie.invariant-loop
-invariant-loop s n m k₀ k = (k ≤ m) × (anyTo (λ a. badFlags n (block_at s a)) k ≡ false)
+invariant-loop s n m k₀ k = (k ≤ m) × (any_to (λ a. bad_flags n (block_at s a)) k ≡ false)
 
 abbrev decreases-loop : tie.decreases-loop
 decreases-loop s n m k₀ k = m - k
@@ -33,7 +33,7 @@ bad-flags-requires : tie.Need-bad-flags-requires invariant-loop decreases-loop
 bad-flags-requires c κs = search rules
 
 returns : tie.Need-returns invariant-loop decreases-loop
-returns c = sym (any-true _ _ c.before.before.before.before.loop.k (sym c.before.bad-flags.ensures ∙ c.if1.true) (omega arith))
+returns c = sym (any_true _ _ c.before.before.before.before.loop.k (sym c.before.bad-flags.ensures ∙ c.if1.true) (omega arith))
 
 add-k : tie.Need-overflow-add-k invariant-loop decreases-loop
 add-k c = search rules
@@ -42,7 +42,7 @@ loop-less : tie.Need-loop-smaller invariant-loop decreases-loop
 loop-less c = search rules
 
 loop-again : tie.Need-loop-preserved invariant-loop decreases-loop
-loop-again c = (omega arith, any-more _ _ c.before.before.before.before.loop.invariant.1 (sym c.before.bad-flags.ensures ∙ c.if1.false))
+loop-again c = (omega arith, any_more _ _ c.before.before.before.before.loop.invariant.1 (sym c.before.bad-flags.ensures ∙ c.if1.false))
 
 returns-2 : tie.Need-returns-2 invariant-loop decreases-loop
 returns-2 c = let e : c.before.loop.k ≡ c.before.before.args.t1.shape.m = omega arith in sym (rw e at c.before.loop.invariant.1)

@@ -4,14 +4,14 @@ use Prim.Native.Nat.{◌≤◌, ◌-◌}
 use native.Mathlib.Omega.{arith}
 use mathlib.Core.Bool.{false}
 use mathlib.Core.Path.{◌≡◌, sym, ◌∙◌}
-use Rattle.words.specs.Folds.{anyTo}
-use Rattle.words.proofs.Folds.{any_none, any-more, any-true}
-use Rattle.machine.specs.machine.Corruption.{badFlag, badFlags}
+use Rattle.words.specs.Folds.{any_to}
+use Rattle.words.proofs.Folds.{any_none, any_more, any_true}
+use Rattle.machine.specs.Machine.Corruption.{bad_flag, bad_flags}
 use Rattle.store_corruption.proofs.bad_flags.Statement.{statement}
 use Rattle.store_corruption.proofs.bad_flags.Tie as tie
 
 abbrev invariant-loop : tie.invariant-loop
-invariant-loop b n k₀ k = (k ≤ 8) × (anyTo (badFlag n b) k ≡ false)
+invariant-loop b n k₀ k = (k ≤ 8) × (any_to (bad_flag n b) k ≡ false)
 
 abbrev decreases-loop : tie.decreases-loop
 decreases-loop b n k₀ k = 8 - k
@@ -23,8 +23,8 @@ bad-flag-requires : tie.Need-bad-flag-requires invariant-loop decreases-loop
 bad-flag-requires c κs = search rules
 
 returns : tie.Need-returns invariant-loop decreases-loop
-unfolding badFlags
-returns c = sym (any-true _ _ c.before.before.before.loop.k (sym c.before.bad-flag.ensures ∙ c.if1.true) (omega arith))
+unfolding bad_flags
+returns c = sym (any_true _ _ c.before.before.before.loop.k (sym c.before.bad-flag.ensures ∙ c.if1.true) (omega arith))
 
 add-k : tie.Need-overflow-add-k invariant-loop decreases-loop
 add-k c = search rules
@@ -33,10 +33,10 @@ loop-less : tie.Need-loop-smaller invariant-loop decreases-loop
 loop-less c = search rules
 
 loop-again : tie.Need-loop-preserved invariant-loop decreases-loop
-loop-again c = (omega arith, any-more _ _ c.before.before.before.loop.invariant.1 (sym c.before.bad-flag.ensures ∙ c.if1.false))
+loop-again c = (omega arith, any_more _ _ c.before.before.before.loop.invariant.1 (sym c.before.bad-flag.ensures ∙ c.if1.false))
 
 returns-2 : tie.Need-returns-2 invariant-loop decreases-loop
-unfolding badFlags
+unfolding bad_flags
 returns-2 c = let e : c.before.loop.k ≡ 8 = omega arith in sym (rw e at c.before.loop.invariant.1)
 
 pub bad-flags-spec : {M : Type 1} → statement M

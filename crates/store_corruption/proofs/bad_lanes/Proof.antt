@@ -4,16 +4,16 @@ use Prim.Native.Nat.{◌≤◌, ◌-◌}
 use native.Mathlib.Omega.{arith}
 use mathlib.Core.Bool.{false}
 use mathlib.Core.Path.{◌≡◌, sym, ◌∙◌}
-use Rattle.words.specs.Folds.{anyTo}
-use Rattle.words.proofs.Folds.{any_none, any-more, any-true}
+use Rattle.words.specs.Folds.{any_to}
+use Rattle.words.proofs.Folds.{any_none, any_more, any_true}
 use Rattle.queues.specs.Queues.{capacity}
-use Rattle.store.specs.Stores.{laneAt}
-use Rattle.machine.specs.machine.Corruption.{badLane}
+use Rattle.store.specs.Stores.{lane_at}
+use Rattle.machine.specs.Machine.Corruption.{bad_lane}
 use Rattle.store_corruption.proofs.bad_lanes.Statement.{statement}
 use Rattle.store_corruption.proofs.bad_lanes.Tie as tie
 
 abbrev invariant-loop : tie.invariant-loop
-invariant-loop s n c m k₀ k = (k ≤ n) × (anyTo (λ i. badLane capacity c m (laneAt s i)) k ≡ false)
+invariant-loop s n c m k₀ k = (k ≤ n) × (any_to (λ i. bad_lane capacity c m (lane_at s i)) k ≡ false)
 
 abbrev decreases-loop : tie.decreases-loop
 decreases-loop s n c m k₀ k = n - k
@@ -34,7 +34,7 @@ bad-lane-requires : tie.Need-bad-lane-requires invariant-loop decreases-loop
 bad-lane-requires c κs = search rules
 
 returns : tie.Need-returns invariant-loop decreases-loop
-returns c = sym (any-true _ _ c.before.before.before.before.loop.k (sym c.before.bad-lane.ensures ∙ c.if1.true) (omega arith))
+returns c = sym (any_true _ _ c.before.before.before.before.loop.k (sym c.before.bad-lane.ensures ∙ c.if1.true) (omega arith))
 
 add-k : tie.Need-overflow-add-k invariant-loop decreases-loop
 add-k c = search rules
@@ -43,7 +43,7 @@ loop-less : tie.Need-loop-smaller invariant-loop decreases-loop
 loop-less c = search rules
 
 loop-again : tie.Need-loop-preserved invariant-loop decreases-loop
-loop-again c = (omega arith, any-more _ _ c.before.before.before.before.loop.invariant.1 (sym c.before.bad-lane.ensures ∙ c.if1.false))
+loop-again c = (omega arith, any_more _ _ c.before.before.before.before.loop.invariant.1 (sym c.before.bad-lane.ensures ∙ c.if1.false))
 
 returns-2 : tie.Need-returns-2 invariant-loop decreases-loop
 returns-2 c = let e : c.before.loop.k ≡ c.before.before.args.t1.shape.n = omega arith in sym (rw e at c.before.loop.invariant.1)

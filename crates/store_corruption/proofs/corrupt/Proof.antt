@@ -1,8 +1,8 @@
 -- `store_corruption::corrupt` meets its contract: shape, limit, control, lanes, blocks, places, in this order; the first bad one tells. Assumes nothing.
 use mathlib.Core.Path.{sym, ◌∙◌}
 use Rattle.words.specs.Folds.{any_of}
-use Rattle.machine.specs.machine.Corruption.{corruptOf}
-use Rattle.machine.proofs.bounds.Shape.{shape-bounds}
+use Rattle.machine.specs.Machine.Corruption.{corrupt_of}
+use Rattle.machine.proofs.Bounds.Shape.{shape_bounds}
 use borrow.Author.Rules.{rules}
 use Rattle.store_corruption.proofs.corrupt.Statement.{statement}
 use Rattle.store_corruption.proofs.corrupt.Tie as tie
@@ -11,25 +11,25 @@ bad-shape-requires : tie.Need-bad-shape-requires
 bad-shape-requires c κs = search rules
 
 returns : tie.Need-returns
-unfolding corruptOf any_of
-returns c = rw (corruptOf, any_of, ← c.before.bad-shape.ensures, c.if1.true)
+unfolding corrupt_of any_of
+returns c = rw (corrupt_of, any_of, ← c.before.bad-shape.ensures, c.if1.true)
 
 bad-limit-requires : tie.Need-bad-limit-requires
 bad-limit-requires c κs = search rules
 
 returns-2 : tie.Need-returns-2
-unfolding corruptOf any_of
-returns-2 c = rw (corruptOf, any_of, ← c.before.before.before.bad-shape.ensures, c.before.before.if1.false, ← c.before.bad-limit.ensures, c.if2.true)
+unfolding corrupt_of any_of
+returns-2 c = rw (corrupt_of, any_of, ← c.before.before.before.bad-shape.ensures, c.before.before.if1.false, ← c.before.bad-limit.ensures, c.if2.true)
 
 bad-control-requires : tie.Need-bad-control-requires
 bad-control-requires c κs = search rules
 
 returns-3 : tie.Need-returns-3
-unfolding corruptOf any_of
+unfolding corrupt_of any_of
 returns-3 c =
     let at-bad-limit = c.before.before.before.before in
     rw (
-      corruptOf,
+      corrupt_of,
       any_of,
       ← at-bad-limit.before.before.bad-shape.ensures,
       at-bad-limit.before.if1.false,
@@ -40,15 +40,15 @@ returns-3 c =
     )
 
 bad-lanes-requires : tie.Need-bad-lanes-requires
-bad-lanes-requires c κs = let b = shape-bounds _ (sym c.before.before.before.before.before.before.bad-shape.ensures ∙ c.before.before.before.before.before.if1.false) in (b.1, b.3)
+bad-lanes-requires c κs = let b = shape_bounds _ (sym c.before.before.before.before.before.before.bad-shape.ensures ∙ c.before.before.before.before.before.if1.false) in (b.1, b.3)
 
 returns-4 : tie.Need-returns-4
-unfolding corruptOf any_of
+unfolding corrupt_of any_of
 returns-4 c =
     let at-bad-control = c.before.before.before in
     let at-bad-limit = at-bad-control.before.before.before in
     rw (
-      corruptOf,
+      corrupt_of,
       any_of,
       ← at-bad-limit.before.before.bad-shape.ensures,
       at-bad-limit.before.if1.false,
@@ -61,16 +61,16 @@ returns-4 c =
     )
 
 bad-blocks-requires : tie.Need-bad-blocks-requires
-bad-blocks-requires c κs = let at-if1 = c.before.before.before.before.before.before.before in (shape-bounds _ (sym at-if1.before.bad-shape.ensures ∙ at-if1.if1.false)).5
+bad-blocks-requires c κs = let at-if1 = c.before.before.before.before.before.before.before in (shape_bounds _ (sym at-if1.before.bad-shape.ensures ∙ at-if1.if1.false)).5
 
 returns-5 : tie.Need-returns-5
-unfolding corruptOf any_of
+unfolding corrupt_of any_of
 returns-5 c =
     let at-bad-lanes = c.before.before.before in
     let at-bad-control = at-bad-lanes.before.before in
     let at-bad-limit = at-bad-control.before.before.before in
     rw (
-      corruptOf,
+      corrupt_of,
       any_of,
       ← at-bad-limit.before.before.bad-shape.ensures,
       at-bad-limit.before.if1.false,
@@ -85,16 +85,16 @@ returns-5 c =
     )
 
 overrun-requires : tie.Need-overrun-requires
-overrun-requires c κs = let at-if1 = c.before.before.before.before.before.before.before.before.before in (shape-bounds _ (sym at-if1.before.bad-shape.ensures ∙ at-if1.if1.false)).1
+overrun-requires c κs = let at-if1 = c.before.before.before.before.before.before.before.before.before in (shape_bounds _ (sym at-if1.before.bad-shape.ensures ∙ at-if1.if1.false)).1
 
 returns-6 : tie.Need-returns-6
-unfolding corruptOf any_of
+unfolding corrupt_of any_of
 returns-6 c =
     let at-bad-lanes = c.before.before.before.before in
     let at-bad-control = at-bad-lanes.before.before in
     let at-bad-limit = at-bad-control.before.before.before in
     rw (
-      corruptOf,
+      corrupt_of,
       any_of,
       ← at-bad-limit.before.before.bad-shape.ensures,
       at-bad-limit.before.if1.false,

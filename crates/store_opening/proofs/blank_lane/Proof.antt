@@ -1,5 +1,5 @@
 -- `store_opening::blank_lane` meets its contract. Assumes nothing.
-use Rattle.store.specs.Opening.{blankLane}
+use Rattle.store.specs.Opening.{blank_lane}
 use borrow.Author.Rules.{rules}
 use Rattle.store_opening.proofs.blank_lane.Statement.{statement}
 use Rattle.store_opening.proofs.blank_lane.Tie as tie
@@ -8,7 +8,7 @@ blank-line-requires : tie.Need-blank-line-requires
 blank-line-requires c κs = search rules
 
 returns : tie.Need-returns
-unfolding blankLane
+unfolding blank_lane
 returns c = rw c.blank-line.ensures
 
 pub blank-lane-spec : {M : Type 1} → statement M

@@ -15,7 +15,7 @@ free-slot-requires c κs = search rules
 
 returns : tie.Need-returns
 unfolding fresh_of
-returns c = rw (fresh_of, c.free-slot.ensures, c.before.blank-block.ensures, c.before.before.blank-lane.ensures)
+returns c = rw (fresh_of, c.free-slot.ensures, c.before.blank_block_lem.ensures, c.before.before.blank-lane.ensures)
 
 pub fresh-spec : {M : Type 1} → statement M
 fresh-spec =

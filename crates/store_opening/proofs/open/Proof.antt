@@ -1,5 +1,5 @@
 -- `store_opening::open` meets its contract. Assumes nothing.
-use Rattle.store.specs.Opening.{openOf}
+use Rattle.store.specs.Opening.{open_of}
 use borrow.Author.Rules.{rules}
 use Rattle.store_opening.proofs.open.Statement.{statement}
 use Rattle.store_opening.proofs.open.Tie as tie
@@ -11,8 +11,8 @@ blank-requires : tie.Need-blank-requires
 blank-requires c κs = search rules
 
 returns : tie.Need-returns
-unfolding openOf
-returns c = rw (openOf, ← c.before.before.bad-shape.ensures, c.before.if1.true, c.blank.ensures)
+unfolding open_of
+returns c = rw (open_of, ← c.before.before.bad-shape.ensures, c.before.if1.true, c.blank.ensures)
 
 bad-limit-requires : tie.Need-bad-limit-requires
 bad-limit-requires c κs = search rules
@@ -21,11 +21,11 @@ blank-requires-2 : tie.Need-blank-requires-2
 blank-requires-2 c κs = search rules
 
 returns-2 : tie.Need-returns-2
-unfolding openOf
+unfolding open_of
 returns-2 c =
     let at-bad-limit = c.before.before in
     rw (
-      openOf,
+      open_of,
       ← at-bad-limit.before.before.bad-shape.ensures,
       at-bad-limit.before.if1.false,
       ← at-bad-limit.bad-limit.ensures,
@@ -37,11 +37,11 @@ fresh-requires : tie.Need-fresh-requires
 fresh-requires c κs = search rules
 
 returns-3 : tie.Need-returns-3
-unfolding openOf
+unfolding open_of
 returns-3 c =
     let at-bad-limit = c.before.before in
     rw (
-      openOf,
+      open_of,
       ← at-bad-limit.before.before.bad-shape.ensures,
       at-bad-limit.before.if1.false,
       ← at-bad-limit.bad-limit.ensures,

@@ -1,19 +1,19 @@
 -- `store_picture::valid_in` meets its contract. Assumes nothing.
 use mathlib.Core.Path.{◌≡◌, sym}
 use lib.ListN.{get_or}
-use Rattle.words.specs.Lines.{noLine}
+use Rattle.words.specs.Lines.{no_line}
 use native.Mathlib.Omega.{arith}
 use borrow.Author.Rules.{rules}
 use Prim.Native.Nat.{◌-◌, ◌≤◌}
 use mathlib.Core.Path.{◌≡◌}
-use Rattle.words.proofs.Folds.{count_none, count-more, count_most}
-use Rattle.store_picture.specs.Records.{validIn}
-use Rattle.store_picture.proofs.Records.{one-most}
+use Rattle.words.proofs.Folds.{count_none, count_more, count_most}
+use Rattle.store_picture.specs.Records.{valid_in}
+use Rattle.store_picture.proofs.Records.{one_most}
 use Rattle.store_picture.proofs.valid_in.Statement.{statement}
 use Rattle.store_picture.proofs.valid_in.Tie as tie
 
 abbrev invariant-loop : tie.invariant-loop
-invariant-loop c l count₀ i₀ count i = (i ≤ c) × (count ≡ validIn l i)
+invariant-loop c l count₀ i₀ count i = (i ≤ c) × (count ≡ valid_in l i)
 
 abbrev decreases-loop : tie.decreases-loop
 decreases-loop c l count₀ i₀ count i = c - i
@@ -34,7 +34,7 @@ one-requires : tie.Need-one-requires invariant-loop decreases-loop
 one-requires c κs = search rules
 
 add-count : tie.Need-overflow-add-count invariant-loop decreases-loop
-add-count c = omega (arith, count_most (λ i. (get_or c.before.before.before.before.args.t1.lines i noLine).valid) c.before.before.before.loop.i, one-most (get_or c.before.before.before.before.args.t1.lines c.before.before.before.loop.i noLine).valid)
+add-count c = omega (arith, count_most (λ i. (get_or c.before.before.before.before.args.t1.lines i no_line).valid) c.before.before.before.loop.i, one_most (get_or c.before.before.before.before.args.t1.lines c.before.before.before.loop.i no_line).valid)
 
 add-i : tie.Need-overflow-add-i invariant-loop decreases-loop
 add-i c = search rules
@@ -43,7 +43,7 @@ loop-less : tie.Need-loop-smaller invariant-loop decreases-loop
 loop-less c = search rules
 
 loop-again : tie.Need-loop-preserved invariant-loop decreases-loop
-loop-again c = (omega arith, rw (c.before.before.before.loop.invariant.1, c.one.ensures, count-more))
+loop-again c = (omega arith, rw (c.before.before.before.loop.invariant.1, c.one.ensures, count_more))
 
 returns : tie.Need-returns invariant-loop decreases-loop
 returns c = let e : c.before.loop.i ≡ c.before.before.args.c = omega arith in rw (c.before.loop.invariant.1, e)

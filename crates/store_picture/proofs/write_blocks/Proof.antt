@@ -4,31 +4,31 @@ use native.Mathlib.Omega.{arith}
 use mathlib.Core.Path.{◌≡◌, ap}
 use lib.ListN.{length}
 use borrow.Author.Rules.{rules}
-use Rattle.words.specs.Folds.{gatherTo}
+use Rattle.words.specs.Folds.{gather_to}
 use Rattle.buffers.proofs.Writing.{Wrote, written_none}
-use Rattle.store_picture.specs.Records.{blockRecords}
-use Rattle.store_picture.proofs.Records.{gather_none, wrote-more, wrote_kept, wrote-fits, picture-blocks}
+use Rattle.store_picture.specs.Records.{block_records}
+use Rattle.store_picture.proofs.Records.{gather_none, wrote_more, wrote_kept, wrote_fits, picture_blocks}
 use Rattle.store_picture.proofs.write_blocks.Statement.{statement}
 use Rattle.store_picture.proofs.write_blocks.Tie as tie
 
 abbrev invariant-loop : tie.invariant-loop
-invariant-loop buffer₀ s m place₀ a₀ buffer place a = (a ≤ m) × Wrote buffer₀ 0 (gatherTo (blockRecords s) a) place buffer
+invariant-loop buffer₀ s m place₀ a₀ buffer place a = (a ≤ m) × Wrote buffer₀ 0 (gather_to (block_records s) a) place buffer
 
 abbrev decreases-loop : tie.decreases-loop
 decreases-loop buffer₀ s m place₀ a₀ buffer place a = m - a
 
 loop-holds : tie.Need-loop-init invariant-loop decreases-loop
-loop-holds c = (omega arith, rw (gather_none (blockRecords c.before.args.s)) (omega arith, written_none _ _))
+loop-holds c = (omega arith, rw (gather_none (block_records c.before.args.s)) (omega arith, written_none _ _))
 
 write-block-requires : tie.Need-write-block-requires invariant-loop decreases-loop
 write-block-requires c κs =
     let at-loop = c.before.before in
     let start = at-loop.before.before in
     let g = start.args in
-    let l = ap length (picture-blocks g.s) in (
+    let l = ap length (picture_blocks g.s) in (
       start.requires.0,
       start.requires.1,
-      wrote-fits (blockRecords g.s) at-loop.loop.a g.s.shape.m g.buffer.now 0 at-loop.loop.invariant.1 (omega arith) (omega arith),
+      wrote_fits (block_records g.s) at-loop.loop.a g.s.shape.m g.buffer.now 0 at-loop.loop.invariant.1 (omega arith) (omega arith),
     )
 
 add_a : tie.Need-overflow-add-a invariant-loop decreases-loop
@@ -43,9 +43,9 @@ loop-again c =
     let at-loop = at-write-block.before.before.before in
     let start = at-loop.before.before in
     let g = start.args in
-    let l = ap length (picture-blocks g.s) in (
+    let l = ap length (picture_blocks g.s) in (
       omega arith,
-      wrote-more (blockRecords g.s) _ g.s.shape.m _ _ at-loop.loop.invariant.1 at-write-block.write-block.ensures (omega arith) (omega arith),
+      wrote_more (block_records g.s) _ g.s.shape.m _ _ at-loop.loop.invariant.1 at-write-block.write-block.ensures (omega arith) (omega arith),
     )
 
 same_length : tie.Need-same-length invariant-loop decreases-loop
@@ -53,14 +53,14 @@ same_length c =
     let at-loop = c.before in
     let start = at-loop.before.before in
     let g = start.args in
-    let l = ap length (picture-blocks g.s) in
-    wrote_kept (blockRecords g.s) at-loop.loop.a g.s.shape.m g.buffer.now 0 at-loop.loop.invariant.1 at-loop.loop.invariant.0 (omega arith)
+    let l = ap length (picture_blocks g.s) in
+    wrote_kept (block_records g.s) at-loop.loop.a g.s.shape.m g.buffer.now 0 at-loop.loop.invariant.1 at-loop.loop.invariant.0 (omega arith)
 
 returns : tie.Need-returns invariant-loop decreases-loop
 returns c =
     let e : c.before.loop.a ≡ c.before.before.before.args.s.shape.m = omega arith in
     let w = rw e at c.before.loop.invariant.1 in
-    rw (picture-blocks c.before.before.before.args.s) (omega arith, w.1)
+    rw (picture_blocks c.before.before.before.args.s) (omega arith, w.1)
 
 pub write-blocks-spec : {M : Type 1} → statement M
 write-blocks-spec =

@@ -5,7 +5,7 @@ use mathlib.Core.Path.{sym, ◌∙◌}
 use lib.ListN.{length, length-take, length-drop}
 use borrow.Author.Rules.{rules}
 use Rattle.buffers.proofs.Writing.{written_none}
-use Rattle.store_picture.proofs.Records.{part-written, record-length, line-holds, line_other, holds-length}
+use Rattle.store_picture.proofs.Records.{part_written, record_length, line_holds, line_other, holds_length}
 use Rattle.store_picture.proofs.write_line.Statement.{statement}
 use Rattle.store_picture.proofs.write_line.Tie as tie
 
@@ -25,7 +25,7 @@ write-record-requires : tie.Need-write-record-requires
 write-record-requires c κs =
     let at-if1 = c.before in
     let start = at-if1.before.before.before in
-    let l = holds-length start.args.a.0 start.args.k.0 start.args.x (sym at-if1.before.holds.ensures ∙ at-if1.if1.true) in
+    let l = holds_length start.args.a.0 start.args.k.0 start.args.x (sym at-if1.before.holds.ensures ∙ at-if1.if1.true) in
     simp (length-take, length-drop) (omega arith)
 
 add-result : tie.Need-overflow-add-result
@@ -39,10 +39,10 @@ returns c =
     let at-if1 = c.before.before.before.before in
     let start = at-if1.before.before.before in
     let h = sym at-if1.before.holds.ensures ∙ at-if1.if1.true in
-    let l = holds-length start.args.a.0 start.args.k.0 start.args.x h in
+    let l = holds_length start.args.a.0 start.args.k.0 start.args.x h in
     let e : start.args.at + 19 ≤ length start.args.buffer.now = omega arith in
-    rw (line-holds start.args.a.0 start.args.k.0 start.args.x h)
-    (omega (arith, record-length start.args.k.0 start.args.x), part-written _ _ _ (omega arith) c.before.before.write-record.ensures)
+    rw (line_holds start.args.a.0 start.args.k.0 start.args.x h)
+    (omega (arith, record_length start.args.k.0 start.args.x), part_written _ _ _ (omega arith) c.before.before.write-record.ensures)
 
 returns-2 : tie.Need-returns-2
 returns-2 c =

@@ -1,7 +1,7 @@
 -- `store_picture::write_record` meets its contract: three bytes, then four words, each after the one before. Assumes nothing.
 use native.Mathlib.Omega.{arith}
 use Rattle.buffers.proofs.Writing.{wrote_then}
-use Rattle.machine.specs.machine.Picture.{recordBytes}
+use Rattle.machine.specs.Machine.Picture.{record_bytes}
 use borrow.Author.Rules.{rules}
 use Rattle.store_picture.proofs.write_record.Statement.{statement}
 use Rattle.store_picture.proofs.write_record.Tie as tie
@@ -37,7 +37,7 @@ same_length : tie.Need-same-length
 same_length c = search rules
 
 returns : tie.Need-returns
-unfolding recordBytes
+unfolding record_bytes
 returns c =
     let at-write-word4 = c.before.before in
     let at-write-word3 = at-write-word4.before.before.before.before.before in

@@ -1,5 +1,5 @@
 -- `store_places::begun` meets its contract. Assumes nothing.
-use Rattle.machine.specs.machine.Begun.{begunIn}
+use Rattle.machine.specs.Machine.Begun.{begun_in}
 use borrow.Author.Rules.{rules}
 use Rattle.store_places.proofs.begun.Statement.{statement}
 use Rattle.store_places.proofs.begun.Tie as tie
@@ -14,7 +14,7 @@ add-result : tie.Need-overflow-add-result
 add-result c = search rules
 
 returns : tie.Need-returns
-unfolding begunIn
+unfolding begun_in
 returns c = rw c.before.waiting.ensures.0
 
 pub begun-spec : {M : Type 1} → statement M

@@ -1,12 +1,12 @@
 -- `store_places::exhausted` meets its contract: far from the last place, and by the sum. Assumes nothing.
 use mathlib.Core.Path.{sym}
-use Rattle.store_places.proofs.Far.{far-left}
+use Rattle.store_places.proofs.Far.{far_left}
 use borrow.Author.Rules.{rules}
 use Rattle.store_places.proofs.exhausted.Statement.{statement}
 use Rattle.store_places.proofs.exhausted.Tie as tie
 
 returns : tie.Need-returns
-returns c = sym (far-left _ c.before.before.requires c.if1.true)
+returns c = sym (far_left _ c.before.before.requires c.if1.true)
 
 begun-requires : tie.Need-begun-requires
 begun-requires c κs = search rules

@@ -5,15 +5,15 @@ use mathlib.Core.Bool.{not}
 use mathlib.Core.Path.{◌≡◌, sym, ◌∙◌}
 use borrow.Author.Rules.{rules}
 use Rattle.words.specs.Folds.{count_to}
-use Rattle.words.proofs.Folds.{count_none, count-more}
-use Rattle.lanes.specs.Waits.{idleOf}
-use Rattle.store.specs.Stores.{laneAt}
-use Rattle.machine.specs.machine.Begun.{waitingIn}
+use Rattle.words.proofs.Folds.{count_none, count_more}
+use Rattle.lanes.specs.Waits.{idle_of}
+use Rattle.store.specs.Stores.{lane_at}
+use Rattle.machine.specs.Machine.Begun.{waiting_in}
 use Rattle.store_places.proofs.waiting.Statement.{statement}
 use Rattle.store_places.proofs.waiting.Tie as tie
 
 abbrev invariant-loop : tie.invariant-loop
-invariant-loop s n sum₀ k₀ sum k = (k ≤ n) × (sum ≡ count_to (λ j. not (idleOf (laneAt s j).waiting)) k) × (sum ≤ k)
+invariant-loop s n sum₀ k₀ sum k = (k ≤ n) × (sum ≡ count_to (λ j. not (idle_of (lane_at s j).waiting)) k) × (sum ≤ k)
 
 abbrev decreases-loop : tie.decreases-loop
 decreases-loop s n sum₀ k₀ sum k = n - k
@@ -45,12 +45,12 @@ loop-less c = search rules
 loop-again : tie.Need-loop-preserved invariant-loop decreases-loop
 loop-again c = (
   omega arith,
-  rw (c.before.before.before.loop.invariant.1, c.waits.ensures.0, count-more),
+  rw (c.before.before.before.loop.invariant.1, c.waits.ensures.0, count_more),
   omega (arith, c.waits.ensures.1, c.before.before.before.loop.invariant.2),
 )
 
 returns : tie.Need-returns invariant-loop decreases-loop
-unfolding waitingIn
+unfolding waiting_in
 returns c =
     let e : c.before.loop.k ≡ c.before.before.args.t1.shape.n = omega arith in
     (c.before.loop.invariant.1 ∙ rw e, omega (arith, c.before.loop.invariant.2))

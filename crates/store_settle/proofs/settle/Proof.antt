@@ -1,6 +1,6 @@
 -- `store_settle::settle` meets its contract. Assumes nothing.
 use mathlib.Core.Path.{sym, ◌∙◌}
-use Rattle.machine.specs.machine.Settle.{settleOf}
+use Rattle.machine.specs.Machine.Settle.{settle_of}
 use borrow.Author.Rules.{rules}
 use Rattle.store_settle.proofs.settle.Statement.{statement}
 use Rattle.store_settle.proofs.settle.Tie as tie
@@ -12,8 +12,8 @@ refuse-requires : tie.Need-refuse-requires
 refuse-requires c κs = search rules
 
 returns : tie.Need-returns
-unfolding settleOf
-returns c = (c.refuse.ensures.0 ∙ rw (settleOf, ← c.before.before.corrupt.ensures, c.before.if1.true), c.refuse.ensures.1)
+unfolding settle_of
+returns c = (c.refuse.ensures.0 ∙ rw (settle_of, ← c.before.before.corrupt.ensures, c.before.if1.true), c.refuse.ensures.1)
 
 settle-sound-requires : tie.Need-settle-sound-requires
 settle-sound-requires c κs = sym c.before.corrupt.ensures ∙ c.if1.false

@@ -2,8 +2,8 @@
 use borrow.Author.Rules.{rules}
 use native.Mathlib.Omega.{arith}
 use mathlib.Core.Path.{sym, ◌∙◌}
-use Rattle.machine.proofs.bounds.Sound.{sound}
-use Rattle.store_settle_step.proofs.Taken.{refused-serve, counted-serve}
+use Rattle.machine.proofs.Bounds.Sound.{sound}
+use Rattle.store_settle_step.proofs.Taken.{refused_serve, counted_serve}
 use Rattle.store_settle_step.proofs.serve_step.Statement.{statement}
 use Rattle.store_settle_step.proofs.serve_step.Tie as tie
 
@@ -20,7 +20,7 @@ returns : tie.Need-returns
 returns c =
     let at-refused = c.before.before in
     let at-serve = at-refused.before in
-    c.without-orders.ensures ∙ refused-serve _ _ _ at-serve.serve-sound.ensures (sym at-refused.refused.ensures ∙ c.before.if1.true)
+    c.without-orders.ensures ∙ refused_serve _ _ _ at-serve.serve-sound.ensures (sym at-refused.refused.ensures ∙ c.before.if1.true)
 
 cast-i : tie.Need-overflow-cast-i
 cast-i c = search rules
@@ -31,7 +31,7 @@ mul-l c = search rules
 element-copy-out-l : tie.Need-element-copy-out-l
 element-copy-out-l c =
     let start = c.before.before.before.before in
-    let h = (sound _ start.requires.0).n-high in
+    let h = (sound _ start.requires.0).n_high in
     let k = start.requires.1 in
     omega arith
 
@@ -44,7 +44,7 @@ returns-2 c =
     let at-refused = at-if1.before in
     let at-serve = at-refused.before in
     let start = at-serve.before in
-    counted-serve _ _ _ at-serve.serve-sound.ensures start.requires.0 start.requires.2 (sym at-refused.refused.ensures ∙ at-if1.if1.false) _ c.sent-for.ensures
+    counted_serve _ _ _ at-serve.serve-sound.ensures start.requires.0 start.requires.2 (sym at-refused.refused.ensures ∙ at-if1.if1.false) _ c.sent-for.ensures
 
 pub serve-step-spec : {M : Type 1} → statement M
 serve-step-spec =

@@ -2,7 +2,7 @@
 use borrow.Author.Rules.{rules}
 use mathlib.Core.Path.{◌∙◌}
 use Rattle.lanes.specs.UseOrder.{LoadsOldest}
-use Rattle.machine.proofs.settle.StepOrders.{deliver-queues, return-queues}
+use Rattle.machine.proofs.Settle.StepOrders.{deliver_queues, return_queues}
 use Rattle.store_settle_step.proofs.Taken.{taken_none}
 use Rattle.store_settle_step.proofs.take_step.Statement.{statement}
 use Rattle.store_settle_step.proofs.take_step.Tie as tie
@@ -35,13 +35,13 @@ returns : tie.Need-returns
 returns c =
     let at_told = c.before.before in
     let start = at_told.before.before in
-    c.without-orders.ensures ∙ rw at_told.enum_told.given.1 (taken_none start.args.s _ _ c.before.deliver-sound.ensures (deliver-queues start.args.s start.requires.0 start.requires.2 start.args.k LoadsOldest))
+    c.without-orders.ensures ∙ rw at_told.enum_told.given.1 (taken_none start.args.s _ _ c.before.deliver-sound.ensures (deliver_queues start.args.s start.requires.0 start.requires.2 start.args.k LoadsOldest))
 
 returns-2 : tie.Need-returns-2
 returns-2 c =
     let at_told = c.before.before in
     let start = at_told.before.before in
-    c.without-orders2.ensures ∙ rw at_told.enum-told2.given.1 (taken_none start.args.s _ _ c.before.return-sound.ensures (return-queues start.args.s start.requires.0 start.requires.2 start.args.k))
+    c.without-orders2.ensures ∙ rw at_told.enum-told2.given.1 (taken_none start.args.s _ _ c.before.return-sound.ensures (return_queues start.args.s start.requires.0 start.requires.2 start.args.k))
 
 returns-3 : tie.Need-returns-3
 returns-3 c = rw (c.before.enum-told3.given.1, c.serve-step.ensures)

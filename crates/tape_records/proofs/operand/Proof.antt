@@ -1,5 +1,5 @@
 -- `tape_records::operand` meets its contract. Assumes nothing.
-use Rattle.tape_records.proofs.Parts.{rest-is}
+use Rattle.tape_records.proofs.Parts.{rest_is}
 use borrow.Author.Rules.{rules}
 use Rattle.tape_records.proofs.operand.Statement.{statement}
 use Rattle.tape_records.proofs.operand.Tie as tie
@@ -17,7 +17,7 @@ value-requires : tie.Need-value-requires
 value-requires c κs = search rules
 
 returns : tie.Need-returns
-returns c = rw (c.value.ensures, rest-is 2 c.before.before.before.args.body.now)
+returns c = rw (c.value.ensures, rest_is 2 c.before.before.before.args.body.now)
 
 pub operand-spec : {M : Type 1} → statement M
 operand-spec =

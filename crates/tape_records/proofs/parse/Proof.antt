@@ -1,7 +1,7 @@
 -- `tape_records::parse` meets its contract: truncated with no byte or too few, unknown, or the fields after the first byte. Assumes nothing.
 use mathlib.Core.Path.{sym, ◌∙◌}
-use Rattle.tape_records.proofs.Parts.{rest-is, rest-length}
-use Rattle.tape_records.proofs.Parsing.{parse-empty, parse-unknown, parse-truncated, parse-whole}
+use Rattle.tape_records.proofs.Parts.{rest_is, rest_length}
+use Rattle.tape_records.proofs.Parsing.{parse_empty, parse_unknown, parse_truncated, parse_whole}
 use borrow.Author.Rules.{rules}
 use Rattle.tape_records.proofs.parse.Statement.{statement}
 use Rattle.tape_records.proofs.parse.Tie as tie
@@ -10,7 +10,7 @@ last-requires : tie.Need-last-requires
 last-requires c κs = search rules
 
 returns : tie.Need-returns
-returns c = c.last.ensures ∙ parse-empty c.before.before.before.args.tape.now c.before.if1.true
+returns c = c.last.ensures ∙ parse_empty c.before.before.before.args.tape.now c.before.if1.true
 
 shared-slice-read-form-of : tie.Need-shared-slice-read-form-of
 shared-slice-read-form-of c = search rules
@@ -39,8 +39,8 @@ returns-2 c =
     let at-known = at-if2.before in
     let at-form-of = at-known.before in
     let start = at-form-of.before.before.before.before in
-    c.last2.ensures ∙ parse-truncated start.args.tape.now at-form-of.form_of.ensures
-    (sym at-known.known.ensures ∙ at-if2.if2.true) (rw (rest-length 1 start.args.tape.now) at c.before.if3.true)
+    c.last2.ensures ∙ parse_truncated start.args.tape.now at-form-of.form_of.ensures
+    (sym at-known.known.ensures ∙ at-if2.if2.true) (rw (rest_length 1 start.args.tape.now) at c.before.if3.true)
 
 fields-requires : tie.Need-fields-requires
 fields-requires c κs = rw c.before.before.before.before.form_of.ensures (rw c.before.before.before.before.form_of.ensures at c.if3.false)
@@ -54,9 +54,9 @@ returns-3 c =
     let at-known = at-if2.before in
     let at-form-of = at-known.before in
     let start = at-form-of.before.before.before.before in
-    parse-whole start.args.tape.now at-form-of.form_of.ensures (sym at-known.known.ensures ∙ at-if2.if2.true)
-    (rw (rest-length 1 start.args.tape.now) at c.before.if3.false)
-    (c.fields.ensures ∙ rw (rest-is 1 start.args.tape.now))
+    parse_whole start.args.tape.now at-form-of.form_of.ensures (sym at-known.known.ensures ∙ at-if2.if2.true)
+    (rw (rest_length 1 start.args.tape.now) at c.before.if3.false)
+    (c.fields.ensures ∙ rw (rest_is 1 start.args.tape.now))
 
 last-requires-3 : tie.Need-last-requires-3
 last-requires-3 c κs = search rules
@@ -65,7 +65,7 @@ returns-4 : tie.Need-returns-4
 returns-4 c =
     let at-form-of = c.before.before.before in
     let start = at-form-of.before.before.before.before in
-    c.last3.ensures ∙ parse-unknown start.args.tape.now at-form-of.form_of.ensures
+    c.last3.ensures ∙ parse_unknown start.args.tape.now at-form-of.form_of.ensures
     (sym c.before.before.known.ensures ∙ c.before.if2.false)
 
 pub parse-spec : {M : Type 1} → statement M

@@ -2,13 +2,13 @@
 use native.Mathlib.Nat.{zero-add}
 use mathlib.Core.Path.{refl, ap, ◌∙◌}
 use Rattle.machine.specs.declared.Filled.TheVariants.{Length}
-use Rattle.tape_replay.proofs.Prints.{print-short, print-fits, printed-long}
+use Rattle.tape_replay.proofs.Prints.{print_short, print_fits, printed_long}
 use borrow.Author.Rules.{rules}
 use Rattle.tape_replay.proofs.print.Statement.{statement}
 use Rattle.tape_replay.proofs.print.Tie as tie
 
 returns : tie.Need-returns
-returns c = rw (print-short c.before.before.before.args.tape.now c.before.before.before.args.out.now c.if1.true) (refl, refl)
+returns c = rw (print_short c.before.before.before.args.tape.now c.before.before.before.args.out.now c.if1.true) (refl, refl)
 
 too-long-into-requires : tie.Need-too-long-into-requires
 too-long-into-requires c κs = search rules
@@ -21,8 +21,8 @@ returns-2 c =
     let at-if2 = c.before.before.before.before in
     let at-if1 = at-if2.before in
     let start = at-if1.before.before.before in
-    let fits = print-fits start.args.tape.now start.args.out.now at-if1.if1.false in
-    rw (fits, printed-long start.args.tape.now start.args.out.now at-if2.if2.true)
+    let fits = print_fits start.args.tape.now start.args.out.now at-if1.if1.false in
+    rw (fits, printed_long start.args.tape.now start.args.out.now at-if2.if2.true)
     (ap Length (c.before.before.too-long-into.ensures.0 ∙ zero-add _), c.before.before.too-long-into.ensures.1)
 
 print-records-requires : tie.Need-print-records-requires
@@ -35,7 +35,7 @@ returns-3 : tie.Need-returns-3
 returns-3 c =
     let at-if1 = c.before.before.before.before.before in
     let start = at-if1.before.before.before in
-    rw (print-fits start.args.tape.now start.args.out.now at-if1.if1.false)
+    rw (print_fits start.args.tape.now start.args.out.now at-if1.if1.false)
     (rw c.before.before.print-records.ensures.0, c.before.before.print-records.ensures.1)
 
 pub print-spec : {M : Type 1} → statement M

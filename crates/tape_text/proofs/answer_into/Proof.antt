@@ -1,5 +1,5 @@
 -- `tape_text::answer_into` meets its contract. Assumes nothing.
-use Rattle.machine.specs.machine.Text.{answerText}
+use Rattle.machine.specs.Machine.Text.{answer_text}
 use borrow.Author.Rules.{rules}
 use Rattle.tape_text.proofs.answer_into.Statement.{statement}
 use Rattle.tape_text.proofs.answer_into.Tie as tie
@@ -38,7 +38,7 @@ same_length : tie.Need-same-length
 same_length c = search rules
 
 returns : tie.Need-returns
-unfolding answerText
+unfolding answer_text
 returns c = rw c.before.before.before.before.enum_told.given.1 c.before.before.put4.ensures
 
 same-length-2 : tie.Need-same-length-2
@@ -51,21 +51,21 @@ same-length-3 : tie.Need-same-length-3
 same-length-3 c = search rules
 
 returns-3 : tie.Need-returns-3
-unfolding answerText
+unfolding answer_text
 returns-3 c = rw c.before.before.before.before.enum-told2.given.1 c.before.before.put42.ensures
 
 same-length-4 : tie.Need-same-length-4
 same-length-4 c = search rules
 
 returns-4 : tie.Need-returns-4
-unfolding answerText
+unfolding answer_text
 returns-4 c = rw c.before.before.before.before.enum-told3.given.1 c.before.before.put43.ensures
 
 same-length-5 : tie.Need-same-length-5
 same-length-5 c = search rules
 
 returns-5 : tie.Need-returns-5
-unfolding answerText
+unfolding answer_text
 returns-5 c = rw c.before.before.before.before.before.a2.given.1 c.before.before.refused-into.ensures
 
 pub answer-into-spec : {M : Type 1} → statement M

@@ -1,8 +1,8 @@
 -- `tape_text::end_into` meets its contract. Assumes nothing.
 use native.Mathlib.Omega.{arith}
-use Rattle.machine.proofs.Lengths.{decimal-fits}
+use Rattle.machine.proofs.Lengths.{decimal_fits}
 use Rattle.buffers.proofs.Writing.{wrote_then}
-use Rattle.machine.specs.machine.Text.{endText}
+use Rattle.machine.specs.Machine.Text.{end_text}
 use lib.ListN.{length-append}
 use borrow.Author.Rules.{rules}
 use Rattle.tape_text.proofs.end_into.Statement.{statement}
@@ -19,19 +19,19 @@ put-requires c κs =
     let at-spaced-into = c.before.before.before in
     let at-put3 = at-spaced-into.before.before.before.before in
     let start = at-put3.before.before.before in
-    omega (arith, decimal-fits 10 start.args.count)
+    omega (arith, decimal_fits 10 start.args.count)
 
 same_length : tie.Need-same-length
 same_length c = search rules
 
 returns : tie.Need-returns
-unfolding endText
+unfolding end_text
 returns c =
     let at-put = c.before.before in
     let at-spaced-into = at-put.before.before.before.before in
     let at-put3 = at-spaced-into.before.before.before.before in
     let start = at-put3.before.before.before in
-    let n = decimal-fits 10 start.args.count in
+    let n = decimal_fits 10 start.args.count in
     wrote_then _ _ _ _ at-put3.put3.ensures
     (wrote_then _ _ _ _ at-spaced-into.spaced-into.ensures at-put.put.ensures (omega arith))
     (simp length-append (omega arith))

@@ -1,6 +1,6 @@
 -- `tape_text::refused_into` meets its contract: seven letters in two puts, then the number. Assumes nothing.
 use native.Mathlib.Omega.{arith}
-use Rattle.machine.proofs.Lengths.{decimal-fits}
+use Rattle.machine.proofs.Lengths.{decimal_fits}
 use Rattle.buffers.proofs.Writing.{wrote_then}
 use Rattle.answers.specs.Refusals.{number_of}
 use borrow.Author.Rules.{rules}
@@ -31,7 +31,7 @@ returns c =
     let at-put3 = at-number.before.before.before in
     let at-put4 = at-put3.before.before.before.before in
     let start = at-put4.before.before.before in
-    let n = decimal-fits 10 (number_of start.args.x) in
+    let n = decimal_fits 10 (number_of start.args.x) in
     let number = rw at-number.number.ensures at c.before.before.spaced-into.ensures in
     wrote_then _ _ _ _ at-put4.put4.ensures (wrote_then _ _ _ _ at-put3.put3.ensures number (omega arith)) (omega arith)
 

@@ -1,8 +1,8 @@
 -- `test_bounds::bound` meets its contract: five counts of the store, added with their weights. Assumes nothing.
 use native.Mathlib.Omega.{arith}
 use borrow.Author.Rules.{rules}
-use Rattle.machine.specs.machine.Settle.{boundOf}
-use Rattle.test_bounds.proofs.Sums.{lanes-product}
+use Rattle.machine.specs.Machine.Settle.{bound_of}
+use Rattle.test_bounds.proofs.Sums.{lanes_product}
 use Rattle.test_bounds.proofs.bound.Statement.{statement}
 use Rattle.test_bounds.proofs.bound.Tie as tie
 
@@ -43,19 +43,19 @@ mul-result-3 : tie.Need-overflow-mul-result-3
 mul-result-3 c =
     let at-unserved-in = c.before in
     let start = at-unserved-in.before.before.before.before.before in
-    omega (arith, lanes-product _ _ start.requires at-unserved-in.unserved-in.ensures.1)
+    omega (arith, lanes_product _ _ start.requires at-unserved-in.unserved-in.ensures.1)
 
 add-result-4 : tie.Need-overflow-add-result-4
 add-result-4 c =
     let at-unserved-in = c.before in
     let start = at-unserved-in.before.before.before.before.before in
-    omega (arith, lanes-product _ _ start.requires at-unserved-in.unserved-in.ensures.1)
+    omega (arith, lanes_product _ _ start.requires at-unserved-in.unserved-in.ensures.1)
 
 returns : tie.Need-returns
-unfolding boundOf
+unfolding bound_of
 returns c =
     rw (
-      boundOf,
+      bound_of,
       ← c.before.before.before.before.before.returns-in.ensures.0,
       ← c.before.before.before.before.downs-in.ensures.0,
       ← c.before.before.before.downs-in2.ensures.0,

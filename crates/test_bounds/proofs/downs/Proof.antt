@@ -8,24 +8,24 @@ use lib.ListN.{get_or}
 use borrow.Author.Rules.{rules}
 use Rattle.words.specs.Folds.{count_to}
 use Rattle.queues.specs.declared.DownQueue.{DownQueue}
-use Rattle.queues.specs.Queues.{noDown}
-use Rattle.machine.specs.machine.Settle.{is_order}
-use Rattle.test_bounds.proofs.Sums.{count-start, count_next}
+use Rattle.queues.specs.Queues.{no_down}
+use Rattle.machine.specs.Machine.Settle.{is_order}
+use Rattle.test_bounds.proofs.Sums.{count_start, count_next}
 use Rattle.test_bounds.proofs.downs.Statement.{statement}
 use Rattle.test_bounds.proofs.downs.Tie as tie
 
 -- place j has a message that is counted
-abbrev wantedAt : Bool → DownQueue → ℕ → Bool
-wantedAt order q j = ltb j q.len && cond order (is_order (get_or q.at j noDown).kind) (not (is_order (get_or q.at j noDown).kind))
+abbrev wanted_at : Bool → DownQueue → ℕ → Bool
+wanted_at order q j = ltb j q.len && cond order (is_order (get_or q.at j no_down).kind) (not (is_order (get_or q.at j no_down).kind))
 
 abbrev invariant-loop : tie.invariant-loop
-invariant-loop order q sum₀ i₀ sum i = (i ≤ 8) × (sum ≡ count_to (wantedAt order q) i) × (sum ≤ i)
+invariant-loop order q sum₀ i₀ sum i = (i ≤ 8) × (sum ≡ count_to (wanted_at order q) i) × (sum ≤ i)
 
 abbrev decreases-loop : tie.decreases-loop
 decreases-loop order q sum₀ i₀ sum i = 8 - i
 
 loop-holds : tie.Need-loop-init invariant-loop decreases-loop
-loop-holds c = (omega arith, count-start _, omega arith)
+loop-holds c = (omega arith, count_start _, omega arith)
 
 wanted-at-requires : tie.Need-wanted-at-requires invariant-loop decreases-loop
 wanted-at-requires c κs = search rules

@@ -4,20 +4,20 @@ use native.Mathlib.Omega.{arith}
 use mathlib.Core.Path.{◌≡◌, ◌∙◌}
 use borrow.Author.Rules.{rules}
 use Rattle.words.specs.Folds.{sum_to}
-use Rattle.store.specs.Stores.{laneAt}
-use Rattle.machine.specs.machine.Settle.{downsOf}
-use Rattle.test_bounds.proofs.Sums.{sum-none, sum_more}
+use Rattle.store.specs.Stores.{lane_at}
+use Rattle.machine.specs.Machine.Settle.{downs_of}
+use Rattle.test_bounds.proofs.Sums.{sum_none, sum_more}
 use Rattle.test_bounds.proofs.downs_in.Statement.{statement}
 use Rattle.test_bounds.proofs.downs_in.Tie as tie
 
 abbrev invariant-loop : tie.invariant-loop
-invariant-loop order s n sum₀ k₀ sum k = (k ≤ n) × (sum ≡ sum_to (λ j. downsOf order (laneAt s j).downs) k) × (sum ≤ 8 * k)
+invariant-loop order s n sum₀ k₀ sum k = (k ≤ n) × (sum ≡ sum_to (λ j. downs_of order (lane_at s j).downs) k) × (sum ≤ 8 * k)
 
 abbrev decreases-loop : tie.decreases-loop
 decreases-loop order s n sum₀ k₀ sum k = n - k
 
 loop-holds : tie.Need-loop-init invariant-loop decreases-loop
-loop-holds c = (omega arith, sum-none _, omega arith)
+loop-holds c = (omega arith, sum_none _, omega arith)
 
 cast-i : tie.Need-overflow-cast-i invariant-loop decreases-loop
 cast-i c = search rules

@@ -4,19 +4,19 @@ use native.Mathlib.Omega.{arith}
 use mathlib.Core.Path.{◌≡◌, ◌∙◌}
 use borrow.Author.Rules.{rules}
 use Rattle.words.specs.Folds.{sum_to}
-use Rattle.store.specs.Stores.{laneAt}
-use Rattle.test_bounds.proofs.Sums.{sum-none, sum_more}
+use Rattle.store.specs.Stores.{lane_at}
+use Rattle.test_bounds.proofs.Sums.{sum_none, sum_more}
 use Rattle.test_bounds.proofs.returns_in.Statement.{statement}
 use Rattle.test_bounds.proofs.returns_in.Tie as tie
 
 abbrev invariant-loop : tie.invariant-loop
-invariant-loop s n sum₀ lane₀ sum lane = (lane ≤ n) × (sum ≡ sum_to (λ k. (laneAt s k).returns.len) lane) × (sum ≤ 255 * lane)
+invariant-loop s n sum₀ lane₀ sum lane = (lane ≤ n) × (sum ≡ sum_to (λ k. (lane_at s k).returns.len) lane) × (sum ≤ 255 * lane)
 
 abbrev decreases-loop : tie.decreases-loop
 decreases-loop s n sum₀ lane₀ sum lane = n - lane
 
 loop-holds : tie.Need-loop-init invariant-loop decreases-loop
-loop-holds c = (omega arith, sum-none _, omega arith)
+loop-holds c = (omega arith, sum_none _, omega arith)
 
 cast-i : tie.Need-overflow-cast-i invariant-loop decreases-loop
 cast-i c = search rules

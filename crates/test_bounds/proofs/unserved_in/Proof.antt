@@ -5,20 +5,20 @@ use mathlib.Core.Bool.{Bool, cond}
 use mathlib.Core.Path.{◌≡◌, ◌∙◌, ap}
 use borrow.Author.Rules.{rules}
 use Rattle.words.specs.Folds.{count_to}
-use Rattle.lanes.specs.Waits.{unservedOf}
-use Rattle.store.specs.Stores.{laneAt}
-use Rattle.test_bounds.proofs.Sums.{count-start, count_next}
+use Rattle.lanes.specs.Waits.{unserved_of}
+use Rattle.store.specs.Stores.{lane_at}
+use Rattle.test_bounds.proofs.Sums.{count_start, count_next}
 use Rattle.test_bounds.proofs.unserved_in.Statement.{statement}
 use Rattle.test_bounds.proofs.unserved_in.Tie as tie
 
 abbrev invariant-loop : tie.invariant-loop
-invariant-loop s n sum₀ k₀ sum k = (k ≤ n) × (sum ≡ count_to (λ j. unservedOf (laneAt s j).waiting) k) × (sum ≤ k)
+invariant-loop s n sum₀ k₀ sum k = (k ≤ n) × (sum ≡ count_to (λ j. unserved_of (lane_at s j).waiting) k) × (sum ≤ k)
 
 abbrev decreases-loop : tie.decreases-loop
 decreases-loop s n sum₀ k₀ sum k = n - k
 
 loop-holds : tie.Need-loop-init invariant-loop decreases-loop
-loop-holds c = (omega arith, count-start _, omega arith)
+loop-holds c = (omega arith, count_start _, omega arith)
 
 cast-i : tie.Need-overflow-cast-i invariant-loop decreases-loop
 cast-i c = search rules
