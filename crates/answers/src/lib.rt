@@ -1,4 +1,6 @@
 // What a call answers: the documents' refusals by name, completions, and the answer itself.
+#![tactic(auto)]
+
 ghost use Rattle.std.specs.Prelude.{◌≡◌};
 ghost use Rattle.answers.specs.Refusals.{number_of, refused_of};
 ghost use Rattle.answers.specs.Completions.{completion_of};
@@ -6,7 +8,7 @@ ghost use Rattle.answers.specs.Completions.{completion_of};
 use words::LaneNo;
 
 // Why a call is refused. Behind each: its number, and 01's word.
-#[derive(Drop)]
+#[derive(Clone, Copy)]
 pub enum Refusal {
     Truncated, // 1, cut: a tape ends inside a record
     UnknownKind, // 2, stranger: no record has this kind
@@ -57,7 +59,7 @@ impl Refusal {
 }
 
 // An operation that is done: its lane, the value it gives, and its place among the completions since opening, counting from 1.
-#[derive(Drop)]
+#[derive(Clone, Copy)]
 pub struct Completion {
     pub lane: LaneNo,
     pub value: u32,
@@ -76,7 +78,7 @@ pub fn completed(k: LaneNo, v: u32, p: u32) -> Completion
 }
 
 // What a call or a tape's record answers.
-#[derive(Drop)]
+#[derive(Clone, Copy)]
 pub enum Answer {
     Opened,
     Done(Completion),

@@ -1,5 +1,6 @@
 // benchtape: one read of a tape from standard input, `tape_replay::print`, one write of its text to standard output. All that is printed is
 // proved there; no contract can speak of what is read or written.
+#![tactic(auto)]
 ghost use Rattle.std.specs.Prelude.{◌≡◌, ◌≤◌, length};
 ghost use Rattle.machine.specs.Machine.Text.{printed, text_most};
 ghost use Rattle.buffers.specs.Written.{written};
@@ -10,7 +11,7 @@ use machine::Filled;
 use tape_replay::TEXT_MOST;
 
 // What reading gives: how many bytes there are, or that a read failed.
-#[derive(Drop)]
+#[derive(Clone, Copy)]
 enum Reading {
     Bytes(usize),
     Failed,

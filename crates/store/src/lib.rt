@@ -1,5 +1,7 @@
 // The store: main memory's blocks, the control with its services, the lanes.
 // Functions are for the crates above and not for others.
+#![tactic(auto)]
+
 ghost use Rattle.std.specs.Prelude.{◌≡◌};
 ghost use Rattle.store.specs.Control.{free, with_slot, is_for, slot_of, service_of, open_services, busy_of, busy_for, free_slot, with_service, with_updated, without_service, answer_of};
 
@@ -8,7 +10,7 @@ use lanes::{Command, Lane};
 use words::{BlockNo, LaneNo, Shape};
 
 // A block of main memory with its directory entry: PRESENT, a presence flag for each lane, and MODIFIED.
-#[derive(Drop)]
+#[derive(Clone, Copy)]
 pub struct Block {
     pub words: [u32; 4],
     pub present: [bool; 8],
@@ -16,7 +18,7 @@ pub struct Block {
 }
 
 // A service: whom it is for, the command, the answers still awaited, and whether its grant is bare.
-#[derive(Drop)]
+#[derive(Clone, Copy)]
 pub struct Service {
     pub lane: LaneNo,
     pub block: BlockNo,
@@ -29,27 +31,27 @@ pub struct Service {
 pub const SLOTS: u8 = 8;
 
 // A place for a service. Where it is not busy the service is not looked at.
-#[derive(Drop)]
+#[derive(Clone, Copy)]
 pub struct Slot {
     pub busy: bool,
     pub service: Service,
 }
 
 // The control: services of different blocks, each in a slot. A new one takes the lowest free slot and stays there until it closes.
-#[derive(Drop)]
+#[derive(Clone, Copy)]
 pub struct Control {
     pub slots: [Slot; 8],
 }
 
 // The service of a block.
-#[derive(Drop)]
+#[derive(Clone, Copy)]
 pub enum Lookup {
     Of(Service),
     Nothing,
 }
 
 // What an answer does: the service awaits one answer fewer, or closes; or nobody awaits the answer.
-#[derive(Drop)]
+#[derive(Clone, Copy)]
 pub enum Counted {
     Awaits(Service),
     Closes(Service),
@@ -231,7 +233,7 @@ impl Control {
 }
 
 // The whole store: n lanes of c lines and m blocks, and a limit L of services at a time; what stands past n, c and m is no part of it. It counts the completions since opening.
-#[derive(Drop)]
+#[derive(Clone, Copy)]
 pub struct Store {
     pub shape: Shape,
     pub control: Control,
@@ -241,7 +243,7 @@ pub struct Store {
 }
 
 // What a call gives: its answer, and the store after it.
-#[derive(Drop)]
+#[derive(Clone, Copy)]
 pub struct Outcome {
     pub answer: Answer,
     pub store: Store,

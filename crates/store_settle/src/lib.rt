@@ -1,5 +1,6 @@
 // Settle: 01's steps again and again until the store is quiet, as one call.
 // settle is open to others and has no requires.
+#![tactic(auto)]
 ghost use Rattle.std.specs.Prelude.{◌≡◌, false, [], ◌+◌, ◌≤◌, length};
 ghost use Rattle.lanes.specs.UseOrder.{LoadsOldest};
 ghost use Rattle.machine.specs.Machine.Corruption.{corrupt_of};
@@ -14,14 +15,14 @@ use words::LaneNo;
 
 // The completions of a settle in order: those before len; the places from len on are not used. An operation that completes waits no
 // more and settle begins none, so there are at most as many as lanes.
-#[derive(Drop)]
+#[derive(Clone, Copy)]
 pub struct Completions {
     pub len: u8,
     pub at: [Completion; 8],
 }
 
 // What a settle gives.
-#[derive(Drop)]
+#[derive(Clone, Copy)]
 pub struct SettleOutcome {
     pub answer: Settled,
     pub completions: Completions,

@@ -1,4 +1,5 @@
 // One step of settle on a store that is not corrupt: found and taken, and the orders counted that it queued. For settle and not for others.
+#![tactic(auto)]
 ghost use Rattle.std.specs.Prelude.{◌≡◌, false, ◌<◌, ◌≤◌};
 ghost use Rattle.words.specs.Folds.{lowest_to};
 ghost use Rattle.store.specs.Stores.{lane_at};
@@ -16,7 +17,7 @@ use store::{Control, Lookup, Outcome, Store};
 use words::LaneNo;
 
 // The three steps that settle repeats, in the order in which it tries them.
-#[derive(Drop)]
+#[derive(Clone, Copy)]
 enum StepKind {
     Deliver,
     Return,
@@ -24,7 +25,7 @@ enum StepKind {
 }
 
 // A step, and how many orders it queued; a refused step none.
-#[derive(Drop)]
+#[derive(Clone, Copy)]
 pub struct TakenStep {
     pub outcome: Outcome,
     pub orders: u8,

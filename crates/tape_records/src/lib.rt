@@ -1,5 +1,7 @@
 // A tape's records: what stands at the start of a tape, and how many bytes of it that takes. This is the one place that reads a kind byte
 // and knows how long a record is.
+#![tactic(auto)]
+
 ghost use Rattle.std.specs.Prelude.{◌≡◌, ◌≤◌, length};
 ghost use Rattle.tape_records.specs.Records.{known_of, body_length, form_with, form_of, value_of, operand_of, begin_fields, fields_of, shape_of, limited_shape_of, last_of, parse_of};
 
@@ -28,7 +30,7 @@ const OPEN_LIMITED: u8 = 8;
 const NO_KIND: u8 = 9;
 
 // The step that a kind byte picks.
-#[derive(Drop)]
+#[derive(Clone, Copy)]
 pub enum Kind {
     Open,
     Load,
@@ -63,14 +65,14 @@ impl Kind {
 }
 
 // What a kind byte picks: the body's length and the step.
-#[derive(Drop)]
+#[derive(Clone, Copy)]
 pub struct Form {
     pub length: usize,
     pub kind: Kind,
 }
 
 // A record: its kind's case with its fields; or the tape ends inside it (01: cut), or no record has its kind (01: stranger).
-#[derive(Drop)]
+#[derive(Clone, Copy)]
 pub enum Record {
     Open(Shape),
     Begin(LaneNo, Op, WordNo),
@@ -82,7 +84,7 @@ pub enum Record {
 }
 
 // A record, and how many bytes of the tape it takes.
-#[derive(Drop)]
+#[derive(Clone, Copy)]
 pub struct Parsed {
     pub size: usize,
     pub rec: Record,

@@ -1,5 +1,6 @@
 // Reads records, each an opening, a call or the wish to see the store, and writes what each gives; tests/reference/README.md has the
 // bytes. One store goes from record to record. It ends where the input does.
+#![tactic(auto)]
 ghost use Rattle.std.specs.Prelude.{◌≤◌, length};
 
 use libc::{STDIN_FILENO, STDOUT_FILENO};
@@ -23,7 +24,7 @@ const SETTLE: u8 = 17;
 const SHOW: u8 = 18;
 
 // The store after a record, and whether there was one.
-#[derive(Drop)]
+#[derive(Clone, Copy)]
 struct Turn {
     more: bool,
     store: Store,

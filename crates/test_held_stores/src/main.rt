@@ -1,5 +1,6 @@
 // Reads cases, each a store and a call, and writes the answer and the store after of each; tests/reference/README.md has the
 // bytes. It ends where the input does.
+#![tactic(auto)]
 ghost use Rattle.std.specs.Prelude.{◌≤◌, length};
 
 use libc::{STDIN_FILENO, STDOUT_FILENO};

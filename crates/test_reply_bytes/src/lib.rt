@@ -1,5 +1,6 @@
 // A call from its kind, and what a call answers as bytes, in the format of tests/reference/README.md. Nothing here is proved of the bytes but
 // that the functions are safe and end.
+#![tactic(auto)]
 ghost use Rattle.std.specs.Prelude.{◌+◌, ◌≤◌, length};
 
 use answers::{Answer, Completion, Refusal};
@@ -23,7 +24,7 @@ const SERVE: u8 = 5;
 const RETURN: u8 = 6;
 
 // An answer's bytes: its tag, a lane or a refusal's number, a value, how many completions there are, a settle's orders, and a completion's place.
-#[derive(Drop)]
+#[derive(Clone, Copy)]
 pub struct Reply {
     pub tag: u8,
     pub small: u8,

@@ -173,7 +173,7 @@ fn put_down_queue(out: &mut [u8], at: usize, q: DownQueue)
 }
 
 // The operation's number, and its v.
-#[derive(Drop)]
+#[derive(Clone, Copy)]
 struct Coded {
     number: u8,
     v: u32,

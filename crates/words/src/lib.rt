@@ -1,23 +1,25 @@
 // The four units of number, a shape, the four operations on a word, and a line.
+#![tactic(auto)]
+
 ghost use Rattle.std.specs.Prelude.{◌≡◌};
 ghost use Rattle.words.specs.Units.{block_of};
 ghost use Rattle.words.specs.Operations.{is_load, apply_of, perform_of};
 ghost use Rattle.words.specs.Lines.{invalid, holds_of};
 
 // The number of a lane (000: knum).
-#[derive(Drop)]
+#[derive(Clone, Copy)]
 pub struct LaneNo(pub u8);
 
 // The number of a block of main memory (000: blknum).
-#[derive(Drop)]
+#[derive(Clone, Copy)]
 pub struct BlockNo(pub u8);
 
 // The number of a line in a lane's cache (000: kloc).
-#[derive(Drop)]
+#[derive(Clone, Copy)]
 pub struct LineNo(pub u8);
 
 // The number of a word of main memory.
-#[derive(Drop)]
+#[derive(Clone, Copy)]
 pub struct WordNo(pub u8);
 
 impl WordNo {
@@ -30,7 +32,7 @@ impl WordNo {
 }
 
 // What an opening fixes: lanes n, lines per lane c, blocks m, and the limit L of services under way at a time.
-#[derive(Drop)]
+#[derive(Clone, Copy)]
 pub struct Shape {
     pub n: u8,
     pub c: u8,
@@ -39,7 +41,7 @@ pub struct Shape {
 }
 
 // An operation of a lane, with its v where there is one.
-#[derive(Drop)]
+#[derive(Clone, Copy)]
 pub enum Op {
     Load,
     Store(u32),
@@ -48,7 +50,7 @@ pub enum Op {
 }
 
 // What an operation makes of a word: the word after it and the value it gives.
-#[derive(Drop)]
+#[derive(Clone, Copy)]
 pub struct Effect {
     pub word: u32,
     pub value: u32,
@@ -93,7 +95,7 @@ impl Op {
 }
 
 // A line of a lane's cache: VALID, PRIVATE (the line is modified, and no other lane has the block), the block and its words.
-#[derive(Drop)]
+#[derive(Clone, Copy)]
 pub struct Line {
     pub valid: bool,
     pub private: bool,
@@ -102,7 +104,7 @@ pub struct Line {
 }
 
 // What an operation makes of a line: the value it gives and the line after it.
-#[derive(Drop)]
+#[derive(Clone, Copy)]
 pub struct Performed {
     pub value: u32,
     pub line: Line,
