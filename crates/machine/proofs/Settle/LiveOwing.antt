@@ -78,6 +78,11 @@ module _ {A : Type 0} (block : A → ℕ) (p : A → Bool) where
         go true = part_more (slot i) x xs
         go false = omega arith
 
+    share_here : (x : A) (xs : List A) (i : ℕ) → counts i ≡ true → slot i ≡ block x → p x ≡ true → share xs i + 1 ≤ share (x ∷ xs) i
+    share_here x xs i c s e =
+        let here : part (block x) xs + 1 ≤ part (block x) (x ∷ xs) = rw (eq-eqb (block x) (block x) refl, e) (omega arith) in
+        rw c (subst (λ (d : ℕ). part d xs + 1 ≤ part d (x ∷ xs)) (sym s) here)
+
     tally_most : (xs : List A) → Within m xs → ((d : ℕ) → d < m → part d xs ≢ 0 → At d) → tally xs ≤ sum_to (share xs) n
     tally_most [] w h = omega arith
     tally_most (x ∷ xs) w h = go (p x) refl (tally_most xs w.1 (λ d l z. h d l (λ q. let a = part_more d x xs in z (omega arith))))
@@ -86,8 +91,8 @@ module _ {A : Type 0} (block : A → ℕ) (p : A → Bool) where
         go false e r = let a = sum_up (share xs) (share (x ∷ xs)) n (λ i _. share_more x xs i) in rw e (omega arith)
         go true e r =
             let a = part_here x xs e in
-            let i = h (block x) w.0 (λ q. absurd (omega arith)) in
-            let b = sum_less (share xs) (share (x ∷ xs)) n i.0 i.1 (share_more x xs) (rw (i.2, i.3) (omega arith)) in
+            let i = h (block x) w.0 (λ q. let z : part (block x) xs + 1 ≡ 0 = sym a ∙ q in absurd (omega arith)) in
+            let b = sum_less (share xs) (share (x ∷ xs)) n i.0 i.1 (share_more x xs) (share_here x xs i.0 i.2 i.3 e) in
             rw e (omega arith)
 
 -- the blocks of a queue's messages

@@ -15,7 +15,8 @@ use Rattle.machine.specs.Machine.Settle.{settle_step, bound_of, Progress, advanc
 use Rattle.machine.specs.Machine.Calls.{SettledWith, completions_of}
 use Rattle.machine.proofs.Bounds.Sound.{sound}
 use Rattle.machine.proofs.Bounds.Keeps.{serve_keeps, return_keeps, deliver_keeps}
-use Rattle.machine.proofs.List.Owes.{Pending, Completes}
+use Rattle.machine.proofs.List.Owes.{Pending, Rests, upd, fed, Completes}
+use Rattle.machine.specs.Claims.Flat.{flat_after}
 use Rattle.machine.proofs.Bounds.SizedKeeps.{serve_sized, return_sized, deliver_sized, sized_whole}
 use Rattle.machine.proofs.Settle.FallsSettle.{start_at, settle_rule}
 use Rattle.machine.proofs.Store.Consistent.{Consistent, pending_in}
@@ -52,7 +53,7 @@ step_leads ins s f i =
 -- completions after completions
 completes_more : (p : ℕ → Pending) (f : List ℕ) (xs ys : List Completion) (q r : ℕ → Pending) (g h : List ℕ) → Completes p f xs q g → Completes q g ys r h → Completes p f (xs ++ ys) r h
 completes_more p f [] ys q r g h a b = rw (← a.0, ← a.1) b
-completes_more p f (x ∷ xs) ys q r g h a b = (a.0, a.1, a.2, a.3, completes_more _ _ xs ys q r g h a.4 b)
+completes_more p f (x ∷ xs) ys q r g h a b = (a.0, a.1, a.2, a.3, completes_more (upd p x.lane.0 Rests) (flat_after f (fed a.0 a.1)) xs ys q r g h a.4 b)
 
 advance_leads : (ins : Insertion) (s : Store) (f : List ℕ) (p : Progress) → Leads s f p.completions p.store → Leads s f (advance ins p).completions (advance ins p).store
 unfolding advance
