@@ -2,6 +2,7 @@
 // comes back in a LaneStep. These functions are for the crates above and not for others: the bounds that some require are those of a store that is not
 // corrupt.
 #![tactic(auto)]
+
 ghost use Rattle.std.specs.Prelude.{◌≡◌, ◌≤◌, ◌<◌};
 ghost use Rattle.lanes.specs.UseOrder.{place_at};
 ghost use Rattle.machine.specs.Machine.Change.{refuse_lane, refused_in};

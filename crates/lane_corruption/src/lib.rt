@@ -1,6 +1,7 @@
 // Refusal 14, a lane's part: whether a lane breaks a bound. Each function mirrors the definition of its name in
 // machine/specs/machine/Corruption.antt. All are for the crates above and not for others.
 #![tactic(auto)]
+
 ghost use Rattle.std.specs.Prelude.{◌≡◌, ◌<◌, ◌≤◌};
 ghost use Rattle.words.specs.Units.{block_of};
 ghost use Rattle.queues.specs.Queues.{capacity};

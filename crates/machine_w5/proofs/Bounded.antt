@@ -68,7 +68,7 @@ module _ (b : Bounded) where
   -- a list of calls
   run_same : (ins : Insertion) (t : Former.Store) (s : Store) (xs : List Call) → Same t s → b.Lively s → SameRun (FormerCalls.run ins t xs) (run ins s xs)
   run_same ins t s [] e l = run_none ins t s e
-  run_same ins t s (x ∷ xs) e l = let h = call_same ins t s x e l in run_more ins t s x xs h (run_same ins _ _ xs h.store (b.call_lively ins s x l))
+  run_same ins t s (x ∷ xs) e l = let h = call_same ins t s x e l in run_more ins t s x xs h (run_same ins (FormerCalls.call_of ins t x).store (call_of ins s x).store xs h.store (b.call_lively ins s x l))
 
   opened_run : (ins : Insertion) (shape : Shape) (calls : List Call) → shape.limit ≡ 1 → (open_of shape).answer ≡ Opened →
       SameRun (FormerCalls.run ins (Former.open_of shape).store calls) (run ins (open_of shape).store calls)

@@ -32,7 +32,7 @@ use Rattle.machine_w5.specs.Calls as FormerCalls
 use Rattle.machine_w5.specs.Same.{SameLane, SameLanes, SameControl, Same, full_of, full_in, SameCalled, SameCall, SamePicture, SameRun, SameList, SameOpenings}
 use Rattle.machine_w5.proofs.Corruption.{former_with, store_with, by_stores, each_lane, limit_fits}
 use Rattle.machine_w5.proofs.Commits.{Long, Result}
-use Rattle.machine_w5.proofs.Steps.{begin_of_lem, serve_of_lem, return_of, deliver_of_lem}
+use Rattle.machine_w5.proofs.Steps.{begin_of_lem, serve_of_lem, return_of_lem, deliver_of_lem}
 use Rattle.machine_w5.proofs.Settle.{Seen, corrupt_of_lem, settle_of_lem}
 
 -- a queue has three messages after a call, or after a step of settle
@@ -55,7 +55,7 @@ pub call_of_lem : (ins : Insertion) (t : Former.Store) (s : Store) (x : Call) �
 unfolding FormerCalls.call_of call_of
 call_of_lem ins t s (Begin k op w) e = answered ins s _ _ (begin_of_lem t s k op w e)
 call_of_lem ins t s (Serve k) e = answered ins s _ _ (serve_of_lem t s k e)
-call_of_lem ins t s (Return k) e = answered ins s _ _ (return_of t s k e)
+call_of_lem ins t s (Return k) e = answered ins s _ _ (return_of_lem t s k e)
 call_of_lem ins t s (Deliver k) e = answered ins s _ _ (deliver_of_lem ins t s k e)
 call_of_lem ins t s Settle e = settled ins s _ _ (settle_of_lem ins t s e)
 
@@ -81,7 +81,7 @@ run_none ins t s e = record { history = refl; store = e }
 pub same_list : SameList
 unfolding FormerCalls.run
 same_list ins t s [] e f = run_none ins t s e
-same_list ins t s (x ∷ xs) e f = let h = same_call ins t s x e f.0 in run_more ins t s x xs h (same_list ins _ _ xs h.store f.1)
+same_list ins t s (x ∷ xs) e f = let h = same_call ins t s x e f.0 in run_more ins t s x xs h (same_list ins (FormerCalls.call_of ins t x).store (call_of ins s x).store xs h.store f.1)
 
 -- what is gathered below n, where it agrees there
 gather_agree : {A : Type 0} (f g : ℕ → List A) (n : ℕ) → ((j : ℕ) → j < n → f j ≡ g j) → gather_to f n ≡ gather_to g n

@@ -64,8 +64,8 @@ bound_parts shape x y done ps ls bs one ec el =
     let u = Folds.count_same _ _ n (each_lane (λ l. unserved_of l.waiting) (λ l. unserved_of l.waiting) n ps ls el (λ p l e. ap unserved_of e.waiting) refl) in
     λ i. r i + g i + 2 * o i + v i + 2 * n * u i
 
-pub bound_of : (t : Former.Store) (s : Store) → Same t s → FormerSettle.bound_of t ≡ bound_of s
-bound_of = by_stores (λ t s. FormerSettle.bound_of t ≡ bound_of s) bound_parts
+pub bound_of_lem : (t : Former.Store) (s : Store) → Same t s → FormerSettle.bound_of t ≡ bound_of s
+bound_of_lem = by_stores (λ t s. FormerSettle.bound_of t ≡ bound_of s) bound_parts
 
 orders_of : (t : Former.Store) (s : Store) → Same t s → FormerSettle.orders_in t ≡ orders_in s
 orders_of = by_stores (λ t s. FormerSettle.orders_in t ≡ orders_in s) orders_parts
@@ -73,8 +73,8 @@ orders_of = by_stores (λ t s. FormerSettle.orders_in t ≡ orders_in s) orders_
 pub corrupt_of_lem : (t : Former.Store) (s : Store) → Same t s → FormerCorruption.corrupt_of t ≡ corrupt_of s
 corrupt_of_lem = by_stores (λ t s. FormerCorruption.corrupt_of t ≡ corrupt_of s) corrupt_same
 
-pub quiet_of : (t : Former.Store) (s : Store) → Same t s → Former.quiet_of t ≡ quiet_of s
-quiet_of = by_stores (λ t s. Former.quiet_of t ≡ quiet_of s) quiet_same
+pub quiet_of_lem : (t : Former.Store) (s : Store) → Same t s → Former.quiet_of t ≡ quiet_of s
+quiet_of_lem = by_stores (λ t s. Former.quiet_of t ≡ quiet_of s) quiet_same
 
 -- the store after so many steps of settle
 unfoldable pub steps_from : Insertion → ℕ → Store → Store
@@ -115,7 +115,7 @@ refused_stays ins (suc n) p e = rw e
 
 ended_same : (p : FormerSettle.Progress) (q : Progress) → SameProgress p q → FormerSettle.ended p ≡ ended q
 unfolding FormerSettle.ended ended
-ended_same p q e = let a = e.answer in let b = quiet_of p.store q.store e.store in λ i. refused_of (a i) || b i
+ended_same p q e = let a = e.answer in let b = quiet_of_lem p.store q.store e.store in λ i. refused_of (a i) || b i
 
 advance_same : (ins : Insertion) (p : FormerSettle.Progress) (q : Progress) → SameProgress p q → SameOutcome (FormerSettle.settle_step ins p.store) (settle_step ins q.store) →
     SameProgress (FormerSettle.advance ins p) (advance ins q)
@@ -172,7 +172,7 @@ Settles ins s r q = ((full_in r.reply ≡ true) × Seen ins s) ⊎ SameCalled r 
 reached_same : (t : Former.Store) (s : Store) (p : FormerSettle.Progress) (q : Progress) → Same t s → SameProgress p q →
     SameCalled (FormerCalls.settled_call (FormerSettle.reached t p)) (settled_call (reached s q))
 reached_same t s p q e f =
-    both (λ a b. SameCalled (FormerCalls.settled_call a) (settled_call b)) (Former.quiet_of p.store) (quiet_of q.store) (quiet_of p.store q.store f.store)
+    both (λ a b. SameCalled (FormerCalls.settled_call a) (settled_call b)) (Former.quiet_of p.store) (quiet_of q.store) (quiet_of_lem p.store q.store f.store)
     (λ _. record { reply = let a = f.count in let o = f.orders in let b = f.completions in λ i. SettledWith (Steps (record { steps = a i; orders = o i })) (b i); store = f.store })
     (λ _. record { reply = refl; store = e })
 
@@ -199,5 +199,5 @@ settle_of_lem ins t s e =
     both (λ a b. Settles ins s (FormerCalls.settled_call a) (settled_call b)) (FormerCorruption.corrupt_of t) (corrupt_of s) (corrupt_of_lem t s e)
     (λ _. inr (record { reply = refl; store = e }))
     (λ _. ends_same ins t s _ _ e
-    (subst (λ (n : ℕ). Goes ins s (FormerSettle.repeat_step ins (suc (FormerSettle.bound_of t)) p) (repeat_step ins (suc n) q)) (bound_of t s e)
+    (subst (λ (n : ℕ). Goes ins s (FormerSettle.repeat_step ins (suc (FormerSettle.bound_of t)) p) (repeat_step ins (suc n) q)) (bound_of_lem t s e)
     (repeat_same ins (suc (FormerSettle.bound_of t)) p q (record { count = refl; orders = refl; completions = refl; answer = refl; store = e }))))

@@ -255,8 +255,8 @@ begin_of_lem t s k op w = by_stores (λ t s. Result (FormerSteps.begin_of t k op
 pub serve_of_lem : (t : Former.Store) (s : Store) (k : LaneNo) → Same t s → Result (FormerSteps.serve_of t k) (serve_of s k)
 serve_of_lem t s k = by_stores (λ t s. Result (FormerSteps.serve_of t k) (serve_of s k)) (λ sh x y d ps ls bs a b c. serve_parts sh x y d ps ls bs a b c k) t s
 
-pub return_of : (t : Former.Store) (s : Store) (k : LaneNo) → Same t s → Result (FormerSteps.return_of t k) (return_of s k)
-return_of t s k = by_stores (λ t s. Result (FormerSteps.return_of t k) (return_of s k)) (λ sh x y d ps ls bs a b c. return_parts sh x y d ps ls bs a b c k) t s
+pub return_of_lem : (t : Former.Store) (s : Store) (k : LaneNo) → Same t s → Result (FormerSteps.return_of t k) (return_of s k)
+return_of_lem t s k = by_stores (λ t s. Result (FormerSteps.return_of t k) (return_of s k)) (λ sh x y d ps ls bs a b c. return_parts sh x y d ps ls bs a b c k) t s
 
 pub deliver_of_lem : (ins : Insertion) (t : Former.Store) (s : Store) (k : LaneNo) → Same t s → Result (FormerSteps.deliver_of ins t k) (deliver_of ins s k)
 deliver_of_lem ins t s k = by_stores (λ t s. Result (FormerSteps.deliver_of ins t k) (deliver_of ins s k)) (λ sh x y d ps ls bs a b c. deliver_parts sh x y d ps ls bs a b c ins k) t s

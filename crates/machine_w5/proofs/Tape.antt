@@ -35,7 +35,7 @@ use Rattle.machine_w5.specs.Same.{Same, has_limited_open_from, SameTape}
 use Rattle.machine_w5.proofs.Pairs.{both}
 use Rattle.machine_w5.proofs.Corruption.{limit_fits}
 use Rattle.machine_w5.proofs.Commits.{Result}
-use Rattle.machine_w5.proofs.Steps.{begin_of_lem, serve_of_lem, return_of, deliver_of_lem}
+use Rattle.machine_w5.proofs.Steps.{begin_of_lem, serve_of_lem, return_of_lem, deliver_of_lem}
 use Rattle.machine_w5.proofs.Calls.{fresh_same}
 use Rattle.machine_w5.proofs.Bounded.{Bounded, not_long}
 
@@ -153,7 +153,7 @@ module _ (b : Bounded) where
   record_same t s (Record.Open shape) p e = open_same t s shape p e
   record_same t s (Record.Begin k op w) p e = when_same t s _ _ e (λ f l. (b.call_lively LoadsOldest s (Begin k op w) l, begin_of_lem t s k op w f))
   record_same t s (Record.Serve k) p e = when_same t s _ _ e (λ f l. (b.call_lively LoadsOldest s (Serve k) l, serve_of_lem t s k f))
-  record_same t s (Record.Return k) p e = when_same t s _ _ e (λ f l. (b.call_lively LoadsOldest s (Return k) l, return_of t s k f))
+  record_same t s (Record.Return k) p e = when_same t s _ _ e (λ f l. (b.call_lively LoadsOldest s (Return k) l, return_of_lem t s k f))
   record_same t s (Record.Deliver k) p e = when_same t s _ _ e (λ f l. (b.call_lively LoadsOldest s (Deliver k) l, deliver_of_lem LoadsOldest t s k f))
 
   replay_same : (n : ℕ) (t : Former.Store) (s : Store) (tape : List ℕ) → Tapes t s → has_limited_open_from n tape ≡ false → FormerTape.replay_from n t tape ≡ replay_from n s tape

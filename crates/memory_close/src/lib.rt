@@ -2,6 +2,7 @@
 // Memory's part of a call goes up as a ByteMove, and a contract says which Move of the definitions it stands for.
 // Functions with a requires are for the crates above and not for others.
 #![tactic(auto)]
+
 ghost use Rattle.std.specs.Prelude.{◌≡◌, ◌<◌};
 ghost use Rattle.lanes.specs.Lanes.{with_returns};
 ghost use Rattle.store.specs.LaneSets.{only};

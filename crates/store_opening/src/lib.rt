@@ -1,6 +1,7 @@
 // Opening: a store of n lanes of c lines and m blocks, with a limit L of services. The definitions are store's (store/specs/Opening.antt).
 // open is open to others and has no requires; the other functions are for the crates above.
 #![tactic(auto)]
+
 ghost use Rattle.std.specs.Prelude.{◌≡◌};
 ghost use Rattle.store.specs.Opening.{bad_shape, bad_limit, blank_line, blank_lane, blank_block, fresh_of, blank_store, open_of};
 

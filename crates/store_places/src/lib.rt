@@ -1,6 +1,7 @@
 // Document 02, W1: completions so far plus operations waiting, which never pass the last place in 32 bits. The definitions are
 // machine's (machine/specs/machine/Begun.antt). For our own crates above.
 #![tactic(auto)]
+
 ghost use Rattle.std.specs.Prelude.{◌≡◌, not, cond, ◌≤◌};
 ghost use Rattle.lanes.specs.Waits.{idle_of};
 ghost use Rattle.machine.specs.Machine.Begun.{waiting_in, begun_in, exhausted_of, overrun_of};

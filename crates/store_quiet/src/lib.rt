@@ -1,6 +1,7 @@
 // Quiet: whether there is nothing left to do for settle. The definitions are store's (store/specs/Quiet.antt).
 // For settle and not for others.
 #![tactic(auto)]
+
 ghost use Rattle.std.specs.Prelude.{◌≡◌};
 ghost use Rattle.store.specs.Quiet.{active_of, quiet_of};
 

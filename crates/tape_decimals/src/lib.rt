@@ -1,5 +1,6 @@
 // A number in decimal into a lent buffer. It requires that the digits fit; it is for the crates above and not for others.
 #![tactic(auto)]
+
 ghost use Rattle.std.specs.Prelude.{◌≡◌, ◌+◌, ◌≤◌, ◌<◌, length};
 ghost use Rattle.machine.specs.Machine.Text.{decimal_in};
 ghost use Rattle.buffers.specs.Written.{written};

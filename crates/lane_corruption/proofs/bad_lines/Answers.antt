@@ -1,0 +1,21 @@
+-- `lane_corruption::bad_lines` meets its contract. Assumes nothing.
+use borrow.Author.Rules.{rules}
+use Prim.Native.Nat.{◌≤◌, ◌-◌}
+use native.Mathlib.Omega.{arith}
+use mathlib.Core.Bool.{false}
+use mathlib.Core.Path.{◌≡◌, sym, ◌∙◌}
+use lib.ListN.{get_or}
+use Rattle.words.specs.Folds.{any_to}
+use Rattle.words.proofs.Folds.{any_none, any_more, any_true}
+use Rattle.words.specs.Lines.{no_line}
+use Rattle.machine.specs.Machine.Corruption.{bad_line}
+use Rattle.lane_corruption.proofs.bad_lines.Goals as goal
+
+pub loop-k-init : goal.loop-k-init
+loop-k-init c = (omega arith, any_none _)
+
+pub returns-then-bad_line : goal.returns-then-bad_line
+returns-then-bad_line c = sym (any_true _ _ c.loop-k.k (sym c.bad_line.ensures ∙ c.if-bad_line.true) (omega arith))
+
+pub loop-k-preserved : goal.loop-k-preserved
+loop-k-preserved c = (omega arith, any_more _ _ c.loop-k.invariant.1 (sym c.bad_line.ensures ∙ c.if-bad_line.false))

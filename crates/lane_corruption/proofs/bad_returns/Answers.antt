@@ -1,0 +1,25 @@
+-- `lane_corruption::bad_returns` meets its contract: no more than the places, and each that is in the queue names a block of the shape. Assumes nothing.
+use borrow.Author.Rules.{rules}
+use borrow.Author.Tests.{lt-ltb, le-ltb}
+use Prim.Native.Nat.{◌≤◌, ◌-◌}
+use native.Mathlib.Omega.{arith}
+use mathlib.Core.Bool.{false}
+use mathlib.Core.Path.{◌≡◌, sym, ◌∙◌}
+use lib.ListN.{get_or}
+use Rattle.words.specs.Folds.{any_to}
+use Rattle.words.proofs.Folds.{any_none, any_more, any_true}
+use Rattle.queues.specs.Queues.{no_return}
+use Rattle.machine.specs.Machine.Corruption.{bad_place}
+use Rattle.lane_corruption.proofs.bad_returns.Goals as goal
+
+pub loop-k-init : goal.loop-k-init
+loop-k-init c = (omega arith, any_none _)
+
+pub returns-then-bad_place : goal.returns-then-bad_place
+returns-then-bad_place c =
+    let q = c.args.q in
+    let p = any_true (λ i. bad_place c.args.m q.len i (get_or q.at i no_return).block) 8 c.loop-k.k (sym c.bad_place.ensures ∙ c.if-bad_place.true) (omega arith) in
+    rw (le-ltb _ _ c.if-n-gt-CAPACITY.false, p)
+
+pub loop-k-preserved : goal.loop-k-preserved
+loop-k-preserved c = (omega arith, any_more _ _ c.loop-k.invariant.1 (sym c.bad_place.ensures ∙ c.if-bad_place.false))
