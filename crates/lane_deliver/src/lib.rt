@@ -2,6 +2,7 @@
 // These functions are for the crates above and not for others: the bounds that some require are those of a store that is not
 // corrupt.
 #![tactic(auto)]
+
 ghost use Rattle.std.specs.Prelude.{◌≡◌, ◌≤◌};
 ghost use Rattle.lanes.specs.Search.{search_of, vacant_of};
 ghost use Rattle.lanes.specs.UseOrder.{LoadsOldest};

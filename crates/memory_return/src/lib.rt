@@ -1,6 +1,7 @@
 // Memory's part of return: a lane, a block and the control are handed in by value and come back in a ByteMove.
 // Functions with a requires are for the crates above and not for others.
 #![tactic(auto)]
+
 ghost use Rattle.std.specs.Prelude.{◌≡◌, ◌<◌};
 ghost use Rattle.store.specs.Control.{answer_of};
 ghost use Rattle.machine.specs.Machine.LaneBytes.{move_of};

@@ -2,6 +2,7 @@
 // The orders of a serve are one byte, bit j (value 2 to the power j) for lane j, worked out before any of them is queued.
 // Functions with a requires are for the crates above and not for others.
 #![tactic(auto)]
+
 ghost use Rattle.std.specs.Prelude.{◌≡◌, ◌<◌};
 ghost use Rattle.machine.specs.Machine.LaneBytes.{bits_in, byte_of, orders_byte, move_of};
 ghost use Rattle.machine.specs.Machine.Serve.{sends_of, order_of, bare_of, ready_of, service_for, serve_move};

@@ -2,6 +2,7 @@
 // The lanes that a message goes to are the set bits of a byte, bit j for lane j: the look at full queues and the queueing walk the set bits, the lowest first.
 // The store is handed in by value and changed in a local. Functions with a requires are for the crates above and not for others.
 #![tactic(auto)]
+
 ghost use Rattle.std.specs.Prelude.{◌≡◌, ◌<◌};
 ghost use Rattle.machine.specs.Machine.LaneBytes.{move_of};
 ghost use Rattle.machine.specs.Machine.Change.{refuse, posted, commit_move};
