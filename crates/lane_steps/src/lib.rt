@@ -1,6 +1,7 @@
 // A lane's calls on a store that is not corrupt, begin and deliver, without the check of 14. They are for the crates above: a call pays that
 // check before it, a tape and settle pay it once for many steps.
 #![tactic(auto)]
+
 ghost use Rattle.std.specs.Prelude.{◌≡◌, false, ◌≤◌};
 ghost use Rattle.lanes.specs.UseOrder.{LoadsOldest};
 ghost use Rattle.machine.specs.Machine.Begun.{last_place};

@@ -1,6 +1,7 @@
 // Memory's calls on a store that is not corrupt, serve and return, without the check of 14. They are for the crates above: a call pays that
 // check before it, a tape and settle pay it once for many steps.
 #![tactic(auto)]
+
 ghost use Rattle.std.specs.Prelude.{◌≡◌, false};
 ghost use Rattle.machine.specs.Machine.Corruption.{corrupt_of};
 ghost use Rattle.machine.specs.Machine.Serve.{serve_of};

@@ -1,6 +1,7 @@
 // Refusal 14: whether a store breaks its own bounds. Each function mirrors the definition of its name in
 // machine/specs/machine/Corruption.antt. Only `corrupt` is open to others.
 #![tactic(auto)]
+
 ghost use Rattle.std.specs.Prelude.{◌≡◌, ◌<◌, ◌≤◌};
 ghost use Rattle.words.specs.Folds.{any_to};
 ghost use Rattle.queues.specs.Queues.{capacity};

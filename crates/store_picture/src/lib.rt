@@ -1,6 +1,7 @@
 // The picture: a record of 19 bytes for each valid line, into a lent buffer.
 // Only `picture` is open to others; the other functions require what it has checked.
 #![tactic(auto)]
+
 ghost use Rattle.std.specs.Prelude.{◌≡◌, cond, ◌+◌, ◌≤◌, length};
 ghost use Rattle.buffers.specs.Written.{written};
 ghost use Rattle.machine.specs.Machine.Picture.{word_bytes, record_bytes, picture_bytes, picture_of};

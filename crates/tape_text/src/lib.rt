@@ -1,6 +1,7 @@
 // The text of benchtape's lines, into a lent buffer. Each function writes from place `at` on and gives the place after its text.
 // All of them require that the text fits; they are for the crates above and not for others.
 #![tactic(auto)]
+
 ghost use Rattle.std.specs.Prelude.{◌≡◌, [], ◌∷◌, ◌++◌, ◌+◌, ◌≤◌, length};
 ghost use Rattle.answers.specs.declared.Refusal.TheVariants.{TapeTooLong};
 ghost use Rattle.answers.specs.declared.Answer.TheVariants.{Done};

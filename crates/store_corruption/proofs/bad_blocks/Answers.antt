@@ -1,0 +1,20 @@
+-- `store_corruption::bad_blocks` meets its contract. Assumes nothing.
+use borrow.Author.Rules.{rules}
+use Prim.Native.Nat.{◌≤◌, ◌-◌}
+use native.Mathlib.Omega.{arith}
+use mathlib.Core.Bool.{false}
+use mathlib.Core.Path.{◌≡◌, sym, ◌∙◌}
+use Rattle.words.specs.Folds.{any_to}
+use Rattle.words.proofs.Folds.{any_none, any_more, any_true}
+use Rattle.store.specs.Stores.{block_at}
+use Rattle.machine.specs.Machine.Corruption.{bad_flags}
+use Rattle.store_corruption.proofs.bad_blocks.Goals as goal
+
+pub loop-k-init : goal.loop-k-init
+loop-k-init c = (omega arith, any_none _)
+
+pub returns-then-bad_flags : goal.returns-then-bad_flags
+returns-then-bad_flags c = sym (any_true _ _ c.loop-k.k (sym c.bad_flags.ensures ∙ c.if-bad_flags.true) (omega arith))
+
+pub loop-k-preserved : goal.loop-k-preserved
+loop-k-preserved c = (omega arith, any_more _ _ c.loop-k.invariant.1 (sym c.bad_flags.ensures ∙ c.if-bad_flags.false))

@@ -1,0 +1,17 @@
+-- `store_picture::write_lane` meets its contract: a turn of the loop writes one line. Assumes nothing.
+use Prim.Native.Nat.{◌-◌, ◌≤◌}
+use native.Mathlib.Omega.{arith}
+use mathlib.Core.Path.{◌≡◌}
+use lib.ListN.{get_or}
+use borrow.Author.Rules.{rules}
+use Rattle.words.specs.Lines.{no_line}
+use Rattle.buffers.proofs.Writing.{Wrote, written_none}
+use Rattle.store_picture.specs.Records.{line_record, lane_records}
+use Rattle.store_picture.proofs.Records.{gather_none, wrote_more, wrote_kept, wrote_fits}
+use Rattle.store_picture.proofs.write_lane.Given as goal
+
+abbrev pub invariant-loop-i : goal.invariant-loop-i
+invariant-loop-i l = (l.i ≤ l.c) × Wrote l.initial.buffer l.at (lane_records l.a.0 l.k.0 l.l l.i) l.place l.buffer
+
+abbrev pub decreases-loop-i : goal.decreases-loop-i
+decreases-loop-i l = l.c - l.i
