@@ -1,6 +1,7 @@
 // The calls on any store: begin, serve, return, deliver. None has a requires; each is an equation with document 01's machine,
 // refusals too. `begin` is for `operations`; the others are open to others.
 #![tactic(auto)]
+
 ghost use Rattle.std.specs.Prelude.{◌≡◌};
 ghost use Rattle.lanes.specs.UseOrder.{LoadsOldest};
 ghost use Rattle.machine.specs.Machine.Begin.{begin_of};

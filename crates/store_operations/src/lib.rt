@@ -1,6 +1,7 @@
 // The calls open to others that begin an operation: load, store, exchange, add. None has a requires; each is an equation with
 // document 01's machine, refusals too.
 #![tactic(auto)]
+
 ghost use Rattle.std.specs.Prelude.{◌≡◌};
 ghost use Rattle.words.specs.declared.Op.TheVariants as Op;
 ghost use Rattle.machine.specs.Machine.Begin.{begin_of};

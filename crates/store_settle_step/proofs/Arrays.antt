@@ -1,17 +1,15 @@
 -- A store of the program has arrays of their declared lengths: what the check knows of a store by value gives `Sized`. Where the
 -- store s is a function's first parameter that is
--- `arrays_sized s _ _ _ c.good.0.1.1.1.0.1.1.0 c.good.0.1.1.1.1.1.0 c.good.0.1.1.1.1.1.1.0`. Assumes nothing.
+-- `arrays_sized s _ _ _ c.well_formed.0.1.1.1.0.1.1.0 c.well_formed.0.1.1.1.1.1.0 c.well_formed.0.1.1.1.1.1.1.0`. Assumes nothing.
 use Prim.Native.Nat.{ℕ, zero, suc, ◌<◌}
 use native.Mathlib.Omega.{arith}
 use mathlib.Core.Path.{◌≡◌}
-use mathlib.Core.List.{List, [], ◌∷◌, map}
-use lib.ListN.{length, get_or, length-map, get_or-map}
+use mathlib.Core.List.{List, [], ◌∷◌}
+use lib.ListN.{length, get_or}
 use mir.Val.{Val}
 use base.Fml.{Fml}
-use denote.Array.{each, in_array}
+use denote.Array.{each, Array}
 use denote.Shadow.{shadow}
-use denote.Struct.Struct.{Struct}
-use denote.Struct.Declared.{shape}
 use Rattle.lanes.specs.contracts.Lane as L
 use Rattle.store.specs.contracts.Block as B
 use Rattle.store.specs.contracts.Slot as S
@@ -28,35 +26,33 @@ each_at d own (x ∷ xs) (u ∷ us) zero z h p = (u, p.0)
 each_at d own (x ∷ xs) (u ∷ us) (suc i) z h p = each_at d own xs us i z (omega arith) p.1
 
 module _ (s : Store) (us vs ws : List Val)
-    (ss : shadow (in_array (S.the_field).row.Denot (Struct (shape S.the_type)).own_val 8 (map (S.the_type).to s.control.slots) us))
-    (ls : shadow (in_array (L.the_field).row.Denot (Struct (shape L.the_type)).own_val 8 (map (L.the_type).to s.lanes) vs))
-    (bs : shadow (in_array (B.the_field).row.Denot (Struct (shape B.the_type)).own_val 64 (map (B.the_type).to s.blocks) ws)) where
+    (ss : shadow ((Array S.the_row 8).own_val s.control.slots us))
+    (ls : shadow ((Array L.the_row 8).own_val s.lanes vs))
+    (bs : shadow ((Array B.the_row 64).own_val s.blocks ws)) where
   lane_sized : (k : ℕ) → k < 8 → LaneSized (lane_at s k)
   lane_sized k h =
       let e = ls.1.0.1 in
-      let l : k < length (map (L.the_type).to s.lanes) = omega arith in
-      let q = each_at (L.the_field).row.Denot (Struct (shape L.the_type)).own_val (map (L.the_type).to s.lanes) ls.0 k ((L.the_type).to no_lane) l ls.1.1 in
-      let r = rw (get_or-map (L.the_type).to s.lanes k no_lane) at q.1 in
+      let l : k < length s.lanes = omega arith in
+      let r = (each_at (L.the_row).Denot (L.the_row).own_val s.lanes ls.0 k no_lane l ls.1.1).1 in
       record {
-        lines = simp length-map at r.1.1.0.1.0.1;
-        order = simp length-map at r.1.1.1.0.1.0.1;
-        returns = simp length-map at r.1.1.1.1.0.1.1.1.0.1.0.1;
-        downs = simp length-map at r.1.1.1.1.1.0.1.1.1.0.1.0.1;
+        lines = r.1.1.0.1.0.1;
+        order = r.1.1.1.0.1.0.1;
+        returns = r.1.1.1.1.0.1.1.1.0.1.0.1;
+        downs = r.1.1.1.1.1.0.1.1.1.0.1.0.1;
       }
 
   present_sized : (a : ℕ) → a < 64 → length (block_at s a).present ≡ 8
   present_sized a h =
       let e = bs.1.0.1 in
-      let l : a < length (map (B.the_type).to s.blocks) = omega arith in
-      let q = each_at (B.the_field).row.Denot (Struct (shape B.the_type)).own_val (map (B.the_type).to s.blocks) bs.0 a ((B.the_type).to no_block) l bs.1.1 in
-      let r = rw (get_or-map (B.the_type).to s.blocks a no_block) at q.1 in
-      simp length-map at r.1.1.1.0.1.0.1
+      let l : a < length s.blocks = omega arith in
+      let r = (each_at (B.the_row).Denot (B.the_row).own_val s.blocks bs.0 a no_block l bs.1.1).1 in
+      r.1.1.1.0.1.0.1
 
   pub arrays_sized : Sized s
   arrays_sized = record {
-    lanes = simp length-map at ls.1.0.1;
-    slots = simp length-map at ss.1.0.1;
-    blocks = simp length-map at bs.1.0.1;
+    lanes = ls.1.0.1;
+    slots = ss.1.0.1;
+    blocks = bs.1.0.1;
     lane = lane_sized;
     present = present_sized;
   }

@@ -1,5 +1,6 @@
 // One step of settle on a store that is not corrupt: found and taken, and the orders counted that it queued. For settle and not for others.
 #![tactic(auto)]
+
 ghost use Rattle.std.specs.Prelude.{◌≡◌, false, ◌<◌, ◌≤◌};
 ghost use Rattle.words.specs.Folds.{lowest_to};
 ghost use Rattle.store.specs.Stores.{lane_at};

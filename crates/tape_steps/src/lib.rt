@@ -1,6 +1,7 @@
 // A tape's record on a store, without the check of 14: for our own crates above, which show that a tape's store once open is never corrupt
 // (Steady).
 #![tactic(auto)]
+
 ghost use Rattle.std.specs.Prelude.{◌≡◌};
 ghost use Rattle.answers.specs.declared.Refusal.TheVariants.{NotOpen};
 ghost use Rattle.machine.specs.Machine.Change.{refuse};
