@@ -1,6 +1,7 @@
 // Settle: 01's steps again and again until the store is quiet, as one call.
 // settle is open to others and has no requires.
 #![tactic(auto)]
+
 ghost use Rattle.std.specs.Prelude.{◌≡◌, false, [], ◌+◌, ◌≤◌, length};
 ghost use Rattle.lanes.specs.UseOrder.{LoadsOldest};
 ghost use Rattle.machine.specs.Machine.Corruption.{corrupt_of};

@@ -7,14 +7,12 @@ use mathlib.Core.List.{List, [], ◌∷◌, ◌++◌, append_assoc}
 use borrow.Author.Tests.{ne_eqb, le-ltb}
 use lib.ListN.{length, drop, length-append, length-drop}
 use lib.Seq.{drop-drop}
-use denote.Laws.{Is}
 use Rattle.tape_records.specs.declared.Parsed.{Parsed}
 use Rattle.tape_records.specs.Records.{parse_of}
 use Rattle.tape_records.proofs.Parsing.{parse_takes}
 use Rattle.answers.specs.declared.Answer.{Answer}
 use Rattle.store.specs.declared.Store.{Store}
 use Rattle.store.specs.Opening.{fresh_of, blank_store}
-use Rattle.store.specs.contracts.Store as T
 use Rattle.machine.specs.Machine.Tape.{record_of, replay_from, replay_of}
 use Rattle.machine.specs.Machine.Text.{line_text, lines_text, end_text, tape_most, text_most, printed}
 use Rattle.machine.proofs.Lengths.{replay_none, text_fits}
@@ -22,7 +20,6 @@ use Rattle.buffers.specs.Written.{written}
 use Rattle.buffers.proofs.Writing.{written_then}
 use Rattle.tape_steps.proofs.Steady.{Tapes, blank_tapes, record_after}
 use Rattle.tape_records.proofs.Parsing.{Takes}
-use Rattle.tape_replay.proofs.Types.{mach}
 use mathlib.Core.Logic.{◌⊎◌, inl, inr}
 
 -- one more record
@@ -67,17 +64,6 @@ module _ (tape out : List ℕ) where
     pub size : filled + length (Rest left at z index) ≡ length (printed tape)
     pub goes : written buf filled (Rest left at z index) ≡ written out 0 (printed tape)
 
-  -- the state at the loop's test, with what holds of it
-  pub record State : Type 0 where
-    pub left : ℕ
-    pub at : ℕ
-    pub z : Store
-    pub buf : List ℕ
-    pub filled : ℕ
-    pub index : ℕ
-    pub going : Going left at z buf filled index
-    pub is_z : Is T.the_row z (mach z ∷ [])
-
   abbrev pub Short : Type 0
   Short = (length tape ≤ tape_most) × (text_most ≤ length out)
 
@@ -119,6 +105,10 @@ module _ (tape out : List ℕ) where
   module _ (h : Short) (at : ℕ) (z : Store) (buf : List ℕ) (filled index : ℕ) (small : at < length tape) {p : Parsed} (parsed : p ≡ parse_of (drop at tape)) where
     takes : Takes (drop at tape) p
     takes = subst (Takes (drop at tape)) (sym parsed) (parse_takes (drop at tape) (subst (λ (n : ℕ). 0 < n) (sym (length-drop at tape)) (omega arith)))
+
+    -- the next record begins further on
+    pub next_further : 0 < p.size
+    next_further = takes_some (drop at tape) p (subst (λ (n : ℕ). 0 < n) (sym (length-drop at tape)) (omega arith)) takes
 
     pub next_inside : at + p.size ≤ length tape
     next_inside = let m = takes_most (drop at tape) p takes in omega (arith, length-drop at tape)

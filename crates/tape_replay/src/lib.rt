@@ -1,6 +1,7 @@
 // A tape's text. One store serves a whole tape: it is lent from record to record and changed there. Only `print` is open to others; apply
 // asks for a store that a tape can have, print_records for what `print` has checked.
 #![tactic(auto)]
+
 ghost use Rattle.std.specs.Prelude.{◌≡◌, ◌≤◌, length};
 ghost use Rattle.machine.specs.Machine.Tape.{record_of};
 ghost use Rattle.machine.specs.Machine.Text.{tape_most, text_most, printed, print_of};

@@ -1,6 +1,7 @@
 // 01's bound on the steps of a settle, R + G + 2 × Q + S + 2 × n × U, for the test programs: they put it out, so that it is compared with
 // the reference's.
 #![tactic(auto)]
+
 ghost use Rattle.std.specs.Prelude.{◌<◌, ◌≤◌, not, cond, ◌&&◌, ◌≡◌, ltb, get_or};
 ghost use Rattle.words.specs.Folds.{sum_to};
 ghost use Rattle.queues.specs.Queues.{no_down};
