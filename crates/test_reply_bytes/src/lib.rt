@@ -1,6 +1,7 @@
 // A call from its kind, and what a call answers as bytes, in the format of tests/reference/README.md. Nothing here is proved of the bytes but
 // that the functions are safe and end.
 #![tactic(auto)]
+
 ghost use Rattle.std.specs.Prelude.{◌+◌, ◌≤◌, length};
 
 use answers::{Answer, Completion, Refusal};
