@@ -1,6 +1,7 @@
 // Bytes into a lent buffer. Each function writes from place `at` on and gives the place after what it wrote.
 // All of them require that the bytes fit; they are for the crates above and not for others.
 #![tactic(auto)]
+
 ghost use Rattle.std.specs.Prelude.{◌≡◌, [], ◌∷◌, ◌+◌, ◌≤◌, ◌<◌, length};
 ghost use Rattle.buffers.specs.Written.{written};
 

@@ -33,7 +33,6 @@ use Rattle.lanes.specs.Lanes.{with_downs}
 use Rattle.answers.specs.declared.Refusal.{Refusal}
 use Rattle.answers.specs.declared.Refusal.TheVariants.{QueueFull}
 use Rattle.machine.specs.declared.LaneAnswer.{LaneAnswer}
-use Rattle.machine.specs.declared.LaneAnswer.TheVariants as LaneAnswer
 use Rattle.machine.specs.declared.LaneStep.{LaneStep}
 use Rattle.machine.specs.declared.Ready.{Ready}
 use Rattle.machine.specs.declared.Ready.TheVariants.{Go, No}

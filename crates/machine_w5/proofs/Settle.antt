@@ -13,7 +13,6 @@ use Rattle.lanes.specs.declared.Lane.{Lane}
 use Rattle.lanes.specs.UseOrder.{Insertion}
 use Rattle.lanes.specs.Waits.{unserved_of}
 use Rattle.answers.specs.declared.Answer.{Answer}
-use Rattle.answers.specs.declared.Answer.TheVariants as Answer
 use Rattle.answers.specs.declared.Refusal.TheVariants.{QueueFull}
 use Rattle.answers.specs.Refusals.{refused_of}
 use Rattle.answers.specs.Completions.{done_in}

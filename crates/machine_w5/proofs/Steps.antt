@@ -32,7 +32,7 @@ use Rattle.store.specs.declared.Control.{Control}
 use Rattle.store.specs.declared.Lookup.{Lookup}
 use Rattle.store.specs.declared.Lookup.TheVariants.{Of, Nothing}
 use Rattle.store.specs.declared.Outcome.{Outcome}
-use Rattle.store.specs.Control.{service_of, lowered, counted_of, answer_of}
+use Rattle.store.specs.Control.{lowered, counted_of, answer_of}
 use Rattle.store.specs.LaneSets.{count_of}
 use Rattle.store.specs.Stores.{no_lane, block_at}
 use Rattle.machine.specs.declared.Ready.{Ready}

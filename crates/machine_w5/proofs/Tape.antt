@@ -3,7 +3,7 @@ use Prim.Native.Nat.{ℕ, zero, suc, ◌+◌, ◌-◌, ◌<◌}
 use native.Mathlib.Omega.{arith}
 use mathlib.Core.Logic.{◌⊎◌, inl, inr}
 use mathlib.Core.Path.{◌≡◌, refl, sym, ap, ◌∙◌, subst}
-use mathlib.Core.Bool.{true, false, not, cond, ◌||◌, true≢false}
+use mathlib.Core.Bool.{false, not, cond, ◌||◌, true≢false}
 use mathlib.Core.List.{List, [], ◌∷◌, ◌++◌}
 use lib.Dec.{ltb, eqb}
 use borrow.Author.Tests.{lt-ltb, ne_eqb}
@@ -11,19 +11,16 @@ use lib.ListN.{length, drop}
 use Rattle.words.specs.declared.Shape.{Shape}
 use Rattle.words.proofs.Folds.{by_cond, or_left, or_right}
 use Rattle.tape_records.specs.declared.Kind.{Kind}
-use Rattle.tape_records.specs.declared.Kind.TheVariants as Kind
 use Rattle.tape_records.specs.declared.Record.{Record}
-use Rattle.tape_records.specs.declared.Record.TheVariants as Record
 use Rattle.tape_records.specs.declared.Parsed.{Parsed}
 use Rattle.tape_records.specs.Records.{kind_of, known_of, body_length, field, fields_of, last_of, parse_of}
 use Rattle.lanes.specs.UseOrder.{LoadsOldest}
 use Rattle.answers.specs.declared.Answer.{Answer}
-use Rattle.answers.specs.declared.Answer.TheVariants.{Opened}
 use Rattle.answers.specs.declared.Refusal.{Refusal}
 use Rattle.answers.specs.declared.Refusal.TheVariants.{Truncated, UnknownKind, NotOpen, AlreadyOpen, InvalidShape, TapeTooLong}
 use Rattle.store.specs.declared.Store.{Store}
 use Rattle.store.specs.declared.Outcome.{Outcome}
-use Rattle.store.specs.Opening.{bad_shape, bad_limit, fresh_of, open_of, blank_store}
+use Rattle.store.specs.Opening.{bad_shape, fresh_of, blank_store}
 use Rattle.machine.specs.Machine.Change.{refuse}
 use Rattle.machine.specs.Machine.Calls.{Begin, Serve, Return, Deliver, call_of}
 use Rattle.machine.specs.Machine.Tape.{is_open, open_record, when_open, record_of, replay_from, replay_of}

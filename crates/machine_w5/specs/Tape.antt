@@ -2,9 +2,7 @@
 use Rattle.std.specs.Prelude.{ℕ, zero, suc, ◌+◌, ◌-◌, Bool, not, cond, List, [], ◌∷◌, ◌++◌, ltb, eqb, length, drop}
 use Rattle.words.specs.declared.Shape.{Shape}
 use Rattle.tape_records.specs.declared.Kind.{Kind}
-use Rattle.tape_records.specs.declared.Kind.TheVariants as Kind
 use Rattle.tape_records.specs.declared.Record.{Record}
-use Rattle.tape_records.specs.declared.Record.TheVariants as Record
 use Rattle.tape_records.specs.declared.Parsed.{Parsed}
 use Rattle.tape_records.specs.Records.{known_of, body_length, field, fields_of, last_of}
 use Rattle.lanes.specs.UseOrder.{LoadsOldest}

@@ -10,10 +10,8 @@ use lib.Dec.{ltb}
 use lib.ListN.{length, drop}
 use Rattle.words.proofs.Folds.{pick}
 use Rattle.tape_records.specs.declared.Kind.{Kind}
-use Rattle.tape_records.specs.declared.Kind.TheVariants as Kind
 use Rattle.tape_records.specs.declared.Form.{Form}
 use Rattle.tape_records.specs.declared.Record.{Record}
-use Rattle.tape_records.specs.declared.Record.TheVariants as Record
 use Rattle.tape_records.specs.declared.Parsed.{Parsed}
 use Rattle.tape_records.specs.Records.{kind_of, known_of, body_length, form_of, field, fields_of, last_of, parse_of}
 

@@ -3,14 +3,11 @@ use Rattle.std.specs.Prelude.{ℕ, ◌+◌, ◌-◌, ◌*◌, Bool, true, false,
 use Rattle.words.specs.declared.LaneNo.{LaneNo}
 use Rattle.words.specs.declared.WordNo.{WordNo}
 use Rattle.words.specs.declared.Op.{Op}
-use Rattle.words.specs.declared.Op.TheVariants as Op
 use Rattle.words.specs.declared.Shape.{Shape}
 use Rattle.words.specs.Units.{shaped, limited}
 use Rattle.tape_records.specs.declared.Kind.{Kind}
-use Rattle.tape_records.specs.declared.Kind.TheVariants as Kind
 use Rattle.tape_records.specs.declared.Form.{Form}
 use Rattle.tape_records.specs.declared.Record.{Record}
-use Rattle.tape_records.specs.declared.Record.TheVariants as Record
 use Rattle.tape_records.specs.declared.Parsed.{Parsed}
 
 -- the highest kind: 2 starts above it (02, W6: "here and wherever a kind is added later")

@@ -12,7 +12,7 @@ use Rattle.tape_records.specs.Records.{parse_of}
 use Rattle.tape_records.proofs.Parsing.{parse_takes}
 use Rattle.answers.specs.declared.Answer.{Answer}
 use Rattle.store.specs.declared.Store.{Store}
-use Rattle.store.specs.Opening.{fresh_of, blank_store}
+use Rattle.store.specs.Opening.{blank_store}
 use Rattle.machine.specs.Machine.Tape.{record_of, replay_from, replay_of}
 use Rattle.machine.specs.Machine.Text.{line_text, lines_text, end_text, tape_most, text_most, printed}
 use Rattle.machine.proofs.Lengths.{replay_none, text_fits}
@@ -20,7 +20,7 @@ use Rattle.buffers.specs.Written.{written}
 use Rattle.buffers.proofs.Writing.{written_then}
 use Rattle.tape_steps.proofs.Steady.{Tapes, blank_tapes, record_after}
 use Rattle.tape_records.proofs.Parsing.{Takes}
-use mathlib.Core.Logic.{◌⊎◌, inl, inr}
+use mathlib.Core.Logic.{inl, inr}
 
 -- one more record
 replay_more : (k : ℕ) (s : Store) (t : List ℕ) → (length t ≡ 0 → ⊥) →

@@ -1,6 +1,5 @@
 -- `lane_begin::admits` meets its contract: a lane that waits for nothing; else what Search finds, and whether it is a load. Assumes nothing.
 use Rattle.machine.specs.Machine.Begin.{admits_of}
-use borrow.Author.Rules.{rules}
 use Rattle.lane_begin.proofs.admits.Goals as goal
 
 pub returns-then-idle : goal.returns-then-idle

@@ -3,7 +3,6 @@ use mathlib.Core.Path.{sym, ◌∙◌}
 use native.Mathlib.Omega.{arith}
 use Rattle.lanes.proofs.Firsts.{first_bound}
 use Rattle.machine.specs.Machine.Begin.{begin_lane}
-use borrow.Author.Rules.{rules}
 use Rattle.lane_begin.proofs.begin_lane.Goals as goal
 
 pub returns-in_default : goal.returns-in_default

@@ -1,6 +1,5 @@
 -- `lane_begin::complete_with` meets its contract. Assumes nothing.
 use Rattle.machine.specs.Machine.Begin.{complete_with}
-use borrow.Author.Rules.{rules}
 use Rattle.lane_begin.proofs.complete_with.Goals as goal
 
 pub returns : goal.returns

@@ -1,6 +1,5 @@
 -- `lane_begin::evict` meets its contract: the line goes out as a return, if there is room for one; then the lane waits for its read. Assumes nothing.
 use Rattle.machine.specs.Machine.Begin.{evict}
-use borrow.Author.Rules.{rules}
 use Rattle.lane_begin.proofs.evict.Goals as goal
 
 pub returns-then-p : goal.returns-then-p

@@ -1,6 +1,5 @@
 -- `lane_begin::hit` meets its contract. Assumes nothing.
 use Rattle.machine.specs.Machine.Begin.{hit}
-use borrow.Author.Rules.{rules}
 use Rattle.lane_begin.proofs.hit.Goals as goal
 
 pub returns-then-is_load : goal.returns-then-is_load

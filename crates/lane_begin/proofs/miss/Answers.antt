@@ -1,6 +1,5 @@
 -- `lane_begin::miss` meets its contract. Assumes nothing.
 use Rattle.machine.specs.Machine.Begin.{miss}
-use borrow.Author.Rules.{rules}
 use Rattle.lane_begin.proofs.miss.Goals as goal
 
 pub returns-in_default : goal.returns-in_default

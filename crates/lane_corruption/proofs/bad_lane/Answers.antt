@@ -1,7 +1,6 @@
 -- `lane_corruption::bad_lane` meets its contract: lines, order, returns, downs, waiting, in this order; the first bad one tells. Assumes nothing.
 use Rattle.words.specs.Folds.{any_of}
 use Rattle.machine.specs.Machine.Corruption.{bad_lane}
-use borrow.Author.Rules.{rules}
 use Rattle.lane_corruption.proofs.bad_lane.Goals as goal
 
 pub returns-then-bad_lines : goal.returns-then-bad_lines

@@ -1,14 +1,7 @@
 -- `lane_corruption::bad_lines` meets its contract. Assumes nothing.
-use borrow.Author.Rules.{rules}
-use Prim.Native.Nat.{◌≤◌, ◌-◌}
 use native.Mathlib.Omega.{arith}
-use mathlib.Core.Bool.{false}
-use mathlib.Core.Path.{◌≡◌, sym, ◌∙◌}
-use lib.ListN.{get_or}
-use Rattle.words.specs.Folds.{any_to}
+use mathlib.Core.Path.{sym, ◌∙◌}
 use Rattle.words.proofs.Folds.{any_none, any_more, any_true}
-use Rattle.words.specs.Lines.{no_line}
-use Rattle.machine.specs.Machine.Corruption.{bad_line}
 use Rattle.lane_corruption.proofs.bad_lines.Goals as goal
 
 pub loop-k-init : goal.loop-k-init

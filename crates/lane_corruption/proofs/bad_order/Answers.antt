@@ -1,12 +1,7 @@
 -- `lane_corruption::bad_order` meets its contract. Assumes nothing.
-use borrow.Author.Rules.{rules}
-use Prim.Native.Nat.{◌≤◌, ◌-◌}
 use native.Mathlib.Omega.{arith}
-use mathlib.Core.Bool.{false}
-use mathlib.Core.Path.{◌≡◌, sym, ◌∙◌}
-use Rattle.words.specs.Folds.{any_to}
+use mathlib.Core.Path.{sym, ◌∙◌}
 use Rattle.words.proofs.Folds.{any_none, any_more, any_true}
-use Rattle.machine.specs.Machine.Corruption.{bad_use}
 use Rattle.lane_corruption.proofs.bad_order.Goals as goal
 
 pub loop-k-init : goal.loop-k-init

@@ -1,12 +1,8 @@
 -- `lane_corruption::bad_returns` meets its contract: no more than the places, and each that is in the queue names a block of the shape. Assumes nothing.
-use borrow.Author.Rules.{rules}
-use borrow.Author.Tests.{lt-ltb, le-ltb}
-use Prim.Native.Nat.{◌≤◌, ◌-◌}
+use borrow.Author.Tests.{le-ltb}
 use native.Mathlib.Omega.{arith}
-use mathlib.Core.Bool.{false}
-use mathlib.Core.Path.{◌≡◌, sym, ◌∙◌}
+use mathlib.Core.Path.{sym, ◌∙◌}
 use lib.ListN.{get_or}
-use Rattle.words.specs.Folds.{any_to}
 use Rattle.words.proofs.Folds.{any_none, any_more, any_true}
 use Rattle.queues.specs.Queues.{no_return}
 use Rattle.machine.specs.Machine.Corruption.{bad_place}

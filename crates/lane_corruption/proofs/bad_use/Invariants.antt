@@ -1,12 +1,8 @@
 -- `lane_corruption::bad_use` meets its contract: a line number out of range, or one that an earlier place has too. Assumes nothing.
-use borrow.Author.Rules.{rules}
 use Prim.Native.Nat.{◌≤◌, ◌-◌}
-use native.Mathlib.Omega.{arith}
 use mathlib.Core.Bool.{false}
-use mathlib.Core.Path.{◌≡◌, sym}
+use mathlib.Core.Path.{◌≡◌}
 use Rattle.words.specs.Folds.{any_to}
-use Rattle.words.proofs.Folds.{any_none, any_more, any_true}
-use borrow.Author.Tests.{le-leb, lt-leb, eq-eqb, ne_eqb}
 use lib.Dec.{eqb}
 use Rattle.lanes.specs.UseOrder.{place_at}
 use Rattle.lane_corruption.proofs.bad_use.Given as goal

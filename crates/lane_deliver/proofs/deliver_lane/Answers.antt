@@ -1,7 +1,6 @@
 -- `lane_deliver::deliver_lane` meets its contract: the head is taken and received; a refusal gives the lane back as it was. Assumes nothing.
 use borrow.Author.Tests.{eq-eqb, ne_eqb}
 use Rattle.machine.specs.Machine.Deliver.{deliver_lane}
-use borrow.Author.Rules.{rules}
 use Rattle.lane_deliver.proofs.deliver_lane.Goals as goal
 
 pub returns-then-downs-eq0 : goal.returns-then-downs-eq0

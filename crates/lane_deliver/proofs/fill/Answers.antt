@@ -2,7 +2,6 @@
 use mathlib.Core.Path.{sym, ◌∙◌}
 use native.Mathlib.Omega.{arith}
 use Rattle.lanes.proofs.Firsts.{first_bound}
-use borrow.Author.Rules.{rules}
 use Rattle.lane_deliver.proofs.fill.Goals as goal
 
 pub complete_with-requires : goal.complete_with-requires

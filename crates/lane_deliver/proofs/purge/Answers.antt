@@ -2,7 +2,6 @@
 use mathlib.Core.Path.{sym, ◌∙◌}
 use native.Mathlib.Omega.{arith}
 use Rattle.lanes.proofs.Firsts.{first_bound}
-use borrow.Author.Rules.{rules}
 use Rattle.lane_deliver.proofs.purge.Goals as goal
 
 pub bounds-l-j : goal.bounds-l-j

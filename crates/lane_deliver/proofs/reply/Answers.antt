@@ -1,6 +1,5 @@
 -- `lane_deliver::reply` meets its contract. Assumes nothing.
 use Rattle.machine.specs.Machine.Deliver.{reply}
-use borrow.Author.Rules.{rules}
 use Rattle.lane_deliver.proofs.reply.Goals as goal
 
 pub returns-then-p : goal.returns-then-p

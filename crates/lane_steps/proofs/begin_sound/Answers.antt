@@ -7,7 +7,6 @@ use Rattle.store_commit.proofs.Bounds.{lane_bound, lines_bound, oldest_bound, be
 use Rattle.machine.specs.Machine.Change.{commit_lane}
 use Rattle.machine.specs.Machine.Begin.{begin_of}
 use Rattle.machine.proofs.Rules.Rules.{answer_goes}
-use borrow.Author.Rules.{rules}
 use Rattle.lane_steps.proofs.begin_sound.Goals as goal
 
 pub returns-then-n-k : goal.returns-then-n-k

@@ -4,7 +4,6 @@ use Rattle.store_commit.proofs.Bounds.{lane_bound, lines_bound, deliver_counted}
 use Rattle.machine.specs.Machine.Change.{commit_lane}
 use Rattle.machine.specs.Machine.Deliver.{deliver_of}
 use Rattle.machine.proofs.Rules.Rules.{answer_goes}
-use borrow.Author.Rules.{rules}
 use Rattle.lane_steps.proofs.deliver_sound.Goals as goal
 
 pub returns-then-n-k : goal.returns-then-n-k

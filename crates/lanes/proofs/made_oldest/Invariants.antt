@@ -1,10 +1,7 @@
 -- `lanes::made_oldest` meets its contract. Assumes nothing.
-use Rattle.std.proofs.Common.{rules}
 use Prim.Native.Nat.{◌+◌, ◌≤◌, ◌-◌}
-use mathlib.Core.Path.{◌≡◌, refl, ap, sym, ◌∙◌}
-use native.Mathlib.Omega.{arith}
+use mathlib.Core.Path.{◌≡◌}
 use Rattle.words.specs.Folds.{down_to}
-use Rattle.words.proofs.Folds.{down_to_none, down_to_more}
 use Rattle.lanes.specs.UseOrder.{carry_of}
 use Rattle.lanes.proofs.made_oldest.Given as goal
 

@@ -1,11 +1,6 @@
 -- `lanes::used` meets its contract. Assumes nothing.
-use Rattle.std.proofs.Common.{rules}
-use Prim.Native.Nat.{◌≤◌, ◌-◌}
-use mathlib.Core.Path.{◌≡◌, ◌∙◌}
 use native.Mathlib.Omega.{arith}
-use Rattle.words.specs.Folds.{up_to}
 use Rattle.words.proofs.Folds.{up_to_none, up_to_more}
-use Rattle.lanes.specs.UseOrder.{carry_of}
 use Rattle.lanes.proofs.used.Goals as goal
 
 pub loop-k-init : goal.loop-k-init

@@ -32,7 +32,7 @@ use Rattle.machine.specs.Machine.Serve.{sends_of, ordered, closed_block, close, 
 use Rattle.machine.proofs.Laws.Sets.{set_cases, set_here}
 use Rattle.machine.proofs.Laws.Sums.{count_zero}
 use Rattle.machine.proofs.Laws.Counts.{count_less, count_past}
-use Rattle.machine.proofs.Bounds.Sound.{BlockSound, ServiceSound, ControlSound, sound}
+use Rattle.machine.proofs.Bounds.Sound.{BlockSound, ServiceSound, ControlSound}
 use Rattle.machine.proofs.Bounds.KeepsLane.{LaneFit, with_served, clash}
 use Rattle.machine.proofs.Bounds.KeepsBegun.{serve_move_waits}
 use Rattle.machine.proofs.Bounds.KeepsStore.{Fit, lane_fit, MoveFit, commit_move_keeps}

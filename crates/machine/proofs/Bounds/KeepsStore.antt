@@ -21,7 +21,7 @@ use Rattle.machine.specs.declared.LaneStep.{LaneStep}
 use Rattle.machine.specs.declared.Move.{Move}
 use Rattle.machine.specs.Machine.Change.{refused_in, lane_store, commit_lane, posted, post_to, post_all, commit_move}
 use Rattle.machine.proofs.Laws.Sets.{set_cases}
-use Rattle.machine.proofs.Bounds.Sound.{LaneSound, BlockSound, ControlSound, Sound, sound}
+use Rattle.machine.proofs.Bounds.Sound.{LaneSound, BlockSound, ControlSound, Sound}
 use Rattle.machine.proofs.Bounds.KeepsLane.{LaneFit, posted_keeps}
 use Rattle.machine.proofs.Bounds.KeepsBegun.{waits, LaneBegins, lane_begun, lane_there, move_begun}
 use Rattle.machine.proofs.Rules.Rules.{lane_rule, move_rule}

@@ -31,7 +31,6 @@ use Rattle.lanes.specs.declared.Found.TheVariants.{At, Nothing}
 use Rattle.lanes.specs.Search.{line_at, search_of, vacant_of}
 use Rattle.lanes.specs.UseOrder.{used_of, place_at}
 use Rattle.lanes.specs.Lanes.{with_waiting, with_returns, with_line}
-use Rattle.answers.specs.declared.Answer.TheVariants.{Refused}
 use Rattle.answers.specs.declared.Refusal.{Refusal}
 use Rattle.answers.specs.declared.Refusal.TheVariants.{QueueFull}
 use Rattle.machine.specs.declared.LaneStep.{LaneStep}

@@ -10,7 +10,6 @@ use borrow.Author.Tests.{eq-eqb, ne_eqb}
 use native.Mathlib.Omega.{arith}
 use Rattle.words.specs.declared.WordNo.{WordNo}
 use Rattle.words.specs.declared.Op.{Op}
-use Rattle.words.specs.declared.Op.TheVariants as Op
 use Rattle.words.specs.Folds.{sum_to}
 use Rattle.words.specs.Units.{place_of}
 use Rattle.words.specs.Operations.{is_load}

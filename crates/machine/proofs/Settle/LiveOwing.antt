@@ -2,7 +2,7 @@
 -- are of different lanes, each of which has a served operation; so it is Less than n, and at most L. And a lane has no grant on its way but for its
 -- served operation. Assumes nothing.
 use Prim.Native.Nat.{ℕ, zero, suc, ◌+◌, ◌<◌, ◌≤◌}
-use mathlib.Core.Logic.{◌⊎◌, inl, inr, ◌≢◌}
+use mathlib.Core.Logic.{◌≢◌}
 use mathlib.Core.Path.{◌≡◌, refl, sym, ap, ◌∙◌, subst}
 use mathlib.Core.Bool.{Bool, true, false, cond, not, ◌&&◌, true≢false}
 use mathlib.Core.List.{List, [], ◌∷◌}
@@ -31,7 +31,6 @@ use Rattle.store.proofs.Services.{found, busy_found, never}
 use Rattle.machine.specs.Machine.Return.{is_answer}
 use Rattle.machine.specs.Machine.Settle.{is_order}
 use Rattle.machine.proofs.Laws.Tests.{and_both}
-use Rattle.machine.proofs.Laws.Sets.{same?}
 use Rattle.machine.proofs.Laws.Counts.{count_less}
 use Rattle.machine.proofs.Laws.Sums.{count_sum, count_zero, sum_up, sum_less, sums_up, count_by, count_unique}
 use Rattle.machine.proofs.Bounds.Sound.{sound}

@@ -2,7 +2,7 @@
 -- goes to one. Assumes nothing.
 use Prim.Native.Nat.{ℕ, zero, suc, ◌<◌, ◌≤◌}
 use mathlib.Core.Path.{◌≡◌, refl, sym, ap, ◌∙◌}
-use mathlib.Core.Bool.{Bool, true, false}
+use mathlib.Core.Bool.{Bool, false}
 use mathlib.Core.List.{List}
 use lib.ListN.{get_or, set}
 use lib.Seq.{get_or-set_other}
@@ -27,7 +27,7 @@ use Rattle.store.specs.declared.Control.{Control}
 use Rattle.store.specs.declared.Outcome.{Outcome}
 use Rattle.store.specs.Opening.{bad_shape, bad_limit, blank_lane, fresh_of, open_of}
 use Rattle.store.specs.Stores.{no_lane, lane_at, block_at}
-use Rattle.store.specs.LaneSets.{nobody, only, goes_to}
+use Rattle.store.specs.LaneSets.{only, goes_to}
 use Rattle.machine.specs.declared.LaneStep.{LaneStep}
 use Rattle.machine.specs.declared.Move.{Move}
 use Rattle.machine.specs.Machine.Change.{commit_lane, post_to, post_all, commit_move, moved_store}

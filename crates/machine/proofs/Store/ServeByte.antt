@@ -40,7 +40,6 @@ use Rattle.machine.specs.Machine.LaneBytes.{bit_of, bits_in, lanes_of, orders_by
 use Rattle.machine.specs.Claims.ServeByte.{downs_at, Gains, GoesByByte, ServeByByte}
 use Rattle.machine.proofs.Laws.Tests.{on}
 use Rattle.machine.proofs.Laws.LaneBytes.{byte_fits, byte_bit, byte_count, byte_lanes}
-use Rattle.machine.proofs.Bounds.Sound.{sound}
 use Rattle.machine.proofs.Bounds.KeepsLane.{clash}
 use Rattle.machine.proofs.Rules.Rules.{ServeReady, served, serve_rule, move_rule}
 use Rattle.machine.proofs.Rules.RulesMemory.{serve_move_rule}

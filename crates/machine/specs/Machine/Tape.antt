@@ -2,7 +2,6 @@
 use Rattle.std.specs.Prelude.{ℕ, zero, suc, Bool, not, cond, List, [], ◌∷◌, eqb, length, drop}
 use Rattle.words.specs.declared.Shape.{Shape}
 use Rattle.tape_records.specs.declared.Record.{Record}
-use Rattle.tape_records.specs.declared.Record.TheVariants as Record
 use Rattle.tape_records.specs.Records.{parse_of}
 use Rattle.lanes.specs.UseOrder.{LoadsOldest}
 use Rattle.answers.specs.declared.Answer.{Answer}

@@ -5,7 +5,6 @@ use Rattle.machine.specs.Machine.LaneBytes.{lanes_of}
 use Rattle.machine.specs.Machine.Serve.{close}
 use Rattle.machine.proofs.Laws.LaneBytes.{byte_lanes}
 use Rattle.machine.proofs.Store.ConsistentServe.{only_length}
-use borrow.Author.Rules.{rules}
 use Rattle.memory_close.proofs.close_service.Goals as goal
 
 pub returns : goal.returns

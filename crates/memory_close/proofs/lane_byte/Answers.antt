@@ -1,5 +1,4 @@
 -- `memory_close::lane_byte` meets its contract. Assumes nothing.
-use borrow.Author.Rules.{rules}
 use Rattle.machine.proofs.Laws.LaneBytes.{only_byte}
 use Rattle.memory_close.proofs.lane_byte.Goals as goal
 

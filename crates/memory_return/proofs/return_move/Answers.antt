@@ -1,6 +1,5 @@
 -- `memory_return::return_move` meets its contract: the message is taken and put to its block; an answer is counted, an ejection sends nothing. Assumes nothing.
 use Rattle.machine.specs.Machine.Return.{return_move}
-use borrow.Author.Rules.{rules}
 use Rattle.memory_return.proofs.return_move.Goals as goal
 
 pub returns-then-is_answer : goal.returns-then-is_answer

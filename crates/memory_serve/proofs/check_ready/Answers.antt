@@ -1,7 +1,6 @@
 -- `memory_serve::check_ready` meets its contract. Assumes nothing.
 use borrow.Author.Tests.{lt-ltb, le-ltb}
 use Rattle.machine.specs.Machine.Serve.{ready_of}
-use borrow.Author.Rules.{rules}
 use Rattle.memory_serve.proofs.check_ready.Goals as goal
 
 pub returns-then-busy_for : goal.returns-then-busy_for

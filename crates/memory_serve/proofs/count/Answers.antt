@@ -1,7 +1,5 @@
 -- `memory_serve::count` meets its contract. Assumes nothing.
-use Rattle.std.proofs.Common.{rules}
 use native.Mathlib.Omega.{arith}
-use lib.Count.{ones-le}
 use Rattle.machine.proofs.Laws.LaneBytes.{ones_bits}
 use Rattle.memory_serve.proofs.count.Goals as goal
 

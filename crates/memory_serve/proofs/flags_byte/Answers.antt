@@ -1,5 +1,4 @@
 -- `memory_serve::flags_byte` meets its contract. Assumes nothing.
-use borrow.Author.Rules.{rules}
 use Rattle.memory_serve.proofs.Bytes.{joined_byte}
 use Rattle.memory_serve.proofs.flags_byte.Goals as goal
 

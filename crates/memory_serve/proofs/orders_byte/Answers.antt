@@ -2,7 +2,6 @@
 use Rattle.words.specs.Folds.{sum_to}
 use Rattle.machine.specs.Machine.LaneBytes.{byte_of, orders_byte}
 use Rattle.machine.specs.Machine.Serve.{ordered}
-use borrow.Author.Rules.{rules}
 use Rattle.memory_serve.proofs.orders_byte.Goals as goal
 
 pub returns-then-sends : goal.returns-then-sends

@@ -1,13 +1,10 @@
 -- `memory_serve::serve_move` meets its contract: the service closes at once where no lane is ordered, else the orders go out. Assumes nothing.
 use borrow.Author.Tests.{eq-eqb, ne_eqb}
-use native.Mathlib.Omega.{arith}
-use mathlib.Core.Path.{◌≡◌, ap}
+use mathlib.Core.Path.{◌≡◌}
 use lib.ListN.{length}
-use Rattle.store.specs.declared.Service.{Service}
 use Rattle.machine.specs.Machine.Serve.{serve_move}
 use Rattle.machine.proofs.Store.ServeByte.{orders_lanes}
 use Rattle.memory_serve.proofs.Bytes.{count_orders}
-use borrow.Author.Rules.{rules}
 use Rattle.memory_serve.proofs.serve_move.Goals as goal
 
 pub returns-then-n-eq0 : goal.returns-then-n-eq0

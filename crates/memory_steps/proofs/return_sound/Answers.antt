@@ -3,7 +3,6 @@ use borrow.Author.Tests.{le-leb, lt-leb, eq-eqb, ne_eqb}
 use Rattle.store_commit.proofs.Bounds.{lane_bound}
 use Rattle.memory_steps.proofs.Bounds.{head_bound, service_bound}
 use Rattle.machine.specs.Machine.Return.{return_of}
-use borrow.Author.Rules.{rules}
 use Rattle.memory_steps.proofs.return_sound.Goals as goal
 
 pub returns-then-n-k : goal.returns-then-n-k

@@ -6,7 +6,6 @@ use Rattle.store_commit.proofs.Bounds.{lane_bound}
 use Rattle.memory_steps.proofs.Bounds.{ready_bound}
 use Rattle.words.specs.declared.BlockNo.{BlockNo}
 use Rattle.machine.specs.Machine.Serve.{serve_of}
-use borrow.Author.Rules.{rules}
 use Rattle.memory_steps.proofs.serve_sound.Goals as goal
 
 pub returns-then-n-k : goal.returns-then-n-k

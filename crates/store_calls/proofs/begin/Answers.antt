@@ -1,7 +1,5 @@
 -- `store_calls::begin` meets its contract. Assumes nothing.
 use Rattle.machine.specs.Machine.Begin.{begin_of}
-use mathlib.Core.Path.{sym, ◌∙◌}
-use borrow.Author.Rules.{rules}
 use Rattle.store_calls.proofs.begin.Goals as goal
 
 pub returns-then-corrupt : goal.returns-then-corrupt

@@ -1,7 +1,5 @@
 -- `store_calls::return_head` meets its contract. Assumes nothing.
 use Rattle.machine.specs.Machine.Return.{return_of}
-use mathlib.Core.Path.{sym, ◌∙◌}
-use borrow.Author.Rules.{rules}
 use Rattle.store_calls.proofs.return_head.Goals as goal
 
 pub returns-then-corrupt : goal.returns-then-corrupt

@@ -1,7 +1,5 @@
 -- `store_calls::serve` meets its contract. Assumes nothing.
 use Rattle.machine.specs.Machine.Serve.{serve_of}
-use mathlib.Core.Path.{sym, ◌∙◌}
-use borrow.Author.Rules.{rules}
 use Rattle.store_calls.proofs.serve.Goals as goal
 
 pub returns-then-corrupt : goal.returns-then-corrupt

@@ -1,7 +1,5 @@
 -- `store_commit::lowest` meets its contract. Assumes nothing.
-use Rattle.std.proofs.Common.{rules}
 use native.Mathlib.Omega.{arith}
-use lib.Count.{trailing_le}
 use Rattle.store_commit.proofs.Walks.{trailing_lowest}
 use Rattle.store_commit.proofs.lowest.Goals as goal
 

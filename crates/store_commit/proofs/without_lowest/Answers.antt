@@ -1,5 +1,4 @@
 -- `store_commit::without_lowest` meets its contract. Assumes nothing.
-use borrow.Author.Rules.{rules}
 use native.Mathlib.Omega.{arith}
 use Rattle.store_commit.proofs.Walks.{and_without}
 use Rattle.store_commit.proofs.without_lowest.Goals as goal

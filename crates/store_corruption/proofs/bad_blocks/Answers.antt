@@ -1,13 +1,7 @@
 -- `store_corruption::bad_blocks` meets its contract. Assumes nothing.
-use borrow.Author.Rules.{rules}
-use Prim.Native.Nat.{◌≤◌, ◌-◌}
 use native.Mathlib.Omega.{arith}
-use mathlib.Core.Bool.{false}
-use mathlib.Core.Path.{◌≡◌, sym, ◌∙◌}
-use Rattle.words.specs.Folds.{any_to}
+use mathlib.Core.Path.{sym, ◌∙◌}
 use Rattle.words.proofs.Folds.{any_none, any_more, any_true}
-use Rattle.store.specs.Stores.{block_at}
-use Rattle.machine.specs.Machine.Corruption.{bad_flags}
 use Rattle.store_corruption.proofs.bad_blocks.Goals as goal
 
 pub loop-k-init : goal.loop-k-init

@@ -1,13 +1,9 @@
 -- `store_corruption::bad_control` meets its contract. Assumes nothing.
-use borrow.Author.Rules.{rules}
 use Prim.Native.Nat.{◌≤◌, ◌-◌}
-use native.Mathlib.Omega.{arith}
 use mathlib.Core.Bool.{false}
-use mathlib.Core.Path.{◌≡◌, sym, ◌∙◌}
+use mathlib.Core.Path.{◌≡◌}
 use Rattle.words.specs.Folds.{any_to}
-use Rattle.words.proofs.Folds.{any_none, any_more, any_true}
-use borrow.Author.Tests.{lt-ltb, le-ltb}
-use Rattle.machine.specs.Machine.Corruption.{bad_slot, bad_control}
+use Rattle.machine.specs.Machine.Corruption.{bad_slot}
 use Rattle.store_corruption.proofs.bad_control.Given as goal
 
 abbrev pub invariant-loop-k : goal.invariant-loop-k

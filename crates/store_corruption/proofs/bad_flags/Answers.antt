@@ -1,12 +1,8 @@
 -- `store_corruption::bad_flags` meets its contract. Assumes nothing.
-use borrow.Author.Rules.{rules}
-use Prim.Native.Nat.{◌≤◌, ◌-◌}
 use native.Mathlib.Omega.{arith}
-use mathlib.Core.Bool.{false}
 use mathlib.Core.Path.{◌≡◌, sym, ◌∙◌}
-use Rattle.words.specs.Folds.{any_to}
 use Rattle.words.proofs.Folds.{any_none, any_more, any_true}
-use Rattle.machine.specs.Machine.Corruption.{bad_flag, bad_flags}
+use Rattle.machine.specs.Machine.Corruption.{bad_flags}
 use Rattle.store_corruption.proofs.bad_flags.Goals as goal
 
 pub loop-k-init : goal.loop-k-init

@@ -1,12 +1,9 @@
 -- `store_corruption::bad_flags` meets its contract. Assumes nothing.
-use borrow.Author.Rules.{rules}
 use Prim.Native.Nat.{◌≤◌, ◌-◌}
-use native.Mathlib.Omega.{arith}
 use mathlib.Core.Bool.{false}
-use mathlib.Core.Path.{◌≡◌, sym, ◌∙◌}
+use mathlib.Core.Path.{◌≡◌}
 use Rattle.words.specs.Folds.{any_to}
-use Rattle.words.proofs.Folds.{any_none, any_more, any_true}
-use Rattle.machine.specs.Machine.Corruption.{bad_flag, bad_flags}
+use Rattle.machine.specs.Machine.Corruption.{bad_flag}
 use Rattle.store_corruption.proofs.bad_flags.Given as goal
 
 abbrev pub invariant-loop-k : goal.invariant-loop-k

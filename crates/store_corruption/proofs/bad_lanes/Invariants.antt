@@ -1,11 +1,8 @@
 -- `store_corruption::bad_lanes` meets its contract. Assumes nothing.
-use borrow.Author.Rules.{rules}
 use Prim.Native.Nat.{◌≤◌, ◌-◌}
-use native.Mathlib.Omega.{arith}
 use mathlib.Core.Bool.{false}
-use mathlib.Core.Path.{◌≡◌, sym, ◌∙◌}
+use mathlib.Core.Path.{◌≡◌}
 use Rattle.words.specs.Folds.{any_to}
-use Rattle.words.proofs.Folds.{any_none, any_more, any_true}
 use Rattle.queues.specs.Queues.{capacity}
 use Rattle.store.specs.Stores.{lane_at}
 use Rattle.machine.specs.Machine.Corruption.{bad_lane}

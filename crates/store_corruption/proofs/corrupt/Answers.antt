@@ -3,7 +3,6 @@ use mathlib.Core.Path.{sym, ◌∙◌}
 use Rattle.words.specs.Folds.{any_of}
 use Rattle.machine.specs.Machine.Corruption.{corrupt_of}
 use Rattle.machine.proofs.Bounds.Shape.{shape_bounds}
-use borrow.Author.Rules.{rules}
 use Rattle.store_corruption.proofs.corrupt.Goals as goal
 
 pub returns-then-bad_shape : goal.returns-then-bad_shape

@@ -1,12 +1,7 @@
 -- `store_corruption::taken_before` meets its contract. Assumes nothing.
-use borrow.Author.Rules.{rules}
-use Prim.Native.Nat.{◌≤◌, ◌-◌}
 use native.Mathlib.Omega.{arith}
-use mathlib.Core.Bool.{false}
-use mathlib.Core.Path.{◌≡◌, sym, ◌∙◌}
-use Rattle.words.specs.Folds.{any_to}
+use mathlib.Core.Path.{sym, ◌∙◌}
 use Rattle.words.proofs.Folds.{any_none, any_more, any_true}
-use Rattle.store.specs.Control.{slot_at, is_for}
 use Rattle.store_corruption.proofs.taken_before.Goals as goal
 
 pub loop-j-init : goal.loop-j-init

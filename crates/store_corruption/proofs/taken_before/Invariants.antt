@@ -1,11 +1,8 @@
 -- `store_corruption::taken_before` meets its contract. Assumes nothing.
-use borrow.Author.Rules.{rules}
 use Prim.Native.Nat.{◌≤◌, ◌-◌}
-use native.Mathlib.Omega.{arith}
 use mathlib.Core.Bool.{false}
-use mathlib.Core.Path.{◌≡◌, sym, ◌∙◌}
+use mathlib.Core.Path.{◌≡◌}
 use Rattle.words.specs.Folds.{any_to}
-use Rattle.words.proofs.Folds.{any_none, any_more, any_true}
 use Rattle.store.specs.Control.{slot_at, is_for}
 use Rattle.store_corruption.proofs.taken_before.Given as goal
 

@@ -1,5 +1,4 @@
 -- `store_opening::bad_limit` meets its contract. Assumes nothing.
-use Rattle.std.proofs.Common.{rules}
 use borrow.Author.Tests.{lt-ltb, le-ltb}
 use Rattle.words.specs.Folds.{any_of}
 use Rattle.store_opening.proofs.bad_limit.Goals as goal

@@ -1,5 +1,4 @@
 -- `store_opening::bad_shape` meets its contract. Assumes nothing.
-use Rattle.std.proofs.Common.{rules}
 use borrow.Author.Tests.{lt-ltb, le-ltb}
 use Rattle.words.specs.Folds.{any_of}
 use Rattle.store.specs.Opening.{bad_shape}

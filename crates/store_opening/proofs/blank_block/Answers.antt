@@ -1,5 +1,4 @@
 -- `store_opening::blank_block` meets its contract. Assumes nothing.
-use Rattle.std.proofs.Common.{rules}
 use mathlib.Core.Path.{refl}
 use Rattle.store.specs.Opening.{blank_block}
 use Rattle.store_opening.proofs.blank_block.Goals as goal

@@ -1,6 +1,5 @@
 -- `store_opening::blank_lane` meets its contract. Assumes nothing.
 use Rattle.store.specs.Opening.{blank_lane}
-use borrow.Author.Rules.{rules}
 use Rattle.store_opening.proofs.blank_lane.Goals as goal
 
 pub returns : goal.returns

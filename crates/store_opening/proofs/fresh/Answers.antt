@@ -1,6 +1,5 @@
 -- `store_opening::fresh` meets its contract. Assumes nothing.
 use Rattle.store.specs.Opening.{fresh_of}
-use borrow.Author.Rules.{rules}
 use Rattle.store_opening.proofs.fresh.Goals as goal
 
 pub returns : goal.returns

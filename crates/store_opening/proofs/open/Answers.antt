@@ -1,6 +1,5 @@
 -- `store_opening::open` meets its contract. Assumes nothing.
 use Rattle.store.specs.Opening.{open_of}
-use borrow.Author.Rules.{rules}
 use Rattle.store_opening.proofs.open.Goals as goal
 
 pub returns-then-bad_shape : goal.returns-then-bad_shape

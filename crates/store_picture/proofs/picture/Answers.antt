@@ -4,7 +4,6 @@ use mathlib.Core.Path.{refl, sym, ◌∙◌}
 use Rattle.machine.proofs.Bounds.Sound.{sound}
 use Rattle.store_picture.proofs.Records.{valid_most, picture_length}
 use Rattle.store_picture.proofs.Pictures.{picture_corrupt, picture_short, picture_fits}
-use borrow.Author.Rules.{rules}
 use Rattle.store_picture.proofs.picture.Goals as goal
 
 pub returns-then-corrupt : goal.returns-then-corrupt

@@ -1,13 +1,9 @@
 -- `store_picture::valid_in` meets its contract. Assumes nothing.
-use mathlib.Core.Path.{◌≡◌, sym}
+use mathlib.Core.Path.{sym}
 use lib.ListN.{get_or}
 use Rattle.words.specs.Lines.{no_line}
 use native.Mathlib.Omega.{arith}
-use borrow.Author.Rules.{rules}
-use Prim.Native.Nat.{◌-◌, ◌≤◌}
-use mathlib.Core.Path.{◌≡◌}
 use Rattle.words.proofs.Folds.{count_none, count_more, count_most}
-use Rattle.store_picture.specs.Records.{valid_in}
 use Rattle.store_picture.proofs.Records.{one_most}
 use Rattle.store_picture.proofs.valid_in.Goals as goal
 

@@ -1,15 +1,8 @@
 -- `store_picture::valid_lines` meets its contract. Assumes nothing.
-use native.Mathlib.Omega.{arith}
-use borrow.Author.Rules.{rules}
 use Prim.Native.Nat.{◌-◌, ◌≤◌}
-use mathlib.Core.Path.{◌≡◌, sym}
-use lib.ListN.{get_or}
+use mathlib.Core.Path.{◌≡◌}
 use Rattle.words.specs.Folds.{sum_to}
-use Rattle.words.specs.Lines.{no_line}
-use Rattle.words.proofs.Folds.{count_most}
-use Rattle.store.specs.Stores.{lane_at}
 use Rattle.store_picture.specs.Records.{valid_at}
-use Rattle.store_picture.proofs.Records.{sum_none, sum_more, valid_most}
 use Rattle.store_picture.proofs.valid_lines.Given as goal
 
 abbrev pub invariant-loop-k : goal.invariant-loop-k

@@ -1,12 +1,8 @@
 -- `store_picture::write_block` meets its contract: a turn of the loop writes one lane. Assumes nothing.
-use Prim.Native.Nat.{◌-◌, ◌≤◌}
 use native.Mathlib.Omega.{arith}
-use mathlib.Core.Path.{◌≡◌}
-use borrow.Author.Rules.{rules}
-use Rattle.words.specs.Folds.{gather_to}
-use Rattle.buffers.proofs.Writing.{Wrote, written_none}
+use Rattle.buffers.proofs.Writing.{written_none}
 use Rattle.store_picture.specs.Records.{records_at}
-use Rattle.store_picture.proofs.Records.{gather_none, wrote_more, wrote_kept, wrote_fits}
+use Rattle.store_picture.proofs.Records.{gather_none, wrote_more, wrote_fits}
 use Rattle.store_picture.proofs.write_block.Goals as goal
 
 pub loop-k-init : goal.loop-k-init

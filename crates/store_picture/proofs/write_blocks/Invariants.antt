@@ -1,13 +1,8 @@
 -- `store_picture::write_blocks` meets its contract: a turn of the loop writes one block. Assumes nothing.
 use Prim.Native.Nat.{◌-◌, ◌≤◌}
-use native.Mathlib.Omega.{arith}
-use mathlib.Core.Path.{◌≡◌, ap}
-use lib.ListN.{length}
-use borrow.Author.Rules.{rules}
 use Rattle.words.specs.Folds.{gather_to}
-use Rattle.buffers.proofs.Writing.{Wrote, written_none}
+use Rattle.buffers.proofs.Writing.{Wrote}
 use Rattle.store_picture.specs.Records.{block_records}
-use Rattle.store_picture.proofs.Records.{gather_none, wrote_more, wrote_kept, wrote_fits, picture_blocks}
 use Rattle.store_picture.proofs.write_blocks.Given as goal
 
 abbrev pub invariant-loop-a : goal.invariant-loop-a

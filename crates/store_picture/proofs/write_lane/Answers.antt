@@ -1,13 +1,10 @@
 -- `store_picture::write_lane` meets its contract: a turn of the loop writes one line. Assumes nothing.
-use Prim.Native.Nat.{◌-◌, ◌≤◌}
 use native.Mathlib.Omega.{arith}
-use mathlib.Core.Path.{◌≡◌}
 use lib.ListN.{get_or}
-use borrow.Author.Rules.{rules}
 use Rattle.words.specs.Lines.{no_line}
-use Rattle.buffers.proofs.Writing.{Wrote, written_none}
-use Rattle.store_picture.specs.Records.{line_record, lane_records}
-use Rattle.store_picture.proofs.Records.{gather_none, wrote_more, wrote_kept, wrote_fits}
+use Rattle.buffers.proofs.Writing.{written_none}
+use Rattle.store_picture.specs.Records.{line_record}
+use Rattle.store_picture.proofs.Records.{gather_none, wrote_more, wrote_fits}
 use Rattle.store_picture.proofs.write_lane.Goals as goal
 
 pub loop-i-init : goal.loop-i-init

@@ -3,7 +3,6 @@ use Prim.Native.Nat.{◌+◌, ◌≤◌}
 use native.Mathlib.Omega.{arith}
 use mathlib.Core.Path.{sym, ◌∙◌}
 use lib.ListN.{length, length-take, length-drop}
-use borrow.Author.Rules.{rules}
 use Rattle.buffers.proofs.Writing.{written_none}
 use Rattle.store_picture.proofs.Records.{part_written, record_length, line_holds, line_other, holds_length}
 use Rattle.store_picture.proofs.write_line.Goals as goal

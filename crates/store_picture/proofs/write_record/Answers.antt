@@ -2,7 +2,6 @@
 use native.Mathlib.Omega.{arith}
 use Rattle.buffers.proofs.Writing.{wrote_then}
 use Rattle.machine.specs.Machine.Picture.{record_bytes}
-use borrow.Author.Rules.{rules}
 use Rattle.store_picture.proofs.write_record.Goals as goal
 
 pub returns : goal.returns

@@ -1,6 +1,5 @@
 -- `store_places::begun` meets its contract. Assumes nothing.
 use Rattle.machine.specs.Machine.Begun.{begun_in}
-use borrow.Author.Rules.{rules}
 use Rattle.store_places.proofs.begun.Goals as goal
 
 pub returns : goal.returns

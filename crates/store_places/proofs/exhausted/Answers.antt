@@ -1,7 +1,6 @@
 -- `store_places::exhausted` meets its contract: far from the last place, and by the sum. Assumes nothing.
 use mathlib.Core.Path.{sym}
 use Rattle.store_places.proofs.Far.{far_left}
-use borrow.Author.Rules.{rules}
 use Rattle.store_places.proofs.exhausted.Goals as goal
 
 pub returns-then-s-lt-NEAR_END : goal.returns-then-s-lt-NEAR_END

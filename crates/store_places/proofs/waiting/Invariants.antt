@@ -1,14 +1,10 @@
 -- `store_places::waiting` meets its contract. The loop's invariant: the sum is the count of the lanes passed whose operation waits. Assumes nothing.
 use Prim.Native.Nat.{◌≤◌, ◌-◌}
-use native.Mathlib.Omega.{arith}
 use mathlib.Core.Bool.{not}
-use mathlib.Core.Path.{◌≡◌, sym, ◌∙◌}
-use borrow.Author.Rules.{rules}
+use mathlib.Core.Path.{◌≡◌}
 use Rattle.words.specs.Folds.{count_to}
-use Rattle.words.proofs.Folds.{count_none, count_more}
 use Rattle.lanes.specs.Waits.{idle_of}
 use Rattle.store.specs.Stores.{lane_at}
-use Rattle.machine.specs.Machine.Begun.{waiting_in}
 use Rattle.store_places.proofs.waiting.Given as goal
 
 abbrev pub invariant-loop-k : goal.invariant-loop-k

@@ -1,7 +1,6 @@
 -- `store_quiet::active` meets its contract. Assumes nothing.
 use borrow.Author.Tests.{lt-ltb, le-ltb}
 use Rattle.store.specs.Quiet.{active_of}
-use borrow.Author.Rules.{rules}
 use Rattle.store_quiet.proofs.active.Goals as goal
 
 pub returns-then-l-gt0 : goal.returns-then-l-gt0

@@ -1,15 +1,10 @@
 -- `store_quiet::quiet` meets its contract: memory is free, and the loop meets no active lane. Assumes nothing.
-use borrow.Author.Rules.{rules}
 use Prim.Native.Nat.{◌≤◌, ◌-◌}
-use native.Mathlib.Omega.{arith}
 use mathlib.Core.Bool.{false}
-use mathlib.Core.Path.{◌≡◌, sym, ◌∙◌}
-use lib.ListN.{length, length-map}
+use mathlib.Core.Path.{◌≡◌}
 use Rattle.words.specs.Folds.{any_to}
-use Rattle.words.proofs.Folds.{any_none, any_more, any_true}
 use Rattle.store.specs.Stores.{lane_at}
-use Rattle.store.specs.Quiet.{active_of, quiet_of}
-use Rattle.store_quiet.proofs.Quieting.{active_past}
+use Rattle.store.specs.Quiet.{active_of}
 use Rattle.store_quiet.proofs.quiet.Given as goal
 
 abbrev pub invariant-loop-k : goal.invariant-loop-k

@@ -1,7 +1,6 @@
 -- `store_settle::settle` meets its contract. Assumes nothing.
-use mathlib.Core.Path.{sym, ◌∙◌}
+use mathlib.Core.Path.{◌∙◌}
 use Rattle.machine.specs.Machine.Settle.{settle_of}
-use borrow.Author.Rules.{rules}
 use Rattle.store_settle.proofs.settle.Goals as goal
 
 pub returns-then-corrupt : goal.returns-then-corrupt

@@ -1,11 +1,6 @@
 -- `store_settle_step::lowest` meets its contract. Assumes nothing.
-use borrow.Author.Rules.{rules}
-use Prim.Native.Nat.{◌≤◌, ◌-◌}
 use native.Mathlib.Omega.{arith}
-use mathlib.Core.Path.{◌≡◌, sym, ◌∙◌}
-use Rattle.words.specs.Folds.{lowest_to}
-use Rattle.store.specs.Stores.{lane_at}
-use Rattle.store_settle_step.specs.Kinds.{enabled_of}
+use mathlib.Core.Path.{sym, ◌∙◌}
 use Rattle.words.proofs.Folds.{lowest_none, lowest_more, lowest_at}
 use Rattle.store_settle_step.proofs.lowest.Goals as goal
 

@@ -1,5 +1,4 @@
 -- `store_settle_step::serve_step` meets its contract: a refused serve queues no order, another as many as its service awaits. Assumes nothing.
-use borrow.Author.Rules.{rules}
 use native.Mathlib.Omega.{arith}
 use mathlib.Core.Path.{sym, ◌∙◌}
 use Rattle.machine.proofs.Bounds.Sound.{sound}

@@ -8,7 +8,6 @@ use Rattle.machine.proofs.Settle.StepOrders.{stays_none}
 use Rattle.store_settle_step.proofs.Arrays.{arrays_sized}
 use Rattle.store_settle_step.proofs.Taken.{taken_none}
 use Rattle.machine.proofs.Bounds.Sound.{sound}
-use borrow.Author.Rules.{rules}
 use Rattle.store_settle_step.proofs.step.Goals as goal
 
 pub lowest-d-requires : goal.lowest-d-requires

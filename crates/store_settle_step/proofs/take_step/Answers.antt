@@ -1,5 +1,4 @@
 -- `store_settle_step::take_step` meets its contract. Assumes nothing.
-use borrow.Author.Rules.{rules}
 use mathlib.Core.Path.{◌∙◌}
 use Rattle.lanes.specs.UseOrder.{LoadsOldest}
 use Rattle.machine.proofs.Settle.StepOrders.{deliver_queues, return_queues}

@@ -1,5 +1,5 @@
 -- `tape_decimals::decimal_in` meets its contract: nothing where no room is left, a digit, or the digits of a tenth and then the last one. Assumes nothing.
-use Rattle.std.proofs.Common.{◌≡◌, ◌<◌, ◌-◌, ◌/◌, arith}
+use Rattle.std.proofs.Common.{◌<◌, ◌-◌, ◌/◌, arith}
 use Rattle.machine.proofs.Lengths.{decimal_fits}
 use Rattle.buffers.proofs.Writing.{written_none, wrote_then}
 use Rattle.tape_decimals.proofs.Decimals.{decimal_none, decimal_one, decimal_more}

@@ -2,7 +2,6 @@
 use mathlib.Core.Path.{sym, ◌∙◌}
 use Rattle.tape_records.proofs.Parts.{rest_is, rest_length}
 use Rattle.tape_records.proofs.Parsing.{parse_empty, parse_unknown, parse_truncated, parse_whole}
-use borrow.Author.Rules.{rules}
 use Rattle.tape_records.proofs.parse.Goals as goal
 
 pub returns-then-left-eq0 : goal.returns-then-left-eq0

@@ -1,7 +1,7 @@
 -- `tape_replay::print_records` meets its contract: each turn prints one record's line, and the end prints `end`. Assumes nothing.
-use Rattle.std.proofs.Common.{◌-◌, ◌<◌, arith, refl, length}
+use Rattle.std.proofs.Common.{arith, length}
 use Rattle.tape_records.proofs.Parts.{rest_is}
-use Rattle.tape_replay.proofs.Turns.{going_start, going_room, filled_fits, index_fits, going_end, next_inside, next_further, going_next}
+use Rattle.tape_replay.proofs.Turns.{going_start, going_room, going_end, next_inside, next_further, going_next}
 use Rattle.tape_replay.proofs.print_records.Goals as goal
 
 pub loop-at-init : goal.loop-at-init

@@ -1,7 +1,6 @@
 -- `tape_steps::open_record` meets its contract. Assumes nothing.
 use borrow.Author.Tests.{eq-eqb, ne_eqb}
 use Rattle.machine.specs.Machine.Tape.{open_record}
-use borrow.Author.Rules.{rules}
 use Rattle.tape_steps.proofs.open_record.Goals as goal
 
 pub returns-then-bad_shape : goal.returns-then-bad_shape

@@ -1,8 +1,6 @@
 -- `tape_steps::record_sound` meets its contract. Assumes nothing.
 use borrow.Author.Tests.{eq-eqb, ne_eqb}
 use Rattle.machine.specs.Machine.Tape.{record_of}
-use Rattle.tape_steps.proofs.Steady.{steady_open}
-use borrow.Author.Rules.{rules}
 use Rattle.tape_steps.proofs.record_sound.Goals as goal
 
 pub returns-then-s-eq0 : goal.returns-then-s-eq0

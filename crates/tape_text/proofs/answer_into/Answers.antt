@@ -1,6 +1,5 @@
 -- `tape_text::answer_into` meets its contract. Assumes nothing.
 use Rattle.machine.specs.Machine.Text.{answer_text}
-use borrow.Author.Rules.{rules}
 use Rattle.tape_text.proofs.answer_into.Goals as goal
 
 pub returns-in-Opened : goal.returns-in-Opened

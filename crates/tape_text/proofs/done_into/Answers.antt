@@ -4,7 +4,6 @@ use Rattle.machine.proofs.Lengths.{decimal_fits}
 use Rattle.buffers.proofs.Writing.{wrote_then}
 use Rattle.machine.specs.Machine.Text.{answer_text}
 use lib.ListN.{length-append}
-use borrow.Author.Rules.{rules}
 use Rattle.tape_text.proofs.done_into.Goals as goal
 
 pub spaced_into-place-requires : goal.spaced_into-place-requires

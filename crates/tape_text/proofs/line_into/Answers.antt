@@ -4,7 +4,6 @@ use Rattle.machine.proofs.Lengths.{decimal_fits, answer_fits}
 use Rattle.buffers.proofs.Writing.{wrote_then}
 use Rattle.machine.specs.Machine.Text.{line_text}
 use lib.ListN.{length-append}
-use borrow.Author.Rules.{rules}
 use Rattle.tape_text.proofs.line_into.Goals as goal
 
 pub put-answer-requires : goal.put-answer-requires

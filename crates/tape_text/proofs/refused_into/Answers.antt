@@ -3,7 +3,6 @@ use native.Mathlib.Omega.{arith}
 use Rattle.machine.proofs.Lengths.{decimal_fits}
 use Rattle.buffers.proofs.Writing.{wrote_then}
 use Rattle.answers.specs.Refusals.{number_of}
-use borrow.Author.Rules.{rules}
 use Rattle.tape_text.proofs.refused_into.Goals as goal
 
 pub returns : goal.returns

@@ -2,7 +2,6 @@
 use native.Mathlib.Omega.{arith}
 use Rattle.machine.proofs.Lengths.{decimal_fits}
 use Rattle.buffers.proofs.Writing.{wrote_then}
-use borrow.Author.Rules.{rules}
 use Rattle.tape_text.proofs.spaced_into.Goals as goal
 
 pub returns : goal.returns

@@ -1,8 +1,5 @@
 -- `test_bounds::bound` meets its contract: five counts of the store, added with their weights. Assumes nothing.
-use native.Mathlib.Omega.{arith}
-use borrow.Author.Rules.{rules}
 use Rattle.machine.specs.Machine.Settle.{bound_of}
-use Rattle.test_bounds.proofs.Sums.{lanes_product}
 use Rattle.test_bounds.proofs.bound.Goals as goal
 
 pub returns : goal.returns

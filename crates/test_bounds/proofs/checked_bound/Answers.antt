@@ -1,6 +1,5 @@
 -- `test_bounds::checked_bound` meets its contract. Assumes nothing.
 use mathlib.Core.Path.{sym, ◌∙◌}
-use borrow.Author.Rules.{rules}
 use Rattle.machine.proofs.Bounds.Sound.{sound}
 use Rattle.test_bounds.proofs.checked_bound.Goals as goal
 

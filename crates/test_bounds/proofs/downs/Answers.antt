@@ -1,5 +1,5 @@
 -- `test_bounds::downs` meets its contract. Assumes nothing.
-use Rattle.std.proofs.Common.{◌≡◌, ◌∙◌, ap, Bool, cond, arith}
+use Rattle.std.proofs.Common.{◌∙◌, ap, Bool, cond, arith}
 use Rattle.test_bounds.proofs.Sums.{count_start, count_next}
 use Rattle.test_bounds.proofs.downs.Goals as goal
 

@@ -1,16 +1,13 @@
 -- `test_bounds::downs` meets its contract. Assumes nothing.
 use Prim.Native.Nat.{ℕ, ◌≤◌, ◌-◌}
-use native.Mathlib.Omega.{arith}
 use mathlib.Core.Bool.{Bool, not, cond, ◌&&◌}
-use mathlib.Core.Path.{◌≡◌, ◌∙◌, ap}
+use mathlib.Core.Path.{◌≡◌}
 use lib.Dec.{ltb}
 use lib.ListN.{get_or}
-use borrow.Author.Rules.{rules}
 use Rattle.words.specs.Folds.{count_to}
 use Rattle.queues.specs.declared.DownQueue.{DownQueue}
 use Rattle.queues.specs.Queues.{no_down}
 use Rattle.machine.specs.Machine.Settle.{is_order}
-use Rattle.test_bounds.proofs.Sums.{count_start, count_next}
 use Rattle.test_bounds.proofs.downs.Given as goal
 
 -- place j has a message that is counted

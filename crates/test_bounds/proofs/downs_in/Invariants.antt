@@ -1,12 +1,9 @@
 -- `test_bounds::downs_in` meets its contract. Assumes nothing.
 use Prim.Native.Nat.{◌*◌, ◌≤◌, ◌-◌}
-use native.Mathlib.Omega.{arith}
-use mathlib.Core.Path.{◌≡◌, ◌∙◌}
-use borrow.Author.Rules.{rules}
+use mathlib.Core.Path.{◌≡◌}
 use Rattle.words.specs.Folds.{sum_to}
 use Rattle.store.specs.Stores.{lane_at}
 use Rattle.machine.specs.Machine.Settle.{downs_of}
-use Rattle.test_bounds.proofs.Sums.{sum_none, sum_more}
 use Rattle.test_bounds.proofs.downs_in.Given as goal
 
 abbrev pub invariant-loop-k : goal.invariant-loop-k

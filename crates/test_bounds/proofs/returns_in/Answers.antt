@@ -1,10 +1,5 @@
 -- `test_bounds::returns_in` meets its contract. Assumes nothing.
-use Prim.Native.Nat.{◌*◌, ◌≤◌, ◌-◌}
 use native.Mathlib.Omega.{arith}
-use mathlib.Core.Path.{◌≡◌, ◌∙◌}
-use borrow.Author.Rules.{rules}
-use Rattle.words.specs.Folds.{sum_to}
-use Rattle.store.specs.Stores.{lane_at}
 use Rattle.test_bounds.proofs.Sums.{sum_none, sum_more}
 use Rattle.test_bounds.proofs.returns_in.Goals as goal
 

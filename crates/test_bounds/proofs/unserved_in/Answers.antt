@@ -1,12 +1,7 @@
 -- `test_bounds::unserved_in` meets its contract. Assumes nothing.
-use Prim.Native.Nat.{◌≤◌, ◌-◌}
 use native.Mathlib.Omega.{arith}
 use mathlib.Core.Bool.{Bool, cond}
-use mathlib.Core.Path.{◌≡◌, ◌∙◌, ap}
-use borrow.Author.Rules.{rules}
-use Rattle.words.specs.Folds.{count_to}
-use Rattle.lanes.specs.Waits.{unserved_of}
-use Rattle.store.specs.Stores.{lane_at}
+use mathlib.Core.Path.{◌∙◌, ap}
 use Rattle.test_bounds.proofs.Sums.{count_start, count_next}
 use Rattle.test_bounds.proofs.unserved_in.Goals as goal
 

@@ -1,11 +1,7 @@
 -- `lanes::Lane::search` meets its contract. Assumes nothing.
-use borrow.Author.Rules.{rules}
-use Prim.Native.Nat.{◌≤◌, ◌-◌, ◌<◌}
-use mathlib.Core.Path.{◌≡◌, ◌∙◌}
+use Prim.Native.Nat.{◌<◌}
+use mathlib.Core.Path.{◌∙◌}
 use native.Mathlib.Omega.{arith}
-use Rattle.words.specs.declared.Line.{Line}
-use Rattle.words.specs.Lines.{holds_of}
-use Rattle.lanes.specs.Search.{first_from}
 use Rattle.lanes.proofs.Firsts.{first_step, first_none}
 use Rattle.lanes.proofs.Lane.search.Goals as goal
 

@@ -1,12 +1,9 @@
 -- `lanes::Lane::search` meets its contract. Assumes nothing.
-use borrow.Author.Rules.{rules}
-use Prim.Native.Nat.{◌≤◌, ◌-◌, ◌<◌}
-use mathlib.Core.Path.{◌≡◌, ◌∙◌}
-use native.Mathlib.Omega.{arith}
+use Prim.Native.Nat.{◌≤◌, ◌-◌}
+use mathlib.Core.Path.{◌≡◌}
 use Rattle.words.specs.declared.Line.{Line}
 use Rattle.words.specs.Lines.{holds_of}
 use Rattle.lanes.specs.Search.{first_from}
-use Rattle.lanes.proofs.Firsts.{first_step, first_none}
 use Rattle.lanes.proofs.Lane.search.Given as goal
 
 abbrev pub invariant-loop-k : goal.invariant-loop-k

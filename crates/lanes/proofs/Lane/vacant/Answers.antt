@@ -1,11 +1,7 @@
 -- `lanes::Lane::vacant` meets its contract. Assumes nothing.
-use borrow.Author.Rules.{rules}
-use Prim.Native.Nat.{◌≤◌, ◌-◌, ◌<◌}
-use mathlib.Core.Path.{◌≡◌, ◌∙◌}
-use mathlib.Core.Bool.{not}
+use Prim.Native.Nat.{◌<◌}
+use mathlib.Core.Path.{◌∙◌}
 use native.Mathlib.Omega.{arith}
-use Rattle.words.specs.declared.Line.{Line}
-use Rattle.lanes.specs.Search.{first_from}
 use Rattle.lanes.proofs.Firsts.{first_step, first_none}
 use Rattle.lanes.proofs.Lane.vacant.Goals as goal
 

@@ -1,12 +1,9 @@
 -- `lanes::Lane::vacant` meets its contract. Assumes nothing.
-use borrow.Author.Rules.{rules}
-use Prim.Native.Nat.{◌≤◌, ◌-◌, ◌<◌}
-use mathlib.Core.Path.{◌≡◌, ◌∙◌}
+use Prim.Native.Nat.{◌≤◌, ◌-◌}
+use mathlib.Core.Path.{◌≡◌}
 use mathlib.Core.Bool.{not}
-use native.Mathlib.Omega.{arith}
 use Rattle.words.specs.declared.Line.{Line}
 use Rattle.lanes.specs.Search.{first_from}
-use Rattle.lanes.proofs.Firsts.{first_step, first_none}
 use Rattle.lanes.proofs.Lane.vacant.Given as goal
 
 abbrev pub invariant-loop-k : goal.invariant-loop-k

@@ -1,11 +1,8 @@
 -- `store::Control::find` meets its contract. Assumes nothing.
-use borrow.Author.Rules.{rules}
 use Prim.Native.Nat.{◌≤◌, ◌-◌}
-use native.Mathlib.Omega.{arith}
-use mathlib.Core.Path.{◌≡◌, sym, ◌∙◌}
+use mathlib.Core.Path.{◌≡◌}
 use Rattle.words.specs.Folds.{lowest_to}
-use Rattle.words.proofs.Folds.{lowest_none, lowest_more, lowest_at}
-use Rattle.store.specs.Control.{slot_at, is_for, slot_of}
+use Rattle.store.specs.Control.{slot_at, is_for}
 use Rattle.store.proofs.Control.find.Given as goal
 
 abbrev pub invariant-loop-k : goal.invariant-loop-k

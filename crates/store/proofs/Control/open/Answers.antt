@@ -1,9 +1,6 @@
 -- `store::Control::open` meets its contract. Assumes nothing.
 use Rattle.store.specs.Control.{with_service}
 use mathlib.Core.Path.{◌∙◌}
-use borrow.Author.Rules.{rules}
-use Rattle.store.proofs.Control.vacant.Reads as vacant-reads
-use Rattle.store.proofs.Control.with_slot.Reads as with-slot-reads
 use Rattle.store.proofs.Control.open.Goals as goal
 
 pub returns : goal.returns

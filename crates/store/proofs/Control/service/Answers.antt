@@ -1,6 +1,5 @@
 -- `store::Control::service` meets its contract. Assumes nothing.
 use borrow.Author.Tests.{lt-ltb, le-ltb}
-use borrow.Author.Rules.{rules}
 use Rattle.store.specs.Control.{service_of}
 use Rattle.store.proofs.Control.service.Goals as goal
 

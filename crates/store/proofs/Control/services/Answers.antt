@@ -1,9 +1,6 @@
 -- `store::Control::services` meets its contract. Assumes nothing.
-use borrow.Author.Rules.{rules}
-use Prim.Native.Nat.{◌≤◌, ◌-◌}
 use native.Mathlib.Omega.{arith}
 use mathlib.Core.Path.{◌≡◌}
-use Rattle.words.specs.Folds.{count_to}
 use Rattle.words.proofs.Folds.{count_none, count_more, count_most}
 use Rattle.store.specs.Control.{slot_at, open_services}
 use Rattle.store.proofs.Services.{bool_byte_lem, byte_most}

@@ -1,12 +1,9 @@
 -- `store::Control::vacant` meets its contract. Assumes nothing.
-use borrow.Author.Rules.{rules}
-use Prim.Native.Nat.{◌≤◌, ◌-◌}
 use native.Mathlib.Omega.{arith}
 use mathlib.Core.Bool.{not}
 use mathlib.Core.Path.{◌≡◌, sym, ap}
-use Rattle.words.specs.Folds.{lowest_to}
 use Rattle.words.proofs.Folds.{lowest_none, lowest_more, lowest_at}
-use Rattle.store.specs.Control.{slot_at, free_slot}
+use Rattle.store.specs.Control.{free_slot}
 use Rattle.store.proofs.Control.vacant.Goals as goal
 
 pub loop-k-init : goal.loop-k-init

@@ -1,5 +1,4 @@
 -- `test_store_bytes::decode::control_from` meets its contract. Assumes nothing.
-use borrow.Author.Rules.{rules}
 use Prim.Native.Nat.{◌≤◌, ◌-◌}
 use Rattle.test_store_bytes.proofs.decode.control_from.Given as goal
 

@@ -1,5 +1,4 @@
 -- `test_store_bytes::decode::down_messages_from` meets its contract. Assumes nothing.
-use borrow.Author.Rules.{rules}
 use Prim.Native.Nat.{◌≤◌, ◌-◌}
 use Rattle.test_store_bytes.proofs.decode.down_messages_from.Given as goal
 

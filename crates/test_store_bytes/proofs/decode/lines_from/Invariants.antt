@@ -1,6 +1,5 @@
 -- `test_store_bytes::decode::lines_from` meets its contract. Assumes nothing.
 use Prim.Native.Nat.{◌≤◌, ◌-◌}
-use borrow.Author.Rules.{rules}
 use Rattle.test_store_bytes.proofs.decode.lines_from.Given as goal
 
 abbrev pub invariant-loop-i : goal.invariant-loop-i

@@ -1,6 +1,5 @@
 -- `test_store_bytes::decode::order_from` meets its contract. Assumes nothing.
 use Prim.Native.Nat.{◌≤◌, ◌-◌}
-use borrow.Author.Rules.{rules}
 use Rattle.test_store_bytes.proofs.decode.order_from.Given as goal
 
 abbrev pub invariant-loop-i : goal.invariant-loop-i

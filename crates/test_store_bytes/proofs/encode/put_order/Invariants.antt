@@ -1,6 +1,5 @@
 -- `test_store_bytes::encode::put_order` meets its contract. Assumes nothing.
 use Prim.Native.Nat.{◌≤◌, ◌-◌}
-use borrow.Author.Rules.{rules}
 use mathlib.Core.Path.{◌≡◌}
 use lib.ListN.{length}
 use Rattle.test_store_bytes.proofs.encode.put_order.Given as goal
