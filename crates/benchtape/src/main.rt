@@ -1,6 +1,7 @@
 // benchtape: one read of a tape from standard input, `tape_replay::print`, one write of its text to standard output. All that is printed is
 // proved there; no contract can speak of what is read or written.
 #![tactic(auto)]
+
 ghost use Rattle.std.specs.Prelude.{◌≡◌, ◌≤◌, length};
 ghost use Rattle.machine.specs.Machine.Text.{printed, text_most};
 ghost use Rattle.buffers.specs.Written.{written};
