@@ -83,14 +83,19 @@ fn unwritten(rt: &HostRuntime, error: io::Error) {
     fail(rt, "benchtape: the text can't be written", error);
 }
 
-// Writes a line to standard error: what failed, a colon and the error's words without its number. Where that fails too, nothing is left to do.
+// Writes a line to standard error: what failed, a colon and the error's words. Where that fails too, nothing is left to do.
 fn fail(rt: &HostRuntime, what: &str, error: io::Error) {
     let text = InlineText::<128>::of(error);
-    let words = match text.as_str().split_once(" (os error ") {
-        Some((before, _)) => before,
-        None => text.as_str(),
-    };
+    let words = without_number(text.as_str());
     let _ = eprintln!(rt; "{what}: {words}");
+}
+
+// An error's text without the system's number of it.
+fn without_number(text: &str) -> &str {
+    match text.split_once(" (os error ") {
+        Some((words, _)) => words,
+        None => text,
+    }
 }
 
 // A byte more than a tape may have is read, so that a longer one is known.
