@@ -40,10 +40,14 @@ apply_edit() {
 }
 
 # prove NAME DIR: the crate NAME of the repository in DIR must be proved as it stands; out/ has what is kept of it then, and of the crates below.
+# It is proved in the checkout first, for 'rt' gives what was kept there to the copies, now and later.
 prove() {
-    (cd "$2/crates/$1" && rt check) >"$2/$1.log" 2>&1 && grep -q '^logic=proved' "$2/$1.log" && return
-    echo "$1 is not proved as it stands: $(grep -m 1 -E ' error: |error\[' "$2/$1.log" || tail -n 1 "$2/$1.log")"
-    return 1
+    local at said
+    for at in . "$2"; do
+        said=$(cd "$at/crates/$1" && rt check 2>&1) && grep -q '^logic=proved' <<<"$said" && continue
+        echo "$1 is not proved as it stands: $(grep -m 1 -E ' error: |error\[' <<<"$said" || tail -n 1 <<<"$said")"
+        return 1
+    done
 }
 
 # try_edit NAME EDIT DIR LOG: the crate NAME of the repository in DIR with the edit, over what a check kept there. The log goes to the file LOG.
