@@ -1,45 +1,20 @@
-# What tests/edits, tests/definitions and tests/wrong-programs share: an edit applied to a copy of a crate, and a crate checked as 'rt'
-# checks it, from nothing or over a folder with what 'rt ci' proved of it in this run. Sourced in the repository's root.
+# What tests/definitions, tests/refused-for-a-fact and tests/wrong-programs share: the crates copied to a folder of their own, an edit applied there
+# as 'rt must-fail' applies it, and a crate checked there by 'rt check', which begins with what it kept. Sourced in the repository's root.
 
-# The toolchain's folder, and its part for this machine.
-kit=${RATTLE_HOME:-$(dirname "$(dirname "$(readlink -f "$(command -v rt)")")")}
-own=$kit/on/$(uname -m)
-export kit own
-
-# check_crate NAME DIR WORDS..: the crate NAME, whose files stand in DIR, as 'rt' checks it over the built libraries.
-check_crate() {
-    local name=$1 dir=$2 root=$2/src/lib.rt words=() used
-    shift 2
-    [ -f "$root" ] || root=$dir/src/main.rt
-    for used in $(sed -n "s/^$name: *//p" crates.txt); do
-        if [ -d "crates/$used" ]; then words+=(--extern "$used=target/rlib/$used.rlib"); else words+=(--extern "$used=$own/rlib/$used.rlib"); fi
-    done
-    "$own/bin/rattle" check --crate-name "$name" "$root" --extern "std=$own/rlib/std.rlib" "${words[@]}" -L dependency=target/rlib \
-        -L "dependency=$own/rlib" --antt-project "$kit/logic/antt-project.json" --logic-built "$own/logic-built" "$@"
-}
-
-# copy_crate NAME DIR: what a check of the crate reads.
-copy_crate() {
-    local part
-    mkdir -p "$2"
-    for part in src specs proofs; do
-        if [ -d "crates/$1/$part" ]; then cp -R "crates/$1/$part" "$2/$part"; fi
+# copy_crates DIR PART..: a repository of the crates with these parts of each (src, specs, proofs).
+copy_crates() {
+    local dir=$1 crate part
+    shift
+    mkdir -p "$dir/crates"
+    cp crates.txt "$dir"
+    for crate in $(ls crates); do
+        for part; do
+            if [ -d "crates/$crate/$part" ]; then mkdir -p "$dir/crates/$crate" && cp -R "crates/$crate/$part" "$dir/crates/$crate/$part"; fi
+        done
     done
 }
 
-# keep NAME DIR KEPT: the crate in DIR, not edited, must be proved; what is proved of it is in the folder KEPT then. Where $checked says how the
-# prover calls its folder in there, KEPT has from the start what 'rt ci' proved of crates/NAME, and the check only loads that.
-keep() {
-    local proved=target/rlib/$1.rlib/toolchain/checked
-    mkdir -p "$3"
-    if [ -n "${checked:-}" ] && [ -d "$proved" ]; then cp -R "$proved" "$3/$checked"; fi
-    if ! check_crate "$1" "$2" --incremental "$3" >"$3.log" 2>&1 || ! grep -q '^logic=proved' "$3.log"; then
-        echo "$1 is not proved as it stands: $(grep -m 1 -E ' error: |error\[' "$3.log" || tail -n 1 "$3.log")"
-        return 1
-    fi
-}
-
-# apply_edit EDIT DIR: the edit's replacements, each old text once in its file, as 'rt must-fail' makes them.
+# apply_edit EDIT DIR: the edit's replacements in the crate in DIR, each old text once in its file.
 apply_edit() {
     awk -v dir="$2" '
         function whole(file,    text, line) {
@@ -64,35 +39,37 @@ apply_edit() {
         END { exit bad || !pairs }' "$1"
 }
 
-# try_edit NAME EDIT DIR KEPT: the crate in DIR with the edit, over a copy of the folder KEPT, or from nothing where KEPT is empty. The log is
-# DIR/.log. Prints 'refused' or 'proved', or what went wrong.
+# prove NAME DIR: the crate NAME of the repository in DIR must be proved as it stands; out/ has what is kept of it then, and of the crates below.
+# It is proved in the checkout first, for 'rt' gives what was kept there to the copies, now and later.
+prove() {
+    local at said
+    for at in . "$2"; do
+        said=$(cd "$at/crates/$1" && rt check 2>&1) && grep -q '^logic=proved' <<<"$said" && continue
+        echo "$1 is not proved as it stands: $(grep -m 1 -E ' error: |error\[' <<<"$said" || tail -n 1 <<<"$said")"
+        return 1
+    done
+}
+
+# try_edit NAME EDIT DIR LOG: the crate NAME of the repository in DIR with the edit, over what a check kept there. The log goes to the file LOG.
+# Prints 'refused' or 'proved', or what went wrong. What was there before stands in DIR again when it returns.
 try_edit() {
-    local status=0 words=()
-    if ! apply_edit "$2" "$3"; then
-        echo "BAD EDIT: an 'old:' text does not stand once in its file"
-        return
-    fi
-    if [ -n "$4" ]; then
-        cp -R "$4" "$3.kept"
-        words=(--incremental "$3.kept")
-    fi
-    check_crate "$1" "$3" "${words[@]}" >"$3/.log" 2>&1 || status=$?
-    rm -rf "$3.kept"
-    if [ "$status" -eq 1 ] && grep -q '^logic=not-proved' "$3/.log"; then
-        echo refused
-    elif [ "$status" -eq 0 ]; then
-        echo proved
+    local crate=$3/crates/$1 status=0
+    rm -rf "$3/before"
+    cp -R "$crate" "$3/before"
+    if apply_edit "$2" "$crate"; then
+        (cd "$crate" && rt check --jobs 1) >"$4" 2>&1 || status=$?
+        if [ "$status" -eq 1 ] && grep -q '^logic=not-proved' "$4"; then
+            echo refused
+        elif [ "$status" -eq 0 ]; then
+            echo proved
+        else
+            echo "BAD EDIT: it did not reach the prover (exit $status): $(grep -m 1 'error' "$4" || head -n 1 "$4")"
+        fi
     else
-        echo "BAD EDIT: it did not reach the prover (exit $status): $(head -n 1 "$3/.log")"
+        echo "BAD EDIT: an 'old:' text does not stand once in its file"
     fi
+    rm -rf "$crate"
+    mv "$3/before" "$crate"
 }
 
-# learn_checked ROOM: sets $checked, how the prover calls its folder, by a check of a small crate over an empty one.
-learn_checked() {
-    mkdir -p "$1"
-    keep buffers crates/buffers "$1/buffers"
-    checked=$(ls "$1/buffers")
-    export checked
-}
-
-export -f check_crate copy_crate keep apply_edit try_edit
+export -f copy_crates apply_edit prove try_edit

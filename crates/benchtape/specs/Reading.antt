@@ -6,4 +6,4 @@ use Rattle.benchtape.specs.declared.Reading.TheVariants.{Bytes, Failed}
 -- how many bytes were read
 abbrev pub bytes_of : Reading → ℕ
 bytes_of (Bytes n) = n
-bytes_of Failed = 0
+bytes_of (Failed _) = 0

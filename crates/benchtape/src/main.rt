@@ -1,34 +1,36 @@
 // benchtape: one read of a tape from standard input, `tape_replay::print`, one write of its text to standard output. All that is printed is
 // proved there; no contract can speak of what is read or written.
 #![tactic(auto)]
+
 ghost use Rattle.std.specs.Prelude.{◌≡◌, ◌≤◌, length};
 ghost use Rattle.machine.specs.Machine.Text.{printed, text_most};
 ghost use Rattle.buffers.specs.Written.{written};
 ghost use Rattle.benchtape.specs.Reading.{bytes_of};
 
-use libc::{STDIN_FILENO, STDOUT_FILENO};
 use machine::Filled;
+use std::fmt::InlineText;
+use std::io;
+use std::io::Read;
 use tape_replay::TEXT_MOST;
 
-// What reading gives: how many bytes there are, or that a read failed.
+// What reading gives: how many bytes there are, or why a read failed.
 #[derive(Clone, Copy)]
 enum Reading {
     Bytes(usize),
-    Failed,
+    Failed(io::Error),
 }
 
 // Reads until the buffer is full, the input ends or a read fails.
-fn read_tape(buf: &mut [u8]) -> Reading
+fn read_tape(rt: &HostRuntime, buf: &mut [u8]) -> Reading
     ensures { bytes_of result ≤ length buf.new }
 {
+    let mut input = rt.stdin();
     let mut done: usize = 0;
     while done < buf.len() {
-        let part = &mut buf[done..];
-        let got = libc::read(STDIN_FILENO, part);
-        if got < 0 {
-            return Reading::Failed;
-        }
-        let more = io::count(got, part);
+        let more = match input.read(&mut buf[done..]) {
+            Ok(n) => n,
+            Err(error) => return Reading::Failed(error),
+        };
         if more == 0 {
             return Reading::Bytes(done);
         }
@@ -59,32 +61,46 @@ fn text_of(tape: &[u8], out: &mut [u8]) -> usize
 }
 
 // One read, the text, one write. A read or a write that fails is told on standard error, and nothing more is written.
-fn bench(tape: &mut [u8], out: &mut [u8])
+fn bench(rt: &HostRuntime, tape: &mut [u8], out: &mut [u8])
     requires { text_most ≤ length out.old }
 {
-    let reading = read_tape(tape);
-    let Reading::Bytes(n) = reading else {
-        unread();
-        return;
-    };
-    let size = text_of(&tape[..n], out);
-    if io::write_all(STDOUT_FILENO, &out[..size]) {
-        return;
+    match read_tape(rt, tape) {
+        Reading::Bytes(n) => {
+            let size = text_of(&tape[..n], out);
+            if let Err(error) = rt.write_all(&out[..size]) {
+                unwritten(rt, error);
+            }
+        }
+        Reading::Failed(error) => unread(rt, error),
     }
-    unwritten();
 }
 
-fn unread() {
-    os::fail(b"benchtape: the tape can't be read");
+fn unread(rt: &HostRuntime, error: io::Error) {
+    fail(rt, "benchtape: the tape can't be read", error);
 }
 
-fn unwritten() {
-    os::fail(b"benchtape: the text can't be written");
+fn unwritten(rt: &HostRuntime, error: io::Error) {
+    fail(rt, "benchtape: the text can't be written", error);
+}
+
+// Writes a line to standard error: what failed, a colon and the error's words. Where that fails too, nothing is left to do.
+fn fail(rt: &HostRuntime, what: &str, error: io::Error) {
+    let text = InlineText::<128>::of(error);
+    let words = without_number(text.as_str());
+    let _ = eprintln!(rt; "{what}: {words}");
+}
+
+// An error's text without the system's number of it.
+fn without_number(text: &str) -> &str {
+    match text.split_once(" (os error ") {
+        Some((words, _)) => words,
+        None => text,
+    }
 }
 
 // A byte more than a tape may have is read, so that a longer one is known.
-fn main() {
+fn main(rt: HostRuntime) {
     let mut tape = [0u8; 65537];
     let mut text = room();
-    bench(&mut tape, &mut text);
+    bench(&rt, &mut tape, &mut text);
 }

@@ -1,10 +1,12 @@
 // Reads cases, each a store and a call, and writes the answer and the store after of each; tests/reference/README.md has the
 // bytes. It ends where the input does.
 #![tactic(auto)]
+
 ghost use Rattle.std.specs.Prelude.{◌≤◌, length};
 
-use libc::{STDIN_FILENO, STDOUT_FILENO};
 use machine::Filled;
+use std::io;
+use std::io::Read;
 use store::Store;
 use test_reply_bytes::Reply;
 use words::{LaneNo, WordNo};
@@ -33,10 +35,10 @@ fn picture_reply(p: Filled) -> Reply {
 }
 
 // The answer and the store after.
-fn write_after(r: Reply, s: Store) {
+fn write_after(rt: &HostRuntime, r: Reply, s: Store) -> io::Result<()> {
     let mut out = [0u8; 5332];
     put_after(&mut out, r, s);
-    io::write_all(STDOUT_FILENO, &out);
+    rt.write_all(&out)
 }
 
 fn put_after(out: &mut [u8], r: Reply, s: Store)
@@ -54,29 +56,29 @@ fn pictured(s: Store, buffer: &mut [u8], lent: usize) -> Filled {
     store_picture::picture(s, buffer)
 }
 
-fn answer_picture(s: Store, lent: usize) {
+fn answer_picture(rt: &HostRuntime, s: Store, lent: usize) -> io::Result<()> {
     let mut buffer = [UNWRITTEN; BUFFER_BYTES];
     let p = pictured(s, &mut buffer, lent);
     let r = picture_reply(p);
-    write_after(r, s);
-    io::write_all(STDOUT_FILENO, &buffer);
+    write_after(rt, r, s)?;
+    rt.write_all(&buffer)
 }
 
-fn answer_settle(s: Store) {
+fn answer_settle(rt: &HostRuntime, s: Store) -> io::Result<()> {
     let bound = test_bounds::checked_bound(s);
     let o = store_settle::settle(s);
     let a = o.answer;
     let d = o.completions;
     let after = o.store;
     let r = test_reply_bytes::settle_reply(a, d.len);
-    write_after(r, after);
+    write_after(rt, r, after)?;
     let mut out = [0u8; 74];
     test_reply_bytes::put_settled(&mut out, d, bound);
-    io::write_all(STDOUT_FILENO, &out);
+    rt.write_all(&out)
 }
 
 // A case's answer: the call stands behind the store's 5,320 bytes.
-fn answer(case: &[u8])
+fn answer(rt: &HostRuntime, case: &[u8]) -> io::Result<()>
     requires { 5328 ≤ length case.now }
 {
     let s = test_store_bytes::store_from(case);
@@ -85,34 +87,32 @@ fn answer(case: &[u8])
     let w = WordNo(case[5322]);
     let v = test_store_bytes::word_from(case, 5323);
     if kind == PICTURE {
-        answer_picture(s, v as usize);
-        return;
+        return answer_picture(rt, s, v as usize);
     }
     if kind == SETTLE {
-        answer_settle(s);
-        return;
+        return answer_settle(rt, s);
     }
     let o = test_reply_bytes::called(s, kind, k, w, v);
     let a = o.answer;
     let after = o.store;
     let r = test_reply_bytes::call_reply(a);
-    write_after(r, after);
+    write_after(rt, r, after)
 }
 
 // Reads a case and answers it; false where the input has ended.
-fn next() -> bool {
+fn next(rt: &HostRuntime) -> io::Result<bool> {
     let mut case = [0u8; CASE_BYTES];
-    let n = io::read_full(STDIN_FILENO, &mut case);
-    if n < CASE_BYTES {
-        return false;
+    if rt.stdin().read_exact(&mut case).is_err() {
+        return Ok(false);
     }
-    answer(&case);
-    true
+    answer(rt, &case)?;
+    Ok(true)
 }
 
-fn main() {
+fn main(rt: HostRuntime) -> io::Result<()> {
     let mut turns: u32 = 0;
-    while turns < MOST_CASES && next() {
+    while turns < MOST_CASES && next(&rt)? {
         turns += 1;
     }
+    Ok(())
 }
