@@ -1,6 +1,5 @@
 -- `test_reply_bytes::put_completions` meets its contract. Assumes nothing.
 use Prim.Native.Nat.{◌≤◌, ◌-◌}
-use borrow.Author.Rules.{rules}
 use mathlib.Core.Path.{◌≡◌}
 use lib.ListN.{length}
 use Rattle.test_reply_bytes.proofs.put_completions.Given as goal
