@@ -1,5 +1,5 @@
 // Refusal 14, a lane's part: whether a lane breaks a bound. Each function mirrors the definition of its name in
-// machine/specs/machine/Corruption.antt. All are for the crates above and not for others.
+// machine/specs/Machine/Corruption.antt. All are for the crates above and not for others.
 #![tactic(auto)]
 
 ghost use Rattle.std.specs.Prelude.{◌≡◌, ◌<◌, ◌≤◌};

@@ -30,7 +30,7 @@ same_list = Calls.same_list
 pub same_openings : SameOpenings
 same_openings = Calls.same_openings
 
--- from an opening with L = 1 no queue has three messages: W7's figure is then 2 (crates/machine, proofs/settle/LiveNever.antt)
+-- from an opening with L = 1 no queue has three messages: W7's figure is then 2 (crates/machine, proofs/Settle/LiveNever.antt)
 bounded : Bounded
 bounded = record { Lively = Lively; open_lively = open_lively; fresh_lively = fresh_lively; call_lively = call_lively; step_lively = step_lively; lively_two = lively_two }
 

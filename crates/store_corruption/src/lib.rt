@@ -1,5 +1,5 @@
 // Refusal 14: whether a store breaks its own bounds. Each function mirrors the definition of its name in
-// machine/specs/machine/Corruption.antt. Only `corrupt` is open to others.
+// machine/specs/Machine/Corruption.antt. Only `corrupt` is open to others.
 #![tactic(auto)]
 
 ghost use Rattle.std.specs.Prelude.{◌≡◌, ◌<◌, ◌≤◌};

@@ -1,5 +1,5 @@
 // Document 02, W1: completions so far plus operations waiting, which never pass the last place in 32 bits. The definitions are
-// machine's (machine/specs/machine/Begun.antt). For our own crates above.
+// machine's (machine/specs/Machine/Begun.antt). For our own crates above.
 #![tactic(auto)]
 
 ghost use Rattle.std.specs.Prelude.{◌≡◌, not, cond, ◌≤◌};
