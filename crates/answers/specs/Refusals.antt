@@ -1,7 +1,6 @@
 -- 01, "Numbers and trade words", and 02: the number of each refusal. Assumes nothing.
-use Rattle.std.specs.Prelude.{ℕ, Bool, true, false}
+use Rattle.std.specs.Prelude.{ℕ, Bool, true, false, Result, Ok, Err}
 use Rattle.answers.specs.declared.Answer.{Answer}
-use Rattle.answers.specs.declared.Answer.TheVariants.{Opened, Done, Wait, Step, Refused}
 use Rattle.answers.specs.declared.Refusal.{Refusal}
 use Rattle.answers.specs.declared.Refusal.TheVariants.{Truncated, UnknownKind, NotOpen, AlreadyOpen, InvalidShape, NoSuchLane, NoSuchWord, LaneBusy, NothingPending, ControlBusy, ReturnsPending, QueueFull, TapeTooLong, Corrupt, BufferTooShort, Unexpected, PlacesExhausted, InvalidLimit}
 
@@ -27,9 +26,6 @@ number_of PlacesExhausted = 17
 number_of InvalidLimit = 18
 
 -- whether an answer is a refusal
-abbrev pub refused_of : Answer → Bool
-refused_of Opened = false
-refused_of (Done x) = false
-refused_of Wait = false
-refused_of Step = false
-refused_of (Refused r) = true
+abbrev pub refused_of : Result Answer Refusal → Bool
+refused_of (Ok a) = false
+refused_of (Err r) = true

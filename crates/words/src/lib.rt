@@ -7,19 +7,19 @@ ghost use Rattle.words.specs.Operations.{is_load, apply_of, perform_of};
 ghost use Rattle.words.specs.Lines.{invalid, holds_of};
 
 // The number of a lane (000: knum).
-#[derive(Clone, Copy)]
+#[derive(Clone, Copy, PartialEq, Eq)]
 pub struct LaneNo(pub u8);
 
 // The number of a block of main memory (000: blknum).
-#[derive(Clone, Copy)]
+#[derive(Clone, Copy, PartialEq, Eq)]
 pub struct BlockNo(pub u8);
 
 // The number of a line in a lane's cache (000: kloc).
-#[derive(Clone, Copy)]
+#[derive(Clone, Copy, PartialEq, Eq)]
 pub struct LineNo(pub u8);
 
 // The number of a word of main memory.
-#[derive(Clone, Copy)]
+#[derive(Clone, Copy, PartialEq, Eq)]
 pub struct WordNo(pub u8);
 
 impl WordNo {
@@ -61,12 +61,7 @@ impl Op {
     pub fn is_load(self) -> bool
         ensures { result ≡ is_load self }
     {
-        match self {
-            Op::Load => true,
-            Op::Store(_) => false,
-            Op::Exchange(_) => false,
-            Op::Add(_) => false,
-        }
+        matches!(self, Op::Load)
     }
 
     // The operation done on one word.
@@ -83,13 +78,10 @@ impl Op {
                 word: v,
                 value: former,
             },
-            Op::Add(v) => {
-                let sum = std::num::wrapping_add_u32(former, v);
-                Effect {
-                    word: sum,
-                    value: former,
-                }
-            }
+            Op::Add(v) => Effect {
+                word: former.wrapping_add(v),
+                value: former,
+            },
         }
     }
 }
@@ -115,16 +107,17 @@ impl Line {
     pub fn invalidated(self) -> Line
         ensures { result ≡ invalid self }
     {
-        let mut x = self;
-        x.valid = false;
-        x
+        Line {
+            valid: false,
+            ..self
+        }
     }
 
     // Whether the line is valid and has block a.
     pub fn holds(self, a: BlockNo) -> bool
         ensures { result ≡ holds_of self a }
     {
-        self.valid && self.block.0 == a.0
+        self.valid && self.block == a
     }
 
     // The operation done on the line's word at w's place.
@@ -132,13 +125,9 @@ impl Line {
         ensures { result ≡ perform_of self op w }
     {
         let i = (w.0 % 4) as usize;
-        let former = self.words[i];
-        let e = op.apply(former);
-        let mut l = self;
-        l.words[i] = e.word;
-        Performed {
-            value: e.value,
-            line: l,
-        }
+        let Effect { word, value } = op.apply(self.words[i]);
+        let mut line = self;
+        line.words[i] = word;
+        Performed { value, line }
     }
 }
