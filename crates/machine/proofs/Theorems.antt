@@ -42,6 +42,7 @@ use Rattle.machine.proofs.Store.LoadBeside.{beside_wait, stand_ahead}
 use Rattle.machine.proofs.Settle.LiveSettle.{always_settles, all_complete}
 use Rattle.machine.proofs.Settle.LiveNever.{never_full, stay_short}
 use Rattle.machine.proofs.Settle.LiveTape.{tapes_never_full}
+use Rattle.std.specs.Prelude.{Ok}
 
 -- Demand 3: the order of completion is the order of memory.
 --
@@ -116,7 +117,7 @@ pub settle_succeeds : AlwaysSettles
 settle_succeeds = always_settles
 
 -- .. so that every operation that was begun completes: after any list of calls and one settle there is none that has not.
-pub begun_completes : (ins : Insertion) (shape : Shape) (calls : List Call) → (open_of shape).answer ≡ Opened → (b : Begun) →
+pub begun_completes : (ins : Insertion) (shape : Shape) (calls : List Call) → (open_of shape).answer ≡ Ok Opened → (b : Begun) →
     Memᴰ b (begun (run ins (open_of shape).store (calls ++ (Settle ∷ []))).history) →
     Memᴰ b (operations (run ins (open_of shape).store (calls ++ (Settle ∷ []))).history)
 begun_completes = all_complete

@@ -1,4 +1,5 @@
 -- Document 01's machine with document 02's requests, in 01's order.
+pub mod Parts
 pub mod Begun
 pub mod Corruption
 pub mod Change

@@ -23,18 +23,19 @@ use Rattle.machine_w5.proofs.Commits.{Long}
 use Rattle.machine_w5.proofs.Settle.{steps_from}
 use Rattle.machine_w5.proofs.Calls.{Longer, Either, call_of_lem, run_more, run_none, same_openings}
 use Rattle.machine_w5.proofs.Refused.{refused_history}
+use Rattle.std.specs.Prelude.{Ok}
 
 -- what an opening gives, and every call and every step of settle keeps, and what it says of queues where L = 1
 pub record Bounded : Type 1 where
   pub Lively : Store → Type 0
-  pub open_lively : (shape : Shape) → (open_of shape).answer ≡ Opened → Lively (open_of shape).store
+  pub open_lively : (shape : Shape) → (open_of shape).answer ≡ Ok Opened → Lively (open_of shape).store
   pub fresh_lively : (shape : Shape) → bad_shape shape ≡ false → bad_limit shape ≡ false → Lively (fresh_of shape)
   pub call_lively : (ins : Insertion) (s : Store) (x : Call) → Lively s → Lively (call_of ins s x).store
   pub step_lively : (ins : Insertion) (s : Store) → Lively s → Lively (settle_step ins s).store
   pub lively_two : (s : Store) → Lively s → s.shape.limit ≡ 1 → (k : ℕ) → ((lane_at s k).returns.len ≤ 2) × ((lane_at s k).downs.len ≤ 2)
 
 -- an opening in range
-opens : (shape : Shape) → bad_shape shape ≡ false → bad_limit shape ≡ false → (open_of shape).answer ≡ Opened
+opens : (shape : Shape) → bad_shape shape ≡ false → bad_limit shape ≡ false → (open_of shape).answer ≡ Ok Opened
 unfolding open_of
 opens shape e f = rw (e, f)
 
@@ -70,7 +71,7 @@ module _ (b : Bounded) where
   run_same ins t s [] e l = run_none ins t s e
   run_same ins t s (x ∷ xs) e l = let h = call_same ins t s x e l in run_more ins t s x xs h (run_same ins (FormerCalls.call_of ins t x).store (call_of ins s x).store xs h.store (b.call_lively ins s x l))
 
-  opened_run : (ins : Insertion) (shape : Shape) (calls : List Call) → shape.limit ≡ 1 → (open_of shape).answer ≡ Opened →
+  opened_run : (ins : Insertion) (shape : Shape) (calls : List Call) → shape.limit ≡ 1 → (open_of shape).answer ≡ Ok Opened →
       SameRun (FormerCalls.run ins (Former.open_of shape).store calls) (run ins (open_of shape).store calls)
   opened_run ins shape calls one e = run_same ins _ _ calls ((same_openings shape one).store e) (b.open_lively shape e)
 

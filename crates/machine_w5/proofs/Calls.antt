@@ -34,6 +34,7 @@ use Rattle.machine_w5.proofs.Corruption.{former_with, store_with, by_stores, eac
 use Rattle.machine_w5.proofs.Commits.{Long, Result}
 use Rattle.machine_w5.proofs.Steps.{begin_of_lem, serve_of_lem, return_of_lem, deliver_of_lem}
 use Rattle.machine_w5.proofs.Settle.{Seen, corrupt_of_lem, settle_of_lem}
+use Rattle.std.specs.Prelude.{Ok}
 
 -- a queue has three messages after a call, or after a step of settle
 abbrev pub Longer : Insertion → Store → Called → Type 0
@@ -139,7 +140,7 @@ opening_answer : (shape : Shape) → shape.limit ≡ 1 → (Former.open_of shape
 unfolding Former.open_of open_of
 opening_answer shape one = let l = limit_fits shape one in on (bad_shape shape) (λ b. rw b) (λ b. rw (b, l))
 
-opening_store : (shape : Shape) → shape.limit ≡ 1 → (open_of shape).answer ≡ Opened → Same (Former.open_of shape).store (open_of shape).store
+opening_store : (shape : Shape) → shape.limit ≡ 1 → (open_of shape).answer ≡ Ok Opened → Same (Former.open_of shape).store (open_of shape).store
 unfolding Former.open_of open_of
 opening_store shape one e =
     let l = limit_fits shape one in

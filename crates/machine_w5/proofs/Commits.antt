@@ -12,7 +12,7 @@ use Rattle.words.specs.declared.Shape.{Shape}
 use Rattle.words.specs.declared.LaneNo.{LaneNo}
 use Rattle.words.specs.declared.BlockNo.{BlockNo}
 use Rattle.words.proofs.Folds.{same?}
-use Rattle.queues.specs.declared.DownMessage.{DownMessage}
+use Rattle.queues.specs.Messages.{DownMessage}
 use Rattle.lanes.specs.declared.Lane.{Lane}
 use Rattle.answers.specs.declared.Answer.{Answer}
 use Rattle.answers.specs.declared.Refusal.{Refusal}
@@ -24,8 +24,8 @@ use Rattle.store.specs.declared.Control.{Control}
 use Rattle.store.specs.declared.Outcome.{Outcome}
 use Rattle.store.specs.LaneSets.{LaneSet}
 use Rattle.store.specs.Stores.{no_lane, lane_at}
-use Rattle.machine.specs.declared.LaneStep.{LaneStep}
-use Rattle.machine.specs.declared.Move.{Move}
+use Rattle.machine.specs.Machine.Parts.{LaneStep}
+use Rattle.machine.specs.Machine.Parts.{Move}
 use Rattle.machine.specs.Machine.Change.{refuse, refused_in, counted, answer_to, commit_lane, some_full, commit_move}
 use Rattle.machine.proofs.Laws.Tests.{on}
 use Rattle.machine_w5.specs.Control as FormerControl
@@ -37,6 +37,7 @@ use Rattle.machine_w5.proofs.Lanes.{Step}
 use Rattle.machine_w5.proofs.Corruption.{former_with, store_with, parts_same}
 use Rattle.machine_w5.proofs.Inside.{Inside}
 use Rattle.machine_w5.proofs.Posts.{none_full, full_long, post_same}
+use Rattle.std.specs.Prelude.{Result, Err}
 
 -- equal answers, and the same stores
 pub record SameOutcome (r : Former.Outcome) (q : Outcome) : Type 0 where
@@ -51,7 +52,7 @@ pub record Long (s : Store) : Type 0 where
 
 -- 12 before W6, where today a queue gets a third message
 pub record FullOutcome (r : Former.Outcome) (q : Outcome) : Type 0 where
-  pub full : r.answer ≡ Answer.Refused QueueFull
+  pub full : r.answer ≡ Err QueueFull
   pub long : Long q.store
 
 abbrev pub Result : Former.Outcome → Outcome → Type 0
@@ -83,7 +84,7 @@ pub record SameMove (r : FormerChange.Move) (q : Move) : Type 0 where
   pub message : r.message ≡ q.message
 
 -- memory's part before W6, by its parts
-abbrev former_move : Answer → Lane → Block → FormerControl.Control → LaneSet → DownMessage → FormerChange.Move
+abbrev former_move : Result Answer Refusal → Lane → Block → FormerControl.Control → LaneSet → DownMessage → FormerChange.Move
 former_move x l b y to m = record { answer = x; lane = l; block = b; control = y; to = to; message = m }
 
 module _ (shape : Shape) (x : FormerControl.Control) (y : Control) (done : ℕ) (ps ls : List Lane) (bs : List Block) (one : shape.limit ≡ 1) (ec : SameControl x y) (el : SameLanes shape.n ps ls) where

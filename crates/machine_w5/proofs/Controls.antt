@@ -12,10 +12,8 @@ use Rattle.words.specs.declared.Shape.{Shape}
 use Rattle.words.specs.Folds.{count_to, any_to}
 use Rattle.words.proofs.Folds.{same?, any_true, any_never}
 use Rattle.store.specs.declared.Service.{Service}
-use Rattle.store.specs.declared.Slot.{Slot}
 use Rattle.store.specs.declared.Control.{Control}
-use Rattle.store.specs.declared.Lookup.TheVariants.{Of, Nothing}
-use Rattle.store.specs.Control.{slot_at, is_for, slot_of, service_of, open_services, busy_of, busy_for, free_slot, with_service, with_updated, without_service}
+use Rattle.store.specs.Control.{slot_at, is_for, slot_of, service_of, open_services, busy_of, busy_for, free_slot, with_service, with_updated, without_service, is_busy}
 use Rattle.store.proofs.Services.{Found, found, for_none, none_found, vacant, opened_count, opened_own, updated_own, updated_count, closed_count}
 use Rattle.machine.specs.Machine.Corruption.{bad_service, bad_slot, bad_control}
 use Rattle.machine.proofs.Laws.Sums.{sum_change, sum_part, count_sum}
@@ -24,6 +22,7 @@ use Rattle.machine_w5.specs.Control.{Free, Busy}
 use Rattle.machine_w5.specs.Control as Former
 use Rattle.machine_w5.specs.Corruption as FormerCorruption
 use Rattle.machine_w5.specs.Same.{SameControl}
+use Rattle.std.specs.Prelude.{Some, None}
 
 -- two that pass a test count for two
 count_two : (p : ℕ → Bool) (n i j : ℕ) → i < n → j < n → j ≢ i → p i ≡ true → p j ≡ true → 2 ≤ count_to p n
@@ -50,34 +49,34 @@ none_passes p n k e h =
     (λ t. t)
 
 -- a slot that is not busy is for no block
-idle_for : (a : BlockNo) (y : Slot) → y.busy ≡ false → is_for a y ≡ false
+idle_for : (a : BlockNo) (y : Option Service) → is_busy y ≡ false → is_for a y ≡ false
 idle_for a y e = rw e
 
 -- no service
 module _ (y : Control) (e : open_services y ≡ 0) where
-  idle : (j : ℕ) → j < 8 → (slot_at y j).busy ≡ false
+  idle : (j : ℕ) → j < 8 → is_busy (slot_at y j) ≡ false
   unfolding open_services
-  idle j h = none_passes (λ i. (slot_at y i).busy) 8 j e h
+  idle j h = none_passes (λ i. is_busy (slot_at y i)) 8 j e h
 
   none_slot : (a : BlockNo) → slot_of y a ≡ 8
   none_slot a = for_none y a (λ j h. idle_for a (slot_at y j) (idle j h))
 
-  none_service : (a : BlockNo) → service_of y a ≡ Nothing
+  none_service : (a : BlockNo) → service_of y a ≡ None
   none_service a = none_found y a (let z = none_slot a in omega arith)
 
   none_bad : (n m : ℕ) → any_to (bad_slot n m y) 8 ≡ false
   none_bad n m = any_never (bad_slot n m y) 8 (λ j h. rw (idle j h))
 
 -- one service, v
-module _ (y : Control) (v : Service) (e : open_services y ≡ 1) (f : service_of y v.block ≡ Of v) where
+module _ (y : Control) (v : Service) (e : open_services y ≡ 1) (f : service_of y v.block ≡ Some v) where
   there : Found y v.block v
   there = found y v.block v f
 
   -- no other is busy
-  alone : (j : ℕ) → j < 8 → j ≢ slot_of y v.block → (slot_at y j).busy ≡ false
+  alone : (j : ℕ) → j < 8 → j ≢ slot_of y v.block → is_busy (slot_at y j) ≡ false
   unfolding open_services
   alone j h n =
-      on (slot_at y j).busy (λ t. let z = count_two (λ i. (slot_at y i).busy) 8 (slot_of y v.block) j there.below h n there.busy t in absurd (omega (arith, z, e))) (λ t. t)
+      on (is_busy (slot_at y j)) (λ t. let z = count_two (λ i. is_busy (slot_at y i)) 8 (slot_of y v.block) j there.below h n there.busy t in absurd (omega (arith, z, e))) (λ t. t)
 
   own_for : (a : BlockNo) → is_for a (slot_at y (slot_of y v.block)) ≡ eqb v.block.0 a.0
   own_for a = rw (there.busy, there.service)
@@ -89,7 +88,7 @@ module _ (y : Control) (v : Service) (e : open_services y ≡ 1) (f : service_of
       go j h (inl q) = ap (λ (i : ℕ). is_for a (slot_at y i)) q ∙ own_for a ∙ t
       go j h (inr n) = idle_for a (slot_at y j) (alone j h n)
 
-  one_service : (a : BlockNo) → cond (eqb v.block.0 a.0) (Of v) Nothing ≡ service_of y a
+  one_service : (a : BlockNo) → cond (eqb v.block.0 a.0) (Some v) None ≡ service_of y a
   one_service a =
       on (eqb v.block.0 a.0)
       (λ t. let q = eqb-true _ _ t in let b : v.block ≡ a = λ i. record { 0 = q i } in rw t (sym f ∙ ap (service_of y) b))

@@ -15,10 +15,10 @@ use Rattle.words.specs.declared.Shape.{Shape}
 use Rattle.words.specs.Folds.{any_to, any_of, count_to}
 use Rattle.words.proofs.Folds.{below?}
 use Rattle.words.proofs.Folds as Folds
-use Rattle.queues.specs.declared.ReturnQueue.{ReturnQueue}
-use Rattle.queues.specs.declared.ReturnMessage.{ReturnMessage}
-use Rattle.queues.specs.declared.DownQueue.{DownQueue}
-use Rattle.queues.specs.declared.DownMessage.{DownMessage}
+use Rattle.queues.specs.Queues.{ReturnQueue}
+use Rattle.queues.specs.Messages.{ReturnMessage}
+use Rattle.queues.specs.Queues.{DownQueue}
+use Rattle.queues.specs.Messages.{DownMessage}
 use Rattle.queues.specs.Queues.{capacity, no_return, no_down}
 use Rattle.lanes.specs.declared.Lane.{Lane}
 use Rattle.lanes.specs.declared.Waiting.{Waiting}

@@ -5,14 +5,14 @@ use mathlib.Core.Path.{◌≡◌}
 use mathlib.Core.Bool.{Bool, false}
 use lib.ListN.{get_or-replicate}
 use Rattle.words.specs.declared.LaneNo.{LaneNo}
-use Rattle.queues.specs.declared.ReturnMessage.{ReturnMessage}
+use Rattle.queues.specs.Messages.{ReturnMessage}
 use Rattle.lanes.specs.declared.Lane.{Lane}
 use Rattle.lanes.specs.declared.Operation.{Operation}
 use Rattle.store.specs.declared.Block.{Block}
 use Rattle.store.specs.declared.Service.{Service}
 use Rattle.store.specs.declared.Control.{Control}
 use Rattle.store.specs.LaneSets.{LaneSet, nobody, goes_to}
-use Rattle.machine.specs.declared.Move.{Move}
+use Rattle.machine.specs.Machine.Parts.{Move}
 use Rattle.machine.specs.Machine.Serve.{close, serve_move}
 use Rattle.machine.specs.Machine.Return.{return_move}
 use Rattle.machine.proofs.Laws.Sets.{set_cases}

@@ -15,27 +15,23 @@ use Rattle.words.specs.declared.BlockNo.{BlockNo}
 use Rattle.words.specs.declared.Op.{Op}
 use Rattle.words.specs.Units.{block_of}
 use Rattle.words.specs.Operations.{is_load}
-use Rattle.queues.specs.declared.ReturnMessage.{ReturnMessage}
-use Rattle.queues.specs.declared.ReturnQueue.{ReturnQueue}
-use Rattle.queues.specs.declared.DownMessage.{DownMessage}
+use Rattle.queues.specs.Messages.{ReturnMessage}
+use Rattle.queues.specs.Queues.{ReturnQueue, full_at}
+use Rattle.queues.specs.Messages.{DownMessage}
 use Rattle.queues.specs.declared.DownKind.{DownKind}
 use Rattle.queues.specs.declared.DownKind.TheVariants.{Update, Purge, Grant, BareGrant}
-use Rattle.queues.specs.declared.DownQueue.{DownQueue}
-use Rattle.queues.specs.Queues.{capacity, empty_at, push_return, head_down, take_down, no_down}
+use Rattle.queues.specs.Queues.{DownQueue, full_at}
+use Rattle.queues.specs.Queues.{capacity, empty_at, after_push, head_down, after_take, no_down, full_at}
 use Rattle.lanes.specs.declared.Lane.{Lane}
 use Rattle.lanes.specs.declared.Operation.{Operation}
 use Rattle.lanes.specs.declared.Waiting.{Waiting}
-use Rattle.lanes.specs.declared.Found.{Found}
-use Rattle.lanes.specs.declared.Found.TheVariants.{At, Nothing}
 use Rattle.lanes.specs.Search.{line_at, search_of, vacant_of}
 use Rattle.lanes.specs.UseOrder.{Insertion, place_at}
 use Rattle.lanes.specs.Lanes.{with_downs}
 use Rattle.answers.specs.declared.Refusal.{Refusal}
 use Rattle.answers.specs.declared.Refusal.TheVariants.{QueueFull}
 use Rattle.machine.specs.declared.LaneAnswer.{LaneAnswer}
-use Rattle.machine.specs.declared.LaneStep.{LaneStep}
-use Rattle.machine.specs.declared.Ready.{Ready}
-use Rattle.machine.specs.declared.Ready.TheVariants.{Go, No}
+use Rattle.machine.specs.Machine.Parts.{LaneStep}
 use Rattle.machine.specs.Machine.Change.{refuse_lane, refused_in}
 use Rattle.machine.specs.Machine.Begin.{complete_with, hit, evict, miss_with, miss, begin_at, begin_lane, admits_of}
 use Rattle.machine.specs.Machine.Deliver.{reply, update_at, purge_at, fill_at, grant_at, bare_at, served_on, grant_to, bare_to, deliver_kind, or_as_before, deliver_lane}
@@ -44,6 +40,7 @@ use Rattle.machine_w5.specs.Stores as Former
 use Rattle.machine_w5.specs.Same.{SameReturns, SameDowns, SameLane}
 use Rattle.machine_w5.proofs.Pairs.{both}
 use Rattle.machine_w5.proofs.Queues.{push_same, take_same, at_same}
+use Rattle.std.specs.Prelude.{Option, Some, None, Result, Ok, Err}
 
 -- equal answers, and the same lanes
 pub record SameStep (r q : LaneStep) : Type 0 where
@@ -52,7 +49,7 @@ pub record SameStep (r q : LaneStep) : Type 0 where
 
 -- 12 with two places, where with eight the step goes on and the return queue has a third message
 pub record FullStep (r q : LaneStep) : Type 0 where
-  pub full : r.answer ≡ LaneAnswer.Refused QueueFull
+  pub full : r.answer ≡ Err QueueFull
   pub goes : refused_in q.answer ≡ false
   pub long : 3 ≤ q.lane.returns.len
 
@@ -78,15 +75,15 @@ by_parts P h p l e =
     subst (λ (x : Lane). P x l) z (h l.lines l.order l.waiting p.returns l.returns p.downs l.downs e.returns e.downs)
 
 -- a step that answers so, with these parts and this return queue
-abbrev pub step_with : LaneAnswer → List Line → List LineNo → Waiting → DownQueue → ReturnQueue → LaneStep
+abbrev pub step_with : Result LaneAnswer Refusal → List Line → List LineNo → Waiting → DownQueue → ReturnQueue → LaneStep
 step_with x ls o w d q = record { answer = x; lane = lane_with ls o w q d }
 
 -- a message joins the return queue, and the step goes on with the queue
-pub push_step : (x : LaneAnswer) (y : ReturnMessage) (p l : Lane) (ls : List Line) (o : List LineNo) (w : Waiting) (a b : ReturnQueue) (c d : DownQueue) →
+pub push_step : (x : Result LaneAnswer Refusal) (y : ReturnMessage) (p l : Lane) (ls : List Line) (o : List LineNo) (w : Waiting) (a b : ReturnQueue) (c d : DownQueue) →
     SameReturns a b → SameDowns c d → refused_in x ≡ false →
     Step
-    (cond (push_return Former.capacity a y).full (refuse_lane QueueFull p) (step_with x ls o w c (push_return Former.capacity a y).queue))
-    (cond (push_return capacity b y).full (refuse_lane QueueFull l) (step_with x ls o w d (push_return capacity b y).queue))
+    (cond (full_at Former.capacity a.len) (refuse_lane QueueFull p) (step_with x ls o w c (after_push Former.capacity a y)))
+    (cond (full_at capacity b.len) (refuse_lane QueueFull l) (step_with x ls o w d (after_push capacity b y)))
 push_step x y p l ls o w a b c d e f goes =
     on (leb 2 a.len)
     (λ t.
@@ -113,15 +110,15 @@ module _ (ls : List Line) (o : List LineNo) (w : Waiting) (a b : ReturnQueue) (c
   -- a line is given up
   evict_same : (i : LineNo) (op : Op) (x : WordNo) → Step (evict Former.capacity i op x p) (evict capacity i op x l)
   unfolding evict
-  evict_same i op x = push_step LaneAnswer.Waits _ p l _ _ _ a b c d e f refl
+  evict_same i op x = push_step (Ok Waits) _ p l _ _ _ a b c d e f refl
 
   miss_same : (n : ℕ) (op : Op) (x : WordNo) → Step (miss Former.capacity n op x p) (miss capacity n op x l)
   unfolding miss
   miss_same n op x = go (vacant_of p n)
     where
-      go : (r : Found) → Step (miss_with Former.capacity r op x p) (miss_with capacity r op x l)
-      go (At i) = inr (record { answer = refl; lane = parts_same _ _ _ a b c d e f })
-      go Nothing = evict_same (place_at o 0) op x
+      go : (r : Option LineNo) → Step (miss_with Former.capacity r op x p) (miss_with capacity r op x l)
+      go (Some i) = inr (record { answer = refl; lane = parts_same _ _ _ a b c d e f })
+      go None = evict_same (place_at o 0) op x
 
   hit_same : (n : ℕ) (i : LineNo) (op : Op) (x : WordNo) → Step (hit n i op x p) (hit n i op x l)
   unfolding hit complete_with
@@ -133,14 +130,14 @@ module _ (ls : List Line) (o : List LineNo) (w : Waiting) (a b : ReturnQueue) (c
   unfolding begin_lane
   begin_parts n op x = go (search_of p n (block_of x))
     where
-      go : (r : Found) → Step (begin_at Former.capacity r n op x p) (begin_at capacity r n op x l)
-      go (At i) = hit_same n i op x
-      go Nothing = miss_same n op x
+      go : (r : Option LineNo) → Step (begin_at Former.capacity r n op x p) (begin_at capacity r n op x l)
+      go (Some i) = hit_same n i op x
+      go None = miss_same n op x
 
   -- a message is answered
   reply_same : (y : ReturnMessage) → Step (reply Former.capacity y p) (reply capacity y l)
   unfolding reply
-  reply_same y = push_step LaneAnswer.Stepped y p l ls o w a b c d e f refl
+  reply_same y = push_step (Ok Stepped) y p l ls o w a b c d e f refl
 
   -- an operation completes
   complete_same : (u : List LineNo) (i : LineNo) (y : Line) (op : Op) (x : WordNo) → Step (complete_with u i y op x p) (complete_with u i y op x l)
@@ -155,39 +152,39 @@ module _ (ls : List Line) (o : List LineNo) (w : Waiting) (a b : ReturnQueue) (c
   abbrev l₁ : Lane
   l₁ = lane_with ls o w b d
 
-  update_same : (r : Found) (x : BlockNo) → Step (update_at Former.capacity r x p₁) (update_at capacity r x l₁)
-  update_same (At i) x = reply_same _ o w a b c d e f _
-  update_same Nothing x = reply_same ls o w a b c d e f _
+  update_same : (r : Option LineNo) (x : BlockNo) → Step (update_at Former.capacity r x p₁) (update_at capacity r x l₁)
+  update_same (Some i) x = reply_same _ o w a b c d e f _
+  update_same None x = reply_same ls o w a b c d e f _
 
-  purge_same : (r : Found) (x : BlockNo) → Step (purge_at Former.capacity r x p₁) (purge_at capacity r x l₁)
-  purge_same (At i) x = reply_same _ o w a b c d e f _
-  purge_same Nothing x = reply_same ls o w a b c d e f _
+  purge_same : (r : Option LineNo) (x : BlockNo) → Step (purge_at Former.capacity r x p₁) (purge_at capacity r x l₁)
+  purge_same (Some i) x = reply_same _ o w a b c d e f _
+  purge_same None x = reply_same ls o w a b c d e f _
 
-  fill_same : (ins : Insertion) (r : Found) (n : ℕ) (x : DownMessage) (q : Operation) → Step (fill_at ins r n x q p₁) (fill_at ins r n x q l₁)
-  fill_same ins (At i) n x q = complete_same ls o _ a b c d e f _ i _ q.op q.word
-  fill_same ins Nothing n x q = refused_same ls o w a b c d e f _
+  fill_same : (ins : Insertion) (r : Option LineNo) (n : ℕ) (x : DownMessage) (q : Operation) → Step (fill_at ins r n x q p₁) (fill_at ins r n x q l₁)
+  fill_same ins (Some i) n x q = complete_same ls o _ a b c d e f _ i _ q.op q.word
+  fill_same ins None n x q = refused_same ls o w a b c d e f _
 
-  granted_same : (ins : Insertion) (r : Found) (n : ℕ) (x : DownMessage) (q : Operation) → Step (grant_at ins r n x q p₁) (grant_at ins r n x q l₁)
-  granted_same ins (At i) n x q = refused_same ls o w a b c d e f _
-  granted_same ins Nothing n x q = fill_same ins (vacant_of p₁ n) n x q
+  granted_same : (ins : Insertion) (r : Option LineNo) (n : ℕ) (x : DownMessage) (q : Operation) → Step (grant_at ins r n x q p₁) (grant_at ins r n x q l₁)
+  granted_same ins (Some i) n x q = refused_same ls o w a b c d e f _
+  granted_same ins None n x q = fill_same ins (vacant_of p₁ n) n x q
 
-  bare_same : (r : Found) (n : ℕ) (q : Operation) → Step (bare_at r n q p₁) (bare_at r n q l₁)
-  bare_same (At i) n q = complete_same ls o _ a b c d e f _ i _ q.op q.word
-  bare_same Nothing n q = refused_same ls o w a b c d e f _
+  bare_same : (r : Option LineNo) (n : ℕ) (q : Operation) → Step (bare_at r n q p₁) (bare_at r n q l₁)
+  bare_same (Some i) n q = complete_same ls o _ a b c d e f _ i _ q.op q.word
+  bare_same None n q = refused_same ls o w a b c d e f _
 
   kind_same : (ins : Insertion) (y : DownKind) (n : ℕ) (x : DownMessage) → Step (deliver_kind Former.capacity ins y n x p₁) (deliver_kind capacity ins y n x l₁)
   kind_same ins Update n x = update_same (search_of p₁ n x.block) x.block
   kind_same ins Purge n x = purge_same (search_of p₁ n x.block) x.block
   kind_same ins Grant n x = go (served_on w x.block)
     where
-      go : (r : Ready) → Step (grant_to ins r n x p₁) (grant_to ins r n x l₁)
-      go (No r) = refused_same ls o w a b c d e f r
-      go (Go q) = granted_same ins (search_of p₁ n x.block) n x q
+      go : (r : Result Operation Refusal) → Step (grant_to ins r n x p₁) (grant_to ins r n x l₁)
+      go (Err r) = refused_same ls o w a b c d e f r
+      go (Ok q) = granted_same ins (search_of p₁ n x.block) n x q
   kind_same ins BareGrant n x = go (served_on w x.block)
     where
-      go : (r : Ready) → Step (bare_to r n x p₁) (bare_to r n x l₁)
-      go (No r) = refused_same ls o w a b c d e f r
-      go (Go q) = bare_same (search_of p₁ n x.block) n q
+      go : (r : Result Operation Refusal) → Step (bare_to r n x p₁) (bare_to r n x l₁)
+      go (Err r) = refused_same ls o w a b c d e f r
+      go (Ok q) = bare_same (search_of p₁ n x.block) n q
 
 -- on a refusal the lane stays
 as_before : (p l : Lane) (r q : LaneStep) → SameLane p l → Step r q → Step (or_as_before p r) (or_as_before l q)
@@ -203,8 +200,8 @@ deliver_parts ins n ls o w a b c d e f =
   where
     more : empty_at c.len ≡ false →
         Step
-        (or_as_before (lane_with ls o w a c) (deliver_kind Former.capacity ins (head_down c).kind n (head_down c) (with_downs (take_down c).queue (lane_with ls o w a c))))
-        (or_as_before (lane_with ls o w b d) (deliver_kind capacity ins (head_down d).kind n (head_down d) (with_downs (take_down d).queue (lane_with ls o w b d))))
+        (or_as_before (lane_with ls o w a c) (deliver_kind Former.capacity ins (head_down c).kind n (head_down c) (with_downs (after_take c) (lane_with ls o w a c))))
+        (or_as_before (lane_with ls o w b d) (deliver_kind capacity ins (head_down d).kind n (head_down d) (with_downs (after_take d) (lane_with ls o w b d))))
     more t =
         let h : c.len ≡ 0 → ⊥ = eqb-false _ _ t in
         let u : empty_at d.len ≡ false = sym (ap empty_at f.lens) ∙ t in

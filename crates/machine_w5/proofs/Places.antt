@@ -7,8 +7,8 @@ use mathlib.Core.List.{List, [], ◌∷◌}
 use lib.Dec.{ltb}
 use lib.ListN.{length, get_or, set}
 use Rattle.words.specs.Folds.{any_to}
-use Rattle.queues.specs.declared.ReturnQueue.{ReturnQueue}
-use Rattle.queues.specs.declared.DownQueue.{DownQueue}
+use Rattle.queues.specs.Queues.{ReturnQueue}
+use Rattle.queues.specs.Queues.{DownQueue}
 use Rattle.queues.specs.Queues.{shifted, no_return, no_down}
 use Rattle.machine.specs.Machine.Corruption.{bad_place, bad_returns, bad_downs}
 use Rattle.machine_w5.specs.Stores.{capacity}

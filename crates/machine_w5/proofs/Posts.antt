@@ -11,7 +11,7 @@ use borrow.Author.Tests.{leb-true, leb-false, lt-leb, le-leb}
 use Rattle.words.specs.Folds.{any_to}
 use Rattle.words.proofs.Folds.{below?, any_false, any_never}
 use Rattle.queues.specs.Queues.{capacity}
-use Rattle.queues.specs.declared.DownMessage.{DownMessage}
+use Rattle.queues.specs.Messages.{DownMessage}
 use Rattle.lanes.specs.declared.Lane.{Lane}
 use Rattle.store.specs.Stores.{no_lane}
 use Rattle.store.specs.LaneSets.{LaneSet, goes_to}

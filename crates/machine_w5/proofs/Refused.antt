@@ -9,7 +9,6 @@ use Rattle.answers.specs.declared.Answer.TheVariants as Answer
 use Rattle.answers.specs.declared.Refusal.TheVariants.{Corrupt}
 use Rattle.store.specs.declared.Store.{Store}
 use Rattle.store.specs.Opening.{bad_shape, fresh_of, blank_store, open_of}
-use Rattle.machine.specs.declared.Settled.TheVariants as Settled
 use Rattle.machine.specs.Machine.Corruption.{corrupt_of}
 use Rattle.machine.specs.Machine.Begin.{begin_of}
 use Rattle.machine.specs.Machine.Serve.{serve_of}
@@ -22,14 +21,15 @@ use Rattle.machine_w5.specs.Corruption as FormerCorruption
 use Rattle.machine_w5.specs.Steps as FormerSteps
 use Rattle.machine_w5.specs.Settle as FormerSettle
 use Rattle.machine_w5.specs.Calls as FormerCalls
+use Rattle.std.specs.Prelude.{Err}
 
 -- 14, as the reply of a call
 abbrev corrupt_reply : Call → Reply
-corrupt_reply (Begin k op w) = Answers (Answer.Refused Corrupt)
-corrupt_reply (Serve k) = Answers (Answer.Refused Corrupt)
-corrupt_reply (Return k) = Answers (Answer.Refused Corrupt)
-corrupt_reply (Deliver k) = Answers (Answer.Refused Corrupt)
-corrupt_reply Settle = SettledWith (Settled.Refused Corrupt) []
+corrupt_reply (Begin k op w) = Answers (Err Corrupt)
+corrupt_reply (Serve k) = Answers (Err Corrupt)
+corrupt_reply (Return k) = Answers (Err Corrupt)
+corrupt_reply (Deliver k) = Answers (Err Corrupt)
+corrupt_reply Settle = SettledWith (Err Corrupt) []
 
 former_corrupt : (ins : Insertion) (t : Former.Store) (x : Call) → FormerCorruption.corrupt_of t ≡ true → FormerCalls.call_of ins t x ≡ record { reply = corrupt_reply x; store = t }
 unfolding FormerCalls.call_of FormerSteps.begin_of FormerSteps.serve_of FormerSteps.return_of FormerSteps.deliver_of FormerSettle.settle_of

@@ -7,7 +7,7 @@ use mathlib.Core.List.{List, [], ◌++◌}
 use Rattle.words.specs.declared.Shape.{Shape}
 use Rattle.words.specs.Folds.{count_to}
 use Rattle.words.proofs.Folds as Folds
-use Rattle.queues.specs.declared.DownMessage.{DownMessage}
+use Rattle.queues.specs.Messages.{DownMessage}
 use Rattle.queues.specs.Queues.{no_down}
 use Rattle.lanes.specs.declared.Lane.{Lane}
 use Rattle.lanes.specs.UseOrder.{Insertion}
@@ -23,7 +23,6 @@ use Rattle.store.specs.Stores.{no_lane}
 use Rattle.store.specs.Quiet.{quiet_of}
 use Rattle.machine.specs.Machine.Corruption.{corrupt_of}
 use Rattle.machine.specs.Machine.Settle.{settle_step, is_order, downs_of, orders_in, bound_of, Progress, advance, ended, repeat_step, Settlement, reached, unless_refused, settle_of}
-use Rattle.machine.specs.declared.Settled.TheVariants.{Steps}
 use Rattle.machine.specs.Machine.Calls.{Called, SettledWith, settled_call}
 use Rattle.machine.proofs.Laws.Sums.{sum_same}
 use Rattle.machine_w5.specs.Control as FormerControl
@@ -37,6 +36,8 @@ use Rattle.machine_w5.proofs.Controls.{services_same}
 use Rattle.machine_w5.proofs.Corruption.{former_with, store_with, by_stores, each_lane, count_same, corrupt_same, quiet_same}
 use Rattle.machine_w5.proofs.Commits.{SameOutcome, Long, Result}
 use Rattle.machine_w5.proofs.Steps.{step_of}
+use Rattle.std.specs.Prelude.{Ok, Err}
+use Rattle.answers.specs.declared.Refusal.{Refusal}
 
 -- the orders, or the grants, of a down queue
 downs_same : (order : Bool) (p l : Lane) → SameLane p l → FormerSettle.downs_of order p.downs ≡ downs_of order l.downs
@@ -104,7 +105,7 @@ record SameProgress (p : FormerSettle.Progress) (q : Progress) : Type 0 where
 
 -- .. or the one before W6 was refused by 12
 abbrev Goes : Insertion → Store → FormerSettle.Progress → Progress → Type 0
-Goes ins s p q = ((p.answer ≡ Answer.Refused QueueFull) × Seen ins s) ⊎ SameProgress p q
+Goes ins s p q = ((p.answer ≡ Err QueueFull) × Seen ins s) ⊎ SameProgress p q
 
 -- a settle that was refused goes no further
 refused_stays : (ins : Insertion) (n : ℕ) (p : FormerSettle.Progress) → refused_of p.answer ≡ true → FormerSettle.repeat_step ins n p ≡ p
@@ -135,8 +136,8 @@ seen_advance : (ins : Insertion) (q : Progress) → Seen ins (advance ins q).sto
 unfolding advance
 seen_advance ins q h = seen_later ins q.store h
 
-full_ends : (ins : Insertion) (n : ℕ) (p : FormerSettle.Progress) → (FormerSettle.settle_step ins p.store).answer ≡ Answer.Refused QueueFull →
-    (FormerSettle.repeat_step ins n (FormerSettle.advance ins p)).answer ≡ Answer.Refused QueueFull
+full_ends : (ins : Insertion) (n : ℕ) (p : FormerSettle.Progress) → (FormerSettle.settle_step ins p.store).answer ≡ Err QueueFull →
+    (FormerSettle.repeat_step ins n (FormerSettle.advance ins p)).answer ≡ Err QueueFull
 unfolding FormerSettle.advance
 full_ends ins n p e = ap (λ (r : FormerSettle.Progress). r.answer) (refused_stays ins n (FormerSettle.advance ins p) (ap refused_of e)) ∙ e
 
@@ -172,29 +173,29 @@ reached_same : (t : Former.Store) (s : Store) (p : FormerSettle.Progress) (q : P
     SameCalled (FormerCalls.settled_call (FormerSettle.reached t p)) (settled_call (reached s q))
 reached_same t s p q e f =
     both (λ a b. SameCalled (FormerCalls.settled_call a) (settled_call b)) (Former.quiet_of p.store) (quiet_of q.store) (quiet_of_lem p.store q.store f.store)
-    (λ _. record { reply = let a = f.count in let o = f.orders in let b = f.completions in λ i. SettledWith (Steps (record { steps = a i; orders = o i })) (b i); store = f.store })
+    (λ _. record { reply = let a = f.count in let o = f.orders in let b = f.completions in λ i. SettledWith (Ok (record { steps = a i; orders = o i })) (b i); store = f.store })
     (λ _. record { reply = refl; store = e })
 
-unless_same : (a : Answer) (t : Former.Store) (s : Store) (r : FormerSettle.Settlement) (q : Settlement) → Same t s → SameCalled (FormerCalls.settled_call r) (settled_call q) →
+unless_same : (a : Result Answer Refusal) (t : Former.Store) (s : Store) (r : FormerSettle.Settlement) (q : Settlement) → Same t s → SameCalled (FormerCalls.settled_call r) (settled_call q) →
     SameCalled (FormerCalls.settled_call (FormerSettle.unless_refused a t r)) (settled_call (unless_refused a s q))
-unless_same Answer.Opened t s r q e f = f
-unless_same (Answer.Done x) t s r q e f = f
-unless_same Answer.Wait t s r q e f = f
-unless_same Answer.Step t s r q e f = f
-unless_same (Answer.Refused n) t s r q e f = record { reply = refl; store = e }
+unless_same (Ok Opened) t s r q e f = f
+unless_same (Ok (Done x)) t s r q e f = f
+unless_same (Ok Wait) t s r q e f = f
+unless_same (Ok Step) t s r q e f = f
+unless_same (Err n) t s r q e f = record { reply = refl; store = e }
 
 ends_same : (ins : Insertion) (t : Former.Store) (s : Store) (p : FormerSettle.Progress) (q : Progress) → Same t s → Goes ins s p q →
     Settles ins s (FormerCalls.settled_call (FormerSettle.unless_refused p.answer t (FormerSettle.reached t p))) (settled_call (unless_refused q.answer s (reached s q)))
 ends_same ins t s p q e (inl f) = inl (ap (λ a. full_in (FormerCalls.settled_call (FormerSettle.unless_refused a t (FormerSettle.reached t p))).reply) f.0, f.1)
 ends_same ins t s p q e (inr f) =
-    inr (subst (λ (a : Answer). SameCalled (FormerCalls.settled_call (FormerSettle.unless_refused p.answer t (FormerSettle.reached t p))) (settled_call (unless_refused a s (reached s q)))) f.answer
+    inr (subst (λ (a : Result Answer Refusal). SameCalled (FormerCalls.settled_call (FormerSettle.unless_refused p.answer t (FormerSettle.reached t p))) (settled_call (unless_refused a s (reached s q)))) f.answer
     (unless_same p.answer t s _ _ e (reached_same t s p q e f)))
 
 pub settle_of_lem : (ins : Insertion) (t : Former.Store) (s : Store) → Same t s → Settles ins s (FormerCalls.settled_call (FormerSettle.settle_of ins t)) (settled_call (settle_of ins s))
 unfolding FormerSettle.settle_of settle_of
 settle_of_lem ins t s e =
-    let p : FormerSettle.Progress = record { count = 0; orders = 0; completions = []; answer = Answer.Step; store = t } in
-    let q : Progress = record { count = 0; orders = 0; completions = []; answer = Answer.Step; store = s } in
+    let p : FormerSettle.Progress = record { count = 0; orders = 0; completions = []; answer = Ok Step; store = t } in
+    let q : Progress = record { count = 0; orders = 0; completions = []; answer = Ok Step; store = s } in
     both (λ a b. Settles ins s (FormerCalls.settled_call a) (settled_call b)) (FormerCorruption.corrupt_of t) (corrupt_of s) (corrupt_of_lem t s e)
     (λ _. inr (record { reply = refl; store = e }))
     (λ _. ends_same ins t s _ _ e

@@ -15,8 +15,8 @@ use Rattle.words.specs.declared.Op.{Op}
 use Rattle.words.specs.Units.{block_of}
 use Rattle.words.specs.Folds.{lowest_to}
 use Rattle.words.proofs.Folds.{skip, lowest_same}
-use Rattle.queues.specs.declared.ReturnMessage.{ReturnMessage}
-use Rattle.queues.specs.Queues.{empty_at, take_return, no_return}
+use Rattle.queues.specs.Messages.{ReturnMessage}
+use Rattle.queues.specs.Queues.{empty_at, after_take, no_return}
 use Rattle.lanes.specs.declared.Lane.{Lane}
 use Rattle.lanes.specs.declared.Operation.{Operation}
 use Rattle.lanes.specs.declared.Waiting.{Waiting}
@@ -29,14 +29,10 @@ use Rattle.store.specs.declared.Store.{Store}
 use Rattle.store.specs.declared.Block.{Block}
 use Rattle.store.specs.declared.Service.{Service}
 use Rattle.store.specs.declared.Control.{Control}
-use Rattle.store.specs.declared.Lookup.{Lookup}
-use Rattle.store.specs.declared.Lookup.TheVariants.{Of, Nothing}
 use Rattle.store.specs.declared.Outcome.{Outcome}
 use Rattle.store.specs.Control.{lowered, counted_of, answer_of}
 use Rattle.store.specs.LaneSets.{count_of}
 use Rattle.store.specs.Stores.{no_lane, block_at}
-use Rattle.machine.specs.declared.Ready.{Ready}
-use Rattle.machine.specs.declared.Ready.TheVariants.{Go, No}
 use Rattle.machine.specs.Machine.Begun.{last_place, exhausted_of}
 use Rattle.machine.specs.Machine.Corruption.{corrupt_of}
 use Rattle.machine.specs.Machine.Change.{guarded, commit_move}
@@ -62,6 +58,8 @@ use Rattle.machine_w5.proofs.Controls.{busy_for_same, service_same, open_same, u
 use Rattle.machine_w5.proofs.Corruption.{former_with, store_with, by_stores, each_lane, parts_same, begun_same, corrupt_same}
 use Rattle.machine_w5.proofs.Inside.{serve_inside, return_inside}
 use Rattle.machine_w5.proofs.Commits.{Result, SameMove, refuse_same, commit_lane_lem, commit_move_lem}
+use Rattle.std.specs.Prelude.{Option, Some, None, Ok, Err}
+use Rattle.answers.specs.declared.Refusal.{Refusal}
 
 -- 9, 10, 11
 ready_same : (w : Waiting) (p l : Lane) (x : FormerControl.Control) (y : Control) → SameLane p l → SameControl x y → FormerSteps.ready_with w p x ≡ ready_with w l 1 y
@@ -70,7 +68,7 @@ ready_same (Served o) p l x y e f = refl
 ready_same (Unserved o) p l x y e f =
     let u = busy_for_same x y (block_of o.word) f in
     let v = e.returns.lens in
-    λ i. cond (u i) (No ControlBusy) (cond (ltb 0 (v i)) (No ReturnsPending) (Go o))
+    λ i. cond (u i) (Err ControlBusy) (cond (ltb 0 (v i)) (Err ReturnsPending) (Ok o))
 
 -- close: the control without the service is the same
 closed_same : (v : Service) (p l : Lane) (b : Block) (x : FormerControl.Control) (y : Control) → SameLane p l → SameControl x y → SameMove (FormerSteps.close v p b x) (close v l b y)
@@ -88,11 +86,11 @@ serve_move_lem k o p l b y e f =
     (λ _. record { answer = refl; lane = z; block = refl; control = open_same v y f; to = refl; message = refl })
 
 -- memory takes a message: l and b before it, u and c after it
-counted_same : (q : Lookup) (p l : Lane) (b c : Block) (x : FormerControl.Control) (y : Control) (t u : Lane) → SameLane p l → SameLane t u → SameControl x y →
-    ((v : Service) → q ≡ Of v → x ≡ Busy v) →
+counted_same : (q : Option Service) (p l : Lane) (b c : Block) (x : FormerControl.Control) (y : Control) (t u : Lane) → SameLane p l → SameLane t u → SameControl x y →
+    ((v : Service) → q ≡ Some v → x ≡ Busy v) →
     SameMove (FormerSteps.counted_move (FormerControl.counted_of q) p b x t c) (counted_move (counted_of q) l b y u c)
-counted_same Nothing p l b c x y t u e f g own = record { answer = refl; lane = e; block = refl; control = g; to = refl; message = refl }
-counted_same (Of v) p l b c x y t u e f g own =
+counted_same None p l b c x y t u e f g own = record { answer = refl; lane = e; block = refl; control = g; to = refl; message = refl }
+counted_same (Some v) p l b c x y t u e f g own =
     on (eqb v.awaited 0)
     (λ z. rw z (record { answer = refl; lane = e; block = refl; control = g; to = refl; message = refl }))
     (λ z. on (eqb v.awaited 1)
@@ -103,20 +101,20 @@ counted_same (Of v) p l b c x y t u e f g own =
     held = subst (λ (r : FormerControl.Control). SameControl r y) (own v refl) g
 
 -- the service that is looked up is the one under way
-looked_up : (x : FormerControl.Control) (a : BlockNo) (v : Service) → FormerControl.service_of x a ≡ Of v → x ≡ Busy v
+looked_up : (x : FormerControl.Control) (a : BlockNo) (v : Service) → FormerControl.service_of x a ≡ Some v → x ≡ Busy v
 looked_up Free a v e = let z : ◌≡◌ {A = ℕ} 0 1 = cc in absurd (omega arith)
 looked_up (Busy u) a v e =
-    on (eqb u.block.0 a.0) (λ t. let z : Of u ≡ Of v = rw t at e in cc)
-    (λ t. let y : Nothing ≡ Of v = rw t at e in let z : ◌≡◌ {A = ℕ} 0 1 = cc in absurd (omega arith))
+    on (eqb u.block.0 a.0) (λ t. let z : Some u ≡ Some v = rw t at e in cc)
+    (λ t. let y : None ≡ Some v = rw t at e in let z : ◌≡◌ {A = ℕ} 0 1 = cc in absurd (omega arith))
 
 answered_same : (a : BlockNo) (p l : Lane) (b c : Block) (x : FormerControl.Control) (y : Control) (t u : Lane) → SameLane p l → SameLane t u → SameControl x y →
     SameMove (FormerSteps.counted_move (FormerControl.answer_of x a) p b x t c) (counted_move (answer_of y a) l b y u c)
 answered_same a p l b c x y t u e f g =
-    subst (λ (q : Lookup). SameMove (FormerSteps.counted_move (FormerControl.answer_of x a) p b x t c) (counted_move (counted_of q) l b y u c)) (service_same x y a g)
+    subst (λ (q : Option Service). SameMove (FormerSteps.counted_move (FormerControl.answer_of x a) p b x t c) (counted_move (counted_of q) l b y u c)) (service_same x y a g)
     (counted_same (FormerControl.service_of x a) p l b c x y t u e f g (λ v q. looked_up x a v q))
 
 -- the head leaves the return queues
-taken_same : (p l : Lane) → empty_at p.returns.len ≡ false → SameLane p l → SameLane (with_returns (take_return p.returns).queue p) (with_returns (take_return l.returns).queue l)
+taken_same : (p l : Lane) → empty_at p.returns.len ≡ false → SameLane p l → SameLane (with_returns (after_take p.returns) p) (with_returns (after_take l.returns) l)
 taken_same p l h e =
     let n : empty_at l.returns.len ≡ false = sym (ap empty_at e.returns.lens) ∙ h in
     rw (h, n) (record { lines = e.lines; order = e.order; waiting = e.waiting; returns = take_same _ _ _ _ e.returns (eqb-false _ _ h); downs = e.downs })
@@ -131,20 +129,20 @@ return_move_lem k m p l b x y h e f =
     (λ _. record { answer = refl; lane = z; block = refl; control = f; to = refl; message = refl })
 
 -- a command is taken only where no service is under way
-ready_free : (w : Waiting) (p : Lane) (x : FormerControl.Control) (o : Operation) → FormerSteps.ready_with w p x ≡ Go o → x ≡ Free
+ready_free : (w : Waiting) (p : Lane) (x : FormerControl.Control) (o : Operation) → FormerSteps.ready_with w p x ≡ Ok o → x ≡ Free
 ready_free w p Free o e = refl
 ready_free Idle p (Busy v) o e = let z : ◌≡◌ {A = ℕ} 0 1 = cc in absurd (omega arith)
 ready_free (Served q) p (Busy v) o e = let z : ◌≡◌ {A = ℕ} 0 1 = cc in absurd (omega arith)
 ready_free (Unserved q) p (Busy v) o e = let z : ◌≡◌ {A = ℕ} 0 1 = cc in absurd (omega arith)
 
 -- .. and is that of an unserved operation
-ready_unserved : (w : Waiting) (p : Lane) (x : FormerControl.Control) (o : Operation) → FormerSteps.ready_with w p x ≡ Go o → w ≡ Unserved o
+ready_unserved : (w : Waiting) (p : Lane) (x : FormerControl.Control) (o : Operation) → FormerSteps.ready_with w p x ≡ Ok o → w ≡ Unserved o
 ready_unserved Idle p x o e = let z : ◌≡◌ {A = ℕ} 0 1 = cc in absurd (omega arith)
 ready_unserved (Served q) p x o e = let z : ◌≡◌ {A = ℕ} 0 1 = cc in absurd (omega arith)
 ready_unserved (Unserved q) p x o e =
     let a = skip (FormerControl.busy_of x) e (λ f. let z : ◌≡◌ {A = ℕ} 0 1 = cc in omega arith) in
     let b = skip (ltb 0 p.returns.len) a.1 (λ f. let z : ◌≡◌ {A = ℕ} 0 1 = cc in omega arith) in
-    let c : Go q ≡ Go o = b.1 in
+    let c : Ok q ≡ Ok o = b.1 in
     cc
 
 -- a call on equal lanes
@@ -218,17 +216,17 @@ module _ (shape : Shape) (x : FormerControl.Control) (y : Control) (done : ℕ) 
   serve_parts : (k : LaneNo) → Result (FormerSteps.serve_of t k) (serve_of s k)
   unfolding FormerSteps.serve_of serve_of FormerSteps.ready_of ready_of
   serve_parts k = guard_same k _ _ (λ g h b.
-      subst (λ (r : Ready). Result (FormerSteps.serve_ready (FormerSteps.ready_of (get_or ps k.0 no_lane) x) t k) (serve_ready r s k)) (ready (el.lane k.0 h b)) (go g (el.lane k.0 h b) b _ refl))
+      subst (λ (r : Result Operation Refusal). Result (FormerSteps.serve_ready (FormerSteps.ready_of (get_or ps k.0 no_lane) x) t k) (serve_ready r s k)) (ready (el.lane k.0 h b)) (go g (el.lane k.0 h b) b _ refl))
     where
       ready : SameLane (get_or ps k.0 no_lane) (get_or ls k.0 no_lane) → FormerSteps.ready_of (get_or ps k.0 no_lane) x ≡ ready_of (get_or ls k.0 no_lane) shape.limit y
       ready e =
           ready_same (get_or ps k.0 no_lane).waiting (get_or ps k.0 no_lane) (get_or ls k.0 no_lane) x y e ec ∙
           (λ i. ready_with (e.waiting i) (get_or ls k.0 no_lane) (sym one i) y)
 
-      go : Sound s → SameLane (get_or ps k.0 no_lane) (get_or ls k.0 no_lane) → k.0 < shape.n → (r : Ready) → FormerSteps.ready_of (get_or ps k.0 no_lane) x ≡ r →
+      go : Sound s → SameLane (get_or ps k.0 no_lane) (get_or ls k.0 no_lane) → k.0 < shape.n → (r : Result Operation Refusal) → FormerSteps.ready_of (get_or ps k.0 no_lane) x ≡ r →
           Result (FormerSteps.serve_ready r t k) (serve_ready r s k)
-      go g e h (No r) q = refuse_same t s r same
-      go g e h (Go o) q =
+      go g e h (Err r) q = refuse_same t s r same
+      go g e h (Ok o) q =
           let w : (get_or ls k.0 no_lane).waiting ≡ Unserved o = sym e.waiting ∙ ready_unserved (get_or ps k.0 no_lane).waiting (get_or ps k.0 no_lane) x o q in
           serve_go k o _ _ e (ready_free (get_or ps k.0 no_lane).waiting (get_or ps k.0 no_lane) x o q) h (g.block (block_of o.word).0 ((g.lane k.0 h).unserved o w))
 

@@ -157,14 +157,14 @@ module _ (b : Bounded) where
   unfolding FormerTape.replay_from replay_from has_limited_open_from
   replay_same zero t s tape e f = refl
   replay_same (suc n) t s tape e f =
-      both (λ (x y : List Answer). x ≡ y) (eqb (length tape) 0) (eqb (length tape) 0) refl (λ _. refl)
+      both (λ (x y : List (Result Answer Refusal)). x ≡ y) (eqb (length tape) 0) (eqb (length tape) 0) refl (λ _. refl)
       (λ z. go (rw z at f) (λ p q u v. replay_same n p q (drop (parse_of tape).size tape) u v))
     where
       -- the answer to a record, and the answers to what is left
-      before : Parsed → List Answer
+      before : Parsed → List (Result Answer Refusal)
       before p = (FormerTape.record_of t p.rec).answer ∷ FormerTape.replay_from n (FormerTape.record_of t p.rec).store (drop p.size tape)
 
-      today : Parsed → List Answer
+      today : Parsed → List (Result Answer Refusal)
       today p = (record_of s p.rec).answer ∷ replay_from n (record_of s p.rec).store (drop p.size tape)
 
       left : List ℕ
@@ -188,5 +188,5 @@ module _ (b : Bounded) where
   pub same_tape : SameTape
   unfolding FormerTape.printed printed FormerTape.replay_of replay_of
   same_tape tape e =
-      ap (λ (lines : List Answer). cond (ltb tape_most (length tape)) (refused_text TapeTooLong ++ (10 ∷ [])) (lines_text 0 lines ++ end_text (length lines)))
+      ap (λ (lines : List (Result Answer Refusal)). cond (ltb tape_most (length tape)) (refused_text TapeTooLong ++ (10 ∷ [])) (lines_text 0 lines ++ end_text (length lines)))
       (replay_same (length tape) Former.blank_store blank_store tape blank_tapes e)

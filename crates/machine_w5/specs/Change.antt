@@ -1,17 +1,16 @@
 -- What every call shares, on a store before W6: a refusal leaves the store as it was; what a call changes is put back in one place. Assumes nothing.
-use Rattle.std.specs.Prelude.{cond, leb, set}
+use Rattle.std.specs.Prelude.{cond, leb, set, Result, Err}
 use Rattle.words.specs.declared.LaneNo.{LaneNo}
 use Rattle.words.specs.declared.BlockNo.{BlockNo}
-use Rattle.queues.specs.declared.DownMessage.{DownMessage}
+use Rattle.queues.specs.Messages.{DownMessage}
 use Rattle.lanes.specs.declared.Lane.{Lane}
 use Rattle.answers.specs.declared.Answer.{Answer}
-use Rattle.answers.specs.declared.Answer.TheVariants.{Refused}
 use Rattle.answers.specs.declared.Refusal.{Refusal}
 use Rattle.answers.specs.declared.Refusal.TheVariants.{NoSuchLane, QueueFull, Corrupt}
 use Rattle.answers.specs.Refusals.{refused_of}
 use Rattle.store.specs.declared.Block.{Block}
 use Rattle.store.specs.LaneSets.{LaneSet, nobody}
-use Rattle.machine.specs.declared.LaneStep.{LaneStep}
+use Rattle.machine.specs.Machine.Parts.{LaneStep}
 use Rattle.machine.specs.Machine.Change.{refused_in, counted, answer_to, no_message, some_full, post_all}
 use Rattle.machine_w5.specs.Control.{Control}
 use Rattle.machine_w5.specs.Stores.{Store, Outcome, capacity, with_control, with_completions, with_lanes, with_lane, with_block}
@@ -19,7 +18,7 @@ use Rattle.machine_w5.specs.Corruption.{corrupt_of}
 
 -- memory's part of a call: the answer; what becomes of the lane, the block and the control; the message that it sends, and to which lanes
 pub record Move : Type 0 where
-  pub answer : Answer
+  pub answer : Result Answer Refusal
   pub lane : Lane
   pub block : Block
   pub control : Control
@@ -28,7 +27,7 @@ pub record Move : Type 0 where
 
 -- A refusal gives its number alone; the store is the same as before the call
 abbrev pub refuse : Refusal → Store → Outcome
-refuse r s = record { answer = Refused r; store = s }
+refuse r s = record { answer = Err r; store = s }
 
 -- 14, then 6: the first checks of every call on a lane
 abbrev pub guarded : Store → LaneNo → Outcome → Outcome
@@ -46,7 +45,7 @@ commit_lane s k r =
 
 -- a refusal of memory's part
 abbrev pub refuse_move : Refusal → Lane → Block → Control → Move
-refuse_move r l b x = record { answer = Refused r; lane = l; block = b; control = x; to = nobody; message = no_message }
+refuse_move r l b x = record { answer = Err r; lane = l; block = b; control = x; to = nobody; message = no_message }
 
 -- lane k, block a, the control and the queues of those that a message goes to, after memory's part of a call
 abbrev pub moved_store : Store → LaneNo → BlockNo → Move → Store

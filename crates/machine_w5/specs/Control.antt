@@ -1,9 +1,7 @@
 -- The control before W6: it has at most one service. Assumes nothing.
-use Rattle.std.specs.Prelude.{Bool, true, false, cond, eqb}
+use Rattle.std.specs.Prelude.{Bool, true, false, cond, eqb, Option, Some, None}
 use Rattle.words.specs.declared.BlockNo.{BlockNo}
 use Rattle.store.specs.declared.Service.{Service}
-use Rattle.store.specs.declared.Lookup.{Lookup}
-use Rattle.store.specs.declared.Lookup.TheVariants.{Of, Nothing}
 use Rattle.store.specs.Control.{lowered}
 
 -- no service, or one
@@ -23,14 +21,14 @@ busy_of Free = false
 busy_of (Busy v) = true
 
 -- the service of block a
-abbrev pub service_of : Control → BlockNo → Lookup
-service_of Free a = Nothing
-service_of (Busy v) a = cond (eqb v.block.0 a.0) (Of v) Nothing
+abbrev pub service_of : Control → BlockNo → Option Service
+service_of Free a = None
+service_of (Busy v) a = cond (eqb v.block.0 a.0) (Some v) None
 
 -- an answer for the service looked up: each answer lowers the awaited count, and at 0 the service closes
-abbrev pub counted_of : Lookup → Counted
-counted_of Nothing = NotAwaited
-counted_of (Of v) =
+abbrev pub counted_of : Option Service → Counted
+counted_of None = NotAwaited
+counted_of (Some v) =
     cond (eqb v.awaited 0) NotAwaited
     (cond (eqb v.awaited 1) (Closes v Free) (Awaits (Busy (lowered v))))
 

@@ -1,11 +1,11 @@
 -- 02, W6: with L = 1 nothing that a lane or a tape shows may differ from before, save where a call before W6 was refused by 12, a store handed in
 -- has a queue length above 2, or a tape has a record of kind 08. This file states it: when a store before W6 and a store of today are the same, and
 -- what the two machines then show. proofs/Theorems.antt has the theorems. Assumes nothing.
-use Rattle.std.specs.Prelude.{ℕ, zero, suc, ◌<◌, ◌≤◌, ◌≡◌, Bool, false, cond, ◌||◌, List, [], ◌∷◌, ◌++◌, map, eqb, length, get_or, drop, replicate}
+use Rattle.std.specs.Prelude.{ℕ, zero, suc, ◌<◌, ◌≤◌, ◌≡◌, Bool, false, cond, ◌||◌, List, [], ◌∷◌, ◌++◌, map, eqb, length, get_or, drop, replicate, Some, Result, Ok, Err}
 use Rattle.words.specs.declared.Shape.{Shape}
 use Rattle.tape_records.specs.Records.{field, parse_of}
-use Rattle.queues.specs.declared.ReturnQueue.{ReturnQueue}
-use Rattle.queues.specs.declared.DownQueue.{DownQueue}
+use Rattle.queues.specs.Queues.{ReturnQueue}
+use Rattle.queues.specs.Queues.{DownQueue}
 use Rattle.queues.specs.Queues.{messages, capacity, no_return, no_down}
 use Rattle.lanes.specs.declared.Lane.{Lane}
 use Rattle.lanes.specs.UseOrder.{Insertion}
@@ -14,11 +14,9 @@ use Rattle.answers.specs.declared.Answer.TheVariants.{Opened, Done, Wait, Step}
 use Rattle.answers.specs.Refusals.{number_of}
 use Rattle.store.specs.declared.Store.{Store}
 use Rattle.store.specs.declared.Control.{Control}
-use Rattle.store.specs.declared.Lookup.TheVariants.{Of}
 use Rattle.store.specs.Control.{slot_count, busy_with, with_slot, service_of, open_services}
 use Rattle.store.specs.Stores.{no_lane}
 use Rattle.store.specs.Opening.{blank_control, open_of}
-use Rattle.machine.specs.declared.Settled.TheVariants as Settled
 use Rattle.machine.specs.Machine.Calls.{Call, Reply, Answers, SettledWith, Called, Entry, Run, call_of, run, history_of}
 use Rattle.machine.specs.Machine.Picture.{picture_of}
 use Rattle.machine.specs.Machine.Text.{printed}
@@ -27,6 +25,7 @@ use Rattle.machine_w5.specs.Control as FormerControl
 use Rattle.machine_w5.specs.Stores as Former
 use Rattle.machine_w5.specs.Calls as FormerCalls
 use Rattle.machine_w5.specs.Tape as FormerTape
+use Rattle.answers.specs.declared.Refusal.{Refusal}
 
 -- a queue of two places and one of eight have the same messages, at most two. What stands past them in the arrays is not looked at
 pub record SameQueue {A : Type 0} (formerLen : ℕ) (formerAt : List A) (len : ℕ) (at : List A) : Type 0 where
@@ -60,7 +59,7 @@ pub record SameLanes (n : ℕ) (ps ls : List Lane) : Type 0 where
 -- no service, or the same one, in whatever slot
 abbrev pub SameServices : FormerControl.Control → Control → Type 0
 SameServices Free y = open_services y ≡ 0
-SameServices (Busy v) y = (open_services y ≡ 1) × (service_of y v.block ≡ Of v)
+SameServices (Busy v) y = (open_services y ≡ 1) × (service_of y v.block ≡ Some v)
 
 -- the controls of two stores; today's has eight slots
 pub record SameControl (x : FormerControl.Control) (y : Control) : Type 0 where
@@ -113,17 +112,17 @@ abbrev pub SameStore : Type 0
 SameStore = (t : Former.Store) → Short t → Same t (widened t)
 
 -- whether an answer, and the reply of a call, is a refusal by 12
-abbrev pub full_of : Answer → Bool
-full_of Opened = false
-full_of (Done x) = false
-full_of Wait = false
-full_of Step = false
-full_of (Answer.Refused r) = eqb (number_of r) 12
+abbrev pub full_of : Result Answer Refusal → Bool
+full_of (Ok Opened) = false
+full_of (Ok (Done x)) = false
+full_of (Ok Wait) = false
+full_of (Ok Step) = false
+full_of (Err r) = eqb (number_of r) 12
 
 abbrev pub full_in : Reply → Bool
 full_in (Answers a) = full_of a
-full_in (SettledWith (Settled.Steps counts) cs) = false
-full_in (SettledWith (Settled.Refused r) cs) = eqb (number_of r) 12
+full_in (SettledWith (Ok counts) cs) = false
+full_in (SettledWith (Err r) cs) = eqb (number_of r) 12
 
 -- the replies of two calls are equal, and the stores after them the same
 pub record SameCalled (r : FormerCalls.Called) (q : Called) : Type 0 where
@@ -159,7 +158,7 @@ SameList =
 -- an opening with L = 1: equal answers, and the same stores unless it is refused
 pub record SameOpening (shape : Shape) : Type 0 where
   pub answer : (Former.open_of shape).answer ≡ (open_of shape).answer
-  pub store : (open_of shape).answer ≡ Opened → Same (Former.open_of shape).store (open_of shape).store
+  pub store : (open_of shape).answer ≡ Ok Opened → Same (Former.open_of shape).store (open_of shape).store
 
 abbrev pub SameOpenings : Type 0
 SameOpenings = (shape : Shape) → shape.limit ≡ 1 → SameOpening shape
@@ -171,7 +170,7 @@ SameHistory = (ins : Insertion) (shape : Shape) (calls : List Call) → shape.li
 -- .. and the last stores, unless it is refused
 abbrev pub SameLast : Type 0
 SameLast =
-    (ins : Insertion) (shape : Shape) (calls : List Call) → shape.limit ≡ 1 → (open_of shape).answer ≡ Opened →
+    (ins : Insertion) (shape : Shape) (calls : List Call) → shape.limit ≡ 1 → (open_of shape).answer ≡ Ok Opened →
     Same (FormerCalls.run ins (Former.open_of shape).store calls).store (run ins (open_of shape).store calls).store
 
 -- whether one of a tape's records has kind 08, here among at most the given number of them

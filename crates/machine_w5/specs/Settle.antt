@@ -1,7 +1,7 @@
 -- Settle before W6, with the orders that it sent (02, W8). Assumes nothing.
-use Rattle.std.specs.Prelude.{ℕ, zero, suc, ◌+◌, ◌-◌, ◌*◌, Bool, true, false, not, cond, ◌||◌, ◌&&◌, List, [], ◌++◌, ltb, get_or}
+use Rattle.std.specs.Prelude.{ℕ, zero, suc, ◌+◌, ◌-◌, ◌*◌, Bool, true, false, not, cond, ◌||◌, ◌&&◌, List, [], ◌++◌, ltb, get_or, Result, Ok, Err}
 use Rattle.words.specs.Folds.{count_to, sum_to, lowest_to}
-use Rattle.queues.specs.declared.DownQueue.{DownQueue}
+use Rattle.queues.specs.Queues.{DownQueue}
 use Rattle.queues.specs.Queues.{no_down}
 use Rattle.lanes.specs.UseOrder.{Insertion}
 use Rattle.lanes.specs.Waits.{unserved_of}
@@ -12,14 +12,13 @@ use Rattle.answers.specs.declared.Refusal.{Refusal}
 use Rattle.answers.specs.declared.Refusal.TheVariants.{Corrupt, Unexpected}
 use Rattle.answers.specs.Refusals.{refused_of}
 use Rattle.answers.specs.Completions.{done_in}
-use Rattle.machine.specs.declared.Settled.{Settled}
-use Rattle.machine.specs.declared.Settled.TheVariants.{Steps}
 use Rattle.machine.specs.Machine.Settle.{lane, is_order}
 use Rattle.machine_w5.specs.Control.{busy_of}
 use Rattle.machine_w5.specs.Stores.{Store, Outcome, capacity, lane_at, quiet_of}
 use Rattle.machine_w5.specs.Corruption.{corrupt_of}
 use Rattle.machine_w5.specs.Change.{refuse}
 use Rattle.machine_w5.specs.Steps.{serve_of, return_of, deliver_of}
+use Rattle.machine.specs.declared.SettleCounts.{SettleCounts}
 
 -- deliver to the lowest lane with a filled down queue; else return from the lowest with a filled return queue; else serve the lowest unserved; 16 where there is none of these
 unfoldable pub settle_step : Insertion → Store → Outcome
@@ -68,7 +67,7 @@ pub record Progress : Type 0 where
   pub count : ℕ
   pub orders : ℕ
   pub completions : List Completion
-  pub answer : Answer
+  pub answer : Result Answer Refusal
   pub store : Store
 
 -- one step more
@@ -94,30 +93,30 @@ repeat_step ins (suc more) p = let r = repeat_step ins more (advance ins p) in c
 
 -- what settle gives: its counts or the refusal, the completions in order, the store after it
 pub record Settlement : Type 0 where
-  pub answer : Settled
+  pub answer : Result SettleCounts Refusal
   pub completions : List Completion
   pub store : Store
 
 -- a refused settle gives its number alone; the store is the same as before
 abbrev pub refuse_settle : Refusal → Store → Settlement
-refuse_settle r s = record { answer = Settled.Refused r; completions = []; store = s }
+refuse_settle r s = record { answer = Err r; completions = []; store = s }
 
 -- the store that was reached is quiet, or it is refused by 16
 abbrev pub reached : Store → Progress → Settlement
 reached s p =
-    cond (quiet_of p.store) (record { answer = Steps (record { steps = p.count; orders = p.orders }); completions = p.completions; store = p.store })
+    cond (quiet_of p.store) (record { answer = Ok (record { steps = p.count; orders = p.orders }); completions = p.completions; store = p.store })
     (refuse_settle Unexpected s)
 
 -- Settle refused inside gives that step's number
-abbrev pub unless_refused : Answer → Store → Settlement → Settlement
-unless_refused Opened s r = r
-unless_refused (Done x) s r = r
-unless_refused Wait s r = r
-unless_refused Step s r = r
-unless_refused (Answer.Refused n) s r = refuse_settle n s
+abbrev pub unless_refused : Result Answer Refusal → Store → Settlement → Settlement
+unless_refused (Ok Opened) s r = r
+unless_refused (Ok (Done x)) s r = r
+unless_refused (Ok Wait) s r = r
+unless_refused (Ok Step) s r = r
+unless_refused (Err n) s r = refuse_settle n s
 
 -- 14, then the numbers of its steps
 unfoldable pub settle_of : Insertion → Store → Settlement
 settle_of ins s =
-    let p = repeat_step ins (suc (bound_of s)) (record { count = 0; orders = 0; completions = []; answer = Step; store = s }) in
+    let p = repeat_step ins (suc (bound_of s)) (record { count = 0; orders = 0; completions = []; answer = Ok Step; store = s }) in
     cond (corrupt_of s) (refuse_settle Corrupt s) (unless_refused p.answer s (reached s p))

@@ -1,12 +1,12 @@
 -- Begin, serve, close, return and deliver before W6. A lane's part is today's with queues of two places. Assumes nothing.
-use Rattle.std.specs.Prelude.{◌*◌, cond, leb, ltb, eqb}
+use Rattle.std.specs.Prelude.{◌*◌, cond, leb, ltb, eqb, Result, Ok, Err}
 use Rattle.words.specs.declared.LaneNo.{LaneNo}
 use Rattle.words.specs.declared.WordNo.{WordNo}
 use Rattle.words.specs.declared.Op.{Op}
 use Rattle.words.specs.Units.{block_of}
-use Rattle.queues.specs.declared.ReturnMessage.{ReturnMessage}
-use Rattle.queues.specs.Queues.{empty_at, head_return, take_return}
-use Rattle.queues.specs.Messages.{bare_down}
+use Rattle.queues.specs.Messages.{ReturnMessage}
+use Rattle.queues.specs.Queues.{empty_at, head_return, after_take}
+use Rattle.queues.specs.Messages.{bare_message}
 use Rattle.lanes.specs.declared.Lane.{Lane}
 use Rattle.lanes.specs.declared.Operation.{Operation}
 use Rattle.lanes.specs.declared.Waiting.{Waiting}
@@ -18,8 +18,6 @@ use Rattle.answers.specs.declared.Refusal.TheVariants.{NoSuchWord, LaneBusy, Pla
 use Rattle.store.specs.declared.Block.{Block}
 use Rattle.store.specs.declared.Service.{Service}
 use Rattle.store.specs.LaneSets.{nobody, only, count_of}
-use Rattle.machine.specs.declared.Ready.{Ready}
-use Rattle.machine.specs.declared.Ready.TheVariants.{Go, No}
 use Rattle.machine.specs.Machine.Change.{no_message}
 use Rattle.machine.specs.Machine.Begin.{begin_lane, admits_of}
 use Rattle.machine.specs.Machine.Serve.{order_of, ordered, closed_block, grant_of, service_for}
@@ -29,6 +27,7 @@ use Rattle.machine_w5.specs.Control.{Control, Busy, Counted, Awaits, Closes, Not
 use Rattle.machine_w5.specs.Stores.{Store, Outcome, capacity, lane_at, block_at}
 use Rattle.machine_w5.specs.Corruption.{exhausted_of}
 use Rattle.machine_w5.specs.Change.{Move, refuse, refuse_move, guarded, commit_lane, commit_move}
+use Rattle.answers.specs.declared.Refusal.{Refusal}
 
 -- begin on a lane that takes the operation: 17, then the lane's part, put back
 abbrev pub begin_admitted : Store → LaneNo → Op → WordNo → Outcome
@@ -44,15 +43,15 @@ begin_of s k op w =
 -- Close: the flags, the grant to the service's lane; x is the control without the service
 unfoldable pub close : Service → Lane → Block → Control → Move
 close v l b x =
-    record { answer = Step; lane = l; block = closed_block v.command b v.lane; control = x; to = only v.lane; message = grant_of b v }
+    record { answer = Ok Step; lane = l; block = closed_block v.command b v.lane; control = x; to = only v.lane; message = grant_of b v }
 
 -- 9, 10, 11
-abbrev pub ready_with : Waiting → Lane → Control → Ready
-ready_with Idle l x = No NothingPending
-ready_with (Served o) l x = No NothingPending
-ready_with (Unserved o) l x = cond (busy_of x) (No ControlBusy) (cond (ltb 0 l.returns.len) (No ReturnsPending) (Go o))
+abbrev pub ready_with : Waiting → Lane → Control → Result Operation Refusal
+ready_with Idle l x = Err NothingPending
+ready_with (Served o) l x = Err NothingPending
+ready_with (Unserved o) l x = cond (busy_of x) (Err ControlBusy) (cond (ltb 0 l.returns.len) (Err ReturnsPending) (Ok o))
 
-unfoldable pub ready_of : Lane → Control → Ready
+unfoldable pub ready_of : Lane → Control → Result Operation Refusal
 ready_of l x = ready_with l.waiting l x
 
 -- Memory takes lane k's command; the operation is then served. The count of sent orders is awaited. If none are awaited the service closes in this step
@@ -62,12 +61,12 @@ serve_move k o l b x =
     let v : Service = service_for k o b (count_of to) in
     let t = with_waiting (Served o) l in
     cond (eqb (count_of to) 0) (close v t b x)
-    (record { answer = Step; lane = t; block = b; control = Busy v; to = to; message = bare_down (order_of o.command) (block_of o.word) })
+    (record { answer = Ok Step; lane = t; block = b; control = Busy v; to = to; message = bare_message (order_of o.command) (block_of o.word) })
 
 -- 12 is left to the place where the message is sent
-abbrev pub serve_ready : Ready → Store → LaneNo → Outcome
-serve_ready (No r) s k = refuse r s
-serve_ready (Go o) s k =
+abbrev pub serve_ready : Result Operation Refusal → Store → LaneNo → Outcome
+serve_ready (Err r) s k = refuse r s
+serve_ready (Ok o) s k =
     commit_move s k (block_of o.word) (serve_move k o (lane_at s k.0) (block_at s (block_of o.word).0) s.control)
 
 -- 14, 6, 9, 10, 11, 12
@@ -76,7 +75,7 @@ serve_of s k = guarded s k (serve_ready (ready_of (lane_at s k.0) s.control) s k
 
 -- memory's part where nothing is sent: lane, block and control after it
 abbrev pub send_nothing : Lane → Block → Control → Move
-send_nothing l b x = record { answer = Step; lane = l; block = b; control = x; to = nobody; message = no_message }
+send_nothing l b x = record { answer = Ok Step; lane = l; block = b; control = x; to = nobody; message = no_message }
 
 -- Each answer lowers the awaited count, and at 0 the service closes; 16 for an answer that is not awaited. l and b are lane and block
 -- before the message is taken, t and u after it
@@ -88,7 +87,7 @@ counted_move (Closes v y) l b x t u = close v t u y
 -- Memory takes the head of k's return queue
 unfoldable pub return_move : LaneNo → ReturnMessage → Lane → Block → Control → Move
 return_move k x l b y =
-    let t = with_returns (take_return l.returns).queue l in
+    let t = with_returns (after_take l.returns) l in
     let u = taken_by x.kind x.words k b in
     cond (is_answer x.kind) (counted_move (answer_of y x.block) l b y t u) (send_nothing t u y)
 

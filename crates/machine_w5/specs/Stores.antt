@@ -1,6 +1,6 @@
 -- The store before W6: queues of two places, a control with at most one service; its opening, and when it is quiet. Lanes and blocks are the
 -- declared ones: an array of a queue is a list there. Assumes nothing.
-use Rattle.std.specs.Prelude.{ℕ, Bool, false, not, cond, List, [], ◌∷◌, get_or, set, replicate}
+use Rattle.std.specs.Prelude.{ℕ, Bool, false, not, cond, List, [], ◌∷◌, get_or, set, replicate, Result, Ok, Err}
 use Rattle.words.specs.declared.Shape.{Shape}
 use Rattle.words.specs.Units.{shaped, zeros}
 use Rattle.words.specs.Folds.{any_to}
@@ -9,13 +9,14 @@ use Rattle.queues.specs.declared.DownKind.TheVariants.{Update}
 use Rattle.lanes.specs.declared.Lane.{Lane}
 use Rattle.lanes.specs.declared.Waiting.TheVariants.{Idle}
 use Rattle.answers.specs.declared.Answer.{Answer}
-use Rattle.answers.specs.declared.Answer.TheVariants.{Opened, Refused}
+use Rattle.answers.specs.declared.Answer.TheVariants.{Opened}
 use Rattle.answers.specs.declared.Refusal.TheVariants.{InvalidShape}
 use Rattle.store.specs.declared.Block.{Block}
 use Rattle.store.specs.Stores.{no_lane, no_block}
 use Rattle.store.specs.Opening.{bad_shape, blank_line, line, blank_block}
 use Rattle.store.specs.Quiet.{active_of}
 use Rattle.machine_w5.specs.Control.{Control, Free, busy_of}
+use Rattle.answers.specs.declared.Refusal.{Refusal}
 
 -- the places of a queue
 abbrev pub capacity : ℕ
@@ -31,7 +32,7 @@ pub record Store : Type 0 where
 
 -- an answer, and the store after it
 pub record Outcome : Type 0 where
-  pub answer : Answer
+  pub answer : Result Answer Refusal
   pub store : Store
 
 -- lane k of a store, block a of its main memory
@@ -82,8 +83,8 @@ blank_store = fresh_of (shaped 0 0 0)
 -- opening: 5 where n, c or m is outside its range, with the blank store
 unfoldable pub open_of : Shape → Outcome
 open_of shape =
-    cond (bad_shape shape) (record { answer = Refused InvalidShape; store = blank_store })
-    (record { answer = Opened; store = fresh_of shape })
+    cond (bad_shape shape) (record { answer = Err InvalidShape; store = blank_store })
+    (record { answer = Ok Opened; store = fresh_of shape })
 
 -- no operation waits, no service, queues empty
 unfoldable pub quiet_of : Store → Bool

@@ -7,7 +7,7 @@ use Rattle.words.specs.Units.{zeros, shaped, limited}
 use Rattle.queues.specs.declared.ReturnKind.TheVariants.{Eject}
 use Rattle.queues.specs.declared.DownKind.TheVariants.{Purge}
 use Rattle.queues.specs.Queues.{capacity}
-use Rattle.queues.specs.Messages.{bare_return, bare_down}
+use Rattle.queues.specs.Messages.{bare_message}
 use Rattle.lanes.specs.declared.Command.TheVariants.{ReadExclusive}
 use Rattle.lanes.specs.declared.Lane.{Lane}
 use Rattle.lanes.specs.declared.Waiting.TheVariants.{Unserved}
@@ -43,10 +43,10 @@ block a = record { 0 = a }
 
 -- a lane with so many messages in its return queue, or in its down queue: EJECT, or PURGE, of block 0 in each of its places
 abbrev pub returning : ℕ → ℕ → Lane → Lane
-returning places len l = with_returns (record { len = len; at = replicate places (bare_return Eject (block 0)) }) l
+returning places len l = with_returns (record { len = len; at = replicate places (bare_message Eject (block 0)) }) l
 
 abbrev pub ordering : ℕ → ℕ → Lane → Lane
-ordering places len l = with_downs (record { len = len; at = replicate places (bare_down Purge (block 0)) }) l
+ordering places len l = with_downs (record { len = len; at = replicate places (bare_message Purge (block 0)) }) l
 
 -- a lane that has a copy of block 0; one that waits for word 0
 abbrev pub holding : Lane → Lane

@@ -1,5 +1,5 @@
 -- A tape before W6: its kinds are 00 to 07. Bodies, and what is printed of an answer, are today's. Assumes nothing.
-use Rattle.std.specs.Prelude.{ℕ, zero, suc, ◌+◌, ◌-◌, Bool, not, cond, List, [], ◌∷◌, ◌++◌, ltb, eqb, length, drop}
+use Rattle.std.specs.Prelude.{ℕ, zero, suc, ◌+◌, ◌-◌, Bool, not, cond, List, [], ◌∷◌, ◌++◌, ltb, eqb, length, drop, Result, Ok}
 use Rattle.words.specs.declared.Shape.{Shape}
 use Rattle.tape_records.specs.declared.Kind.{Kind}
 use Rattle.tape_records.specs.declared.Record.{Record}
@@ -14,6 +14,7 @@ use Rattle.machine.specs.Machine.Text.{refused_text, lines_text, end_text, tape_
 use Rattle.machine_w5.specs.Stores.{Store, Outcome, fresh_of, blank_store}
 use Rattle.machine_w5.specs.Change.{refuse}
 use Rattle.machine_w5.specs.Steps.{begin_of, serve_of, return_of, deliver_of}
+use Rattle.answers.specs.declared.Refusal.{Refusal}
 
 -- Kinds: 00 open; 01 load; 02 store, 03 exchange, 04 add; 05 serve, 06 return, 07 deliver
 abbrev pub kind_of : ℕ → Kind
@@ -45,7 +46,7 @@ unfoldable pub open_record : Store → Shape → Outcome
 open_record s shape =
     cond (is_open s) (refuse AlreadyOpen s)
     (cond (bad_shape shape) (refuse InvalidShape s)
-    (record { answer = Opened; store = fresh_of shape }))
+    (record { answer = Ok Opened; store = fresh_of shape }))
 
 -- kinds 01 to 07: 3 before an open that wasn't refused, then the call
 abbrev pub when_open : Store → Outcome → Outcome
@@ -62,7 +63,7 @@ record_of s (Record.Return k) = when_open s (return_of s k)
 record_of s (Record.Deliver k) = when_open s (deliver_of LoadsOldest s k)
 
 -- the answers to a tape's records one after the other, here at most the given number of them; one store serves all of them
-unfoldable pub replay_from : ℕ → Store → List ℕ → List Answer
+unfoldable pub replay_from : ℕ → Store → List ℕ → List (Result Answer Refusal)
 replay_from zero s tape = []
 replay_from (suc more) s tape =
     let p = parse_of tape in
@@ -71,7 +72,7 @@ replay_from (suc more) s tape =
     cond (eqb (length tape) 0) [] (r.answer ∷ rest)
 
 -- a whole tape, from the blank store; a record takes a byte or more, so its length is number enough
-unfoldable pub replay_of : List ℕ → List Answer
+unfoldable pub replay_of : List ℕ → List (Result Answer Refusal)
 replay_of tape = replay_from (length tape) blank_store tape
 
 -- A tape over 65,536 bytes prints only `refused 13`

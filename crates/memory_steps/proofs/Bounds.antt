@@ -19,17 +19,17 @@ use Rattle.store.specs.declared.Control.{Control}
 use Rattle.store.specs.Control.{busy_for}
 use Rattle.store.specs.Stores.{lane_at}
 use Rattle.store.proofs.Services.{found}
-use Rattle.machine.specs.declared.Ready.TheVariants.{Go, No}
 use Rattle.machine.specs.Machine.Corruption.{corrupt_of}
 use Rattle.machine.specs.Machine.Serve.{ready_with, ready_of}
 use Rattle.memory_return.specs.Bounds.{LaneBelow}
 use Rattle.machine.proofs.Bounds.Sound.{ControlSound, service_sound, sound}
+use Rattle.std.specs.Prelude.{Ok, Err}
 
-no_go : {r : Refusal} {o : Operation} → No r ≡ Go o → ⊥
+no_go : {r : Refusal} {o : Operation} → Err r ≡ Ok o → ⊥
 no_go e = let z : ◌≡◌ {A = ℕ} 0 1 = cc in omega arith
 
 -- an operation that is ready is the lane's unserved one
-ready_waits : (l : Lane) (limit : ℕ) (x : Control) (w : Waiting) (o : Operation) → ready_with w l limit x ≡ Go o → w ≡ Unserved o
+ready_waits : (l : Lane) (limit : ℕ) (x : Control) (w : Waiting) (o : Operation) → ready_with w l limit x ≡ Ok o → w ≡ Unserved o
 ready_waits l limit x Idle o e = absurd (no_go e)
 ready_waits l limit x (Served p) o e = absurd (no_go e)
 ready_waits l limit x (Unserved p) o e =
@@ -41,7 +41,7 @@ below_eight : (n m limit : ℕ) (x : Control) → n ≤ 8 → ControlSound n m l
 below_eight n m limit x h g a v e = let l = (service_sound n m limit x a v g (found x a v e)).lane in omega arith
 
 module _ (s : Store) (k : LaneNo) (e : corrupt_of s ≡ false) (h : k.0 < s.shape.n) where
-  pub ready_bound : (o : Operation) → ready_of (lane_at s k.0) s.shape.limit s.control ≡ Go o → (block_of o.word).0 < 64
+  pub ready_bound : (o : Operation) → ready_of (lane_at s k.0) s.shape.limit s.control ≡ Ok o → (block_of o.word).0 < 64
   unfolding ready_of
   ready_bound o r =
       let g = sound s e in

@@ -1,5 +1,5 @@
 -- 01, "Parts of a store": opening gives words and block numbers 0, flags reset, queues empty, no waiting operation and no service. Assumes nothing.
-use Rattle.std.specs.Prelude.{ℕ, Bool, false, cond, [], ◌∷◌, ltb, replicate}
+use Rattle.std.specs.Prelude.{ℕ, Bool, false, cond, [], ◌∷◌, ltb, replicate, Ok, Err}
 use Rattle.words.specs.declared.Line.{Line}
 use Rattle.words.specs.declared.LineNo.{LineNo}
 use Rattle.words.specs.declared.Shape.{Shape}
@@ -10,7 +10,7 @@ use Rattle.queues.specs.declared.DownKind.TheVariants.{Update}
 use Rattle.queues.specs.Queues.{capacity}
 use Rattle.lanes.specs.declared.Lane.{Lane}
 use Rattle.lanes.specs.declared.Waiting.TheVariants.{Idle}
-use Rattle.answers.specs.declared.Answer.TheVariants.{Opened, Refused}
+use Rattle.answers.specs.declared.Answer.TheVariants.{Opened}
 use Rattle.answers.specs.declared.Refusal.TheVariants.{InvalidShape, InvalidLimit}
 use Rattle.store.specs.declared.Store.{Store}
 use Rattle.store.specs.declared.Block.{Block}
@@ -64,6 +64,6 @@ blank_store = fresh_of (limited 0 0 0 0)
 -- opening: 5 where n, c or m is outside its range, then 18 where L is, each with the blank store
 unfoldable pub open_of : Shape → Outcome
 open_of shape =
-    cond (bad_shape shape) (record { answer = Refused InvalidShape; store = blank_store })
-    (cond (bad_limit shape) (record { answer = Refused InvalidLimit; store = blank_store })
-    (record { answer = Opened; store = fresh_of shape }))
+    cond (bad_shape shape) (record { answer = Err InvalidShape; store = blank_store })
+    (cond (bad_limit shape) (record { answer = Err InvalidLimit; store = blank_store })
+    (record { answer = Ok Opened; store = fresh_of shape }))

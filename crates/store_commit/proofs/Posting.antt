@@ -9,7 +9,7 @@ use mathlib.Core.List.{List}
 use lib.ListN.{get_or, set}
 use Rattle.words.specs.Folds.{up_to, any_to}
 use Rattle.words.proofs.Folds.{below?, up_to_none, up_to_more, any_none, any_more, any_true, any_false, any_never}
-use Rattle.queues.specs.declared.DownMessage.{DownMessage}
+use Rattle.queues.specs.Messages.{DownMessage}
 use Rattle.queues.specs.Queues.{capacity, full_at}
 use Rattle.lanes.specs.declared.Lane.{Lane}
 use Rattle.store.specs.declared.Store.{Store}

@@ -9,14 +9,12 @@ use lib.ListN.{length, set, replicate, length-append}
 use lib.Seq.{set-append_seam}
 use Rattle.lanes.specs.UseOrder.{LoadsOldest}
 use Rattle.answers.specs.declared.Answer.{Answer}
-use Rattle.answers.specs.declared.Answer.TheVariants.{Opened, Done, Wait, Step, Refused}
+use Rattle.answers.specs.declared.Answer.TheVariants.{Opened, Done, Wait, Step}
 use Rattle.answers.specs.declared.Completion.{Completion}
 use Rattle.answers.specs.Completions.{completion_of, done_in}
 use Rattle.answers.specs.Refusals.{refused_of}
 use Rattle.store.specs.declared.Store.{Store}
 use Rattle.store.specs.Quiet.{quiet_of}
-use Rattle.machine.specs.declared.Settled.{Settled}
-use Rattle.machine.specs.declared.Settled.TheVariants.{Steps}
 use Rattle.machine.specs.Machine.Corruption.{corrupt_of}
 use Rattle.machine.specs.Claims.Potential.{potential_of}
 use Rattle.machine.specs.Machine.Settle.{settle_step, orders_queued, bound_of, Progress, ended, advance, repeat_step, Settlement, refuse_settle, reached, unless_refused, settle_of}
@@ -27,6 +25,9 @@ use Rattle.machine.proofs.Settle.FallsSettle.{advance_onward, repeat_ended, repe
 use Rattle.store_settle.specs.declared.Completions.{Completions}
 use Rattle.store_settle.specs.declared.SettleOutcome.{SettleOutcome}
 use Rattle.store_settle.specs.Settles.{padded, array_of, outcome_of, Counted, listed_of, refusal_of}
+use Rattle.std.specs.Prelude.{Result, Ok, Err}
+use Rattle.answers.specs.declared.Refusal.{Refusal}
+use Rattle.machine.specs.declared.SettleCounts.{SettleCounts}
 
 -- ---- the completions in their array
 -- the first element that is not used takes one completion more
@@ -39,34 +40,34 @@ padded_more cs x h =
     ap (λ n. set (cs ++ replicate n z) (length cs) x) e ∙ (set-append_seam cs z rest x ∙ sym (append_assoc cs (x ∷ []) rest))
 
 -- the completion of an answer goes behind the others, if there is room for it
-list_adds : (cs : List Completion) (a : Answer) → length (done_in a) + length cs ≤ 8 → listed_of (array_of cs) a ≡ array_of (cs ++ done_in a)
-list_adds cs Opened h = ap array_of (sym (append-nil cs))
-list_adds cs (Done x) h = rw (padded_more cs x (omega arith), length-append cs (x ∷ []))
-list_adds cs Wait h = ap array_of (sym (append-nil cs))
-list_adds cs Step h = ap array_of (sym (append-nil cs))
-list_adds cs (Refused r) h = ap array_of (sym (append-nil cs))
+list_adds : (cs : List Completion) (a : Result Answer Refusal) → length (done_in a) + length cs ≤ 8 → listed_of (array_of cs) a ≡ array_of (cs ++ done_in a)
+list_adds cs (Ok Opened) h = ap array_of (sym (append-nil cs))
+list_adds cs (Ok (Done x)) h = rw (padded_more cs x (omega arith), length-append cs (x ∷ []))
+list_adds cs (Ok Wait) h = ap array_of (sym (append-nil cs))
+list_adds cs (Ok Step) h = ap array_of (sym (append-nil cs))
+list_adds cs (Err r) h = ap array_of (sym (append-nil cs))
 
 -- ---- where settle ends
-passes : (a : Answer) (s : Store) (r : Settlement) → refused_of a ≡ false → unless_refused a s r ≡ r
-passes Opened s r e = refl
-passes (Done x) s r e = refl
-passes Wait s r e = refl
-passes Step s r e = refl
-passes (Refused x) s r e = absurd (true≢false e)
+passes : (a : Result Answer Refusal) (s : Store) (r : Settlement) → refused_of a ≡ false → unless_refused a s r ≡ r
+passes (Ok Opened) s r e = refl
+passes (Ok (Done x)) s r e = refl
+passes (Ok Wait) s r e = refl
+passes (Ok Step) s r e = refl
+passes (Err x) s r e = absurd (true≢false e)
 
-fails : (a : Answer) (s : Store) (r : Settlement) → refused_of a ≡ true → unless_refused a s r ≡ refuse_settle (refusal_of a) s
-fails Opened s r e = absurd (true≢false (sym e))
-fails (Done x) s r e = absurd (true≢false (sym e))
-fails Wait s r e = absurd (true≢false (sym e))
-fails Step s r e = absurd (true≢false (sym e))
-fails (Refused x) s r e = refl
+fails : (a : Result Answer Refusal) (s : Store) (r : Settlement) → refused_of a ≡ true → unless_refused a s r ≡ refuse_settle (refusal_of a) s
+fails (Ok Opened) s r e = absurd (true≢false (sym e))
+fails (Ok (Done x)) s r e = absurd (true≢false (sym e))
+fails (Ok Wait) s r e = absurd (true≢false (sym e))
+fails (Ok Step) s r e = absurd (true≢false (sym e))
+fails (Err x) s r e = refl
 
 -- what settle gives of the store before it and the progress that it ends with
 abbrev ends_with : Store → Progress → Settlement
 ends_with s p = unless_refused p.answer s (reached s p)
 
 -- the progress after some steps
-abbrev after : ℕ → ℕ → List Completion → Answer → Store → Progress
+abbrev after : ℕ → ℕ → List Completion → Result Answer Refusal → Store → Progress
 after count orders cs a s = record { count = count; orders = orders; completions = cs; answer = a; store = s }
 
 -- count steps have led from the first store to s with the completions d and queued so many orders; none was refused, and what is left of the
@@ -79,7 +80,7 @@ pub record Going (first s : Store) (d : Completions) (count orders : ℕ) : Type
   pub completed : List Completion
   pub listed : d ≡ array_of completed
   pub fits : length completed + waiting_in s ≤ 8
-  pub answer : Answer
+  pub answer : Result Answer Refusal
   pub passed : refused_of answer ≡ false
   pub same : settle_of LoadsOldest first ≡ ends_with first (repeat_step LoadsOldest (suc (bound_of first - count)) (after count orders completed answer s))
 
@@ -88,11 +89,11 @@ unfolding settle_of
 going_start s e g =
     let w = waiting_most s e in
     let z : bound_of s - 0 ≡ bound_of s = omega arith in
-    record { sound = e; sized = g; bounded = omega arith; exact = omega arith; completed = []; listed = refl; fits = omega arith; answer = Step; passed = refl; same = rw (e, z) }
+    record { sound = e; sized = g; bounded = omega arith; exact = omega arith; completed = []; listed = refl; fits = omega arith; answer = Ok Step; passed = refl; same = rw (e, z) }
 
 -- what a settle of so many steps and orders answers
-abbrev pub steps_of : ℕ → ℕ → Settled
-steps_of count orders = Steps (record { steps = count; orders = orders })
+abbrev pub steps_of : ℕ → ℕ → Result SettleCounts Refusal
+steps_of count orders = Ok (record { steps = count; orders = orders })
 
 module _ (first s : Store) (d : Completions) (count orders : ℕ) (g : Going first s d count orders) where
   -- the store is quiet

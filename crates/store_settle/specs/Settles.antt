@@ -1,17 +1,16 @@
 -- How settle's code gives what 01 says of it, and what its parts compute. Assumes nothing.
-use Rattle.std.specs.Prelude.{◌+◌, ◌-◌, ◌≤◌, ◌≡◌, List, ◌++◌, length, set, replicate}
+use Rattle.std.specs.Prelude.{◌+◌, ◌-◌, ◌≤◌, ◌≡◌, List, ◌++◌, length, set, replicate, Result, Ok, Err}
 use Rattle.answers.specs.declared.Answer.{Answer}
 use Rattle.answers.specs.declared.Answer.TheVariants.{Opened, Done, Wait, Step}
 use Rattle.answers.specs.declared.Completion.{Completion}
 use Rattle.answers.specs.declared.Refusal.{Refusal}
 use Rattle.answers.specs.declared.Refusal.TheVariants.{Unexpected}
 use Rattle.answers.specs.Completions.{completion_of}
-use Rattle.machine.specs.declared.Settled.{Settled}
-use Rattle.machine.specs.declared.Settled.TheVariants.{Steps}
 use Rattle.store.specs.declared.Store.{Store}
 use Rattle.machine.specs.Machine.Settle.{bound_of, exact_of, Settlement}
 use Rattle.store_settle.specs.declared.Completions.{Completions}
 use Rattle.store_settle.specs.declared.SettleOutcome.{SettleOutcome}
+use Rattle.machine.specs.declared.SettleCounts.{SettleCounts}
 
 -- the array of 8 completions: the completions in order, then that of lane 0 with value 0 and place 0 where there is none
 abbrev pub padded : List Completion → List Completion
@@ -26,22 +25,22 @@ abbrev pub outcome_of : Settlement → SettleOutcome
 outcome_of r = record { answer = r.answer; completions = array_of r.completions; store = r.store }
 
 -- the count of steps is exact, so at most the bound, both of the store before; a refusal has none
-abbrev pub Counted : Store → Settled → Type 0
-Counted s (Steps counts) = (counts.steps ≡ exact_of s counts.orders) × (counts.steps ≤ bound_of s)
-Counted s (Settled.Refused r) = Unit {0}
+abbrev pub Counted : Store → Result SettleCounts Refusal → Type 0
+Counted s (Ok counts) = (counts.steps ≡ exact_of s counts.orders) × (counts.steps ≤ bound_of s)
+Counted s (Err r) = Unit {0}
 
 -- the completion of an answer, if it has one, behind the others
-abbrev pub listed_of : Completions → Answer → Completions
-listed_of d Opened = d
-listed_of d (Done x) = record { len = d.len + 1; at = set d.at d.len x }
-listed_of d Wait = d
-listed_of d Step = d
-listed_of d (Answer.Refused r) = d
+abbrev pub listed_of : Completions → Result Answer Refusal → Completions
+listed_of d (Ok Opened) = d
+listed_of d (Ok (Done x)) = record { len = d.len + 1; at = set d.at d.len x }
+listed_of d (Ok Wait) = d
+listed_of d (Ok Step) = d
+listed_of d (Err r) = d
 
 -- why an answer is a refusal
-abbrev pub refusal_of : Answer → Refusal
-refusal_of Opened = Unexpected
-refusal_of (Done x) = Unexpected
-refusal_of Wait = Unexpected
-refusal_of Step = Unexpected
-refusal_of (Answer.Refused r) = r
+abbrev pub refusal_of : Result Answer Refusal → Refusal
+refusal_of (Ok Opened) = Unexpected
+refusal_of (Ok (Done x)) = Unexpected
+refusal_of (Ok Wait) = Unexpected
+refusal_of (Ok Step) = Unexpected
+refusal_of (Err r) = r

@@ -21,6 +21,8 @@ use Rattle.buffers.proofs.Writing.{written_then}
 use Rattle.tape_steps.proofs.Steady.{Tapes, blank_tapes, record_after}
 use Rattle.tape_records.proofs.Parsing.{Takes}
 use mathlib.Core.Logic.{inl, inr}
+use Rattle.std.specs.Prelude.{Result}
+use Rattle.answers.specs.declared.Refusal.{Refusal}
 
 -- one more record
 replay_more : (k : ℕ) (s : Store) (t : List ℕ) → (length t ≡ 0 → ⊥) →
@@ -29,14 +31,14 @@ unfolding replay_from
 replay_more k s t n = rw (ne_eqb (length t) 0 n)
 
 -- the lines from an index on, and `end`
-abbrev pub text_from : ℕ → List Answer → List ℕ
+abbrev pub text_from : ℕ → List (Result Answer Refusal) → List ℕ
 text_from index lines = lines_text index lines ++ end_text (index + length lines)
 
 text_none : (index : ℕ) → text_from index [] ≡ end_text index
 unfolding lines_text
 text_none index = let e : index + 0 ≡ index = omega arith in rw e
 
-text_more : (index : ℕ) (a : Answer) (lines : List Answer) → text_from index (a ∷ lines) ≡ line_text index a ++ text_from (index + 1) lines
+text_more : (index : ℕ) (a : Result Answer Refusal) (lines : List (Result Answer Refusal)) → text_from index (a ∷ lines) ≡ line_text index a ++ text_from (index + 1) lines
 unfolding lines_text
 text_more index a lines = let e : index + suc (length lines) ≡ suc index + length lines = omega arith in rw (e, add-one, append_assoc)
 
@@ -113,7 +115,7 @@ module _ (tape out : List ℕ) where
     pub next_inside : at + p.size ≤ length tape
     next_inside = let m = takes_most (drop at tape) p takes in omega (arith, length-drop at tape)
 
-    pub going_next : (left : ℕ) → Going left at z buf filled index → {a : Answer} {z' : Store} {buf' : List ℕ} {filled' : ℕ} →
+    pub going_next : (left : ℕ) → Going left at z buf filled index → {a : Result Answer Refusal} {z' : Store} {buf' : List ℕ} {filled' : ℕ} →
         (a ≡ (record_of z p.rec).answer) × (z' ≡ (record_of z p.rec).store) →
         (filled' ≡ filled + length (line_text index a)) × (buf' ≡ written buf filled (line_text index a)) → length buf' ≡ length buf →
         (left' : ℕ) × ((left' < left) × Going left' (at + p.size) z' buf' filled' (index + 1))

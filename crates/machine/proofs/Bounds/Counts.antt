@@ -13,7 +13,7 @@ use Rattle.words.specs.declared.BlockNo.{BlockNo}
 use Rattle.words.specs.declared.WordNo.{WordNo}
 use Rattle.words.specs.declared.Op.{Op}
 use Rattle.words.specs.Units.{block_of}
-use Rattle.queues.specs.declared.ReturnMessage.{ReturnMessage}
+use Rattle.queues.specs.Messages.{ReturnMessage}
 use Rattle.lanes.specs.declared.Lane.{Lane}
 use Rattle.lanes.specs.declared.Operation.{Operation}
 use Rattle.lanes.specs.UseOrder.{Insertion}
@@ -30,8 +30,8 @@ use Rattle.store.specs.Stores.{lane_at}
 use Rattle.machine.specs.Machine.Begun.{begun_in}
 use Rattle.machine.specs.declared.LaneAnswer.{LaneAnswer}
 use Rattle.machine.specs.declared.LaneAnswer.TheVariants.{Value, Waits, Stepped}
-use Rattle.machine.specs.declared.LaneStep.{LaneStep}
-use Rattle.machine.specs.declared.Move.{Move}
+use Rattle.machine.specs.Machine.Parts.{LaneStep}
+use Rattle.machine.specs.Machine.Parts.{Move}
 use Rattle.machine.specs.Machine.Corruption.{corrupt_of}
 use Rattle.machine.specs.Machine.Change.{refuse, commit_lane, commit_move}
 use Rattle.machine.specs.Machine.Begin.{begin_of}
@@ -46,6 +46,7 @@ use Rattle.machine.proofs.Bounds.KeepsBegun.{waits, LaneBegins, begin_lane_begin
 use Rattle.machine.proofs.Rules.Rules.{put_back, begin_rule, serve_rule, return_rule, deliver_rule, answer_goes, lane_rule, move_rule}
 use Rattle.machine.proofs.Rules.RulesMemory.{serve_move_rule, return_move_rule}
 use Rattle.machine.proofs.Rules.RulesSettle.{step_rule}
+use Rattle.std.specs.Prelude.{Result, Ok, Err}
 
 -- completions have the places behind those of the store s, in their order, and t counts them
 pub record Given (s : Store) (xs : List Completion) (t : Store) : Type 0 where
@@ -68,11 +69,11 @@ lane_counts : (s : Store) (k : LaneNo) (r : LaneStep) → Counts s (commit_lane 
 unfolding numbers_from
 lane_counts s k r = lane_rule (Counts s) s k r (λ x _. refused_counts s x) (λ _. go r.answer refl)
   where
-    go : (a : LaneAnswer) → r.answer ≡ a → Counts s (put_back s k r)
-    go (Value v) e = rw e (record { next = ap (λ (n : ℕ). n ∷ []) (add-one s.completions); counted = refl })
-    go Waits e = rw e (given_none s _ refl)
-    go Stepped e = rw e (given_none s _ refl)
-    go (LaneAnswer.Refused x) e = rw e (given_none s _ refl)
+    go : (a : Result LaneAnswer Refusal) → r.answer ≡ a → Counts s (put_back s k r)
+    go (Ok (Value v)) e = rw e (record { next = ap (λ (n : ℕ). n ∷ []) (add-one s.completions); counted = refl })
+    go (Ok Waits) e = rw e (given_none s _ refl)
+    go (Ok Stepped) e = rw e (given_none s _ refl)
+    go (Err x) e = rw e (given_none s _ refl)
 
 -- memory's part completes nothing
 move_counts : (s : Store) (k : LaneNo) (a : BlockNo) (v : Move) → done_in v.answer ≡ [] → Counts s (commit_move s k a v)

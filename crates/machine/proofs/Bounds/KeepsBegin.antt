@@ -17,19 +17,17 @@ use Rattle.words.specs.Lines.{no_line, invalid}
 use Rattle.words.specs.Units.{block_of}
 use Rattle.words.specs.Operations.{is_load}
 use Rattle.words.proofs.Folds.{by_cond}
-use Rattle.queues.specs.declared.ReturnMessage.{ReturnMessage}
+use Rattle.queues.specs.Messages.{ReturnMessage}
 use Rattle.queues.specs.Queues.{capacity, no_return}
 use Rattle.lanes.specs.declared.Lane.{Lane}
 use Rattle.lanes.specs.declared.Command.TheVariants.{Exclude}
-use Rattle.lanes.specs.declared.Found.{Found}
-use Rattle.lanes.specs.declared.Found.TheVariants.{At, Nothing}
 use Rattle.lanes.specs.Search.{line_at, first_from, search_of, vacant_of}
 use Rattle.lanes.specs.UseOrder.{place_at}
 use Rattle.lanes.specs.Lanes.{with_line}
 use Rattle.store.specs.declared.Store.{Store}
 use Rattle.store.specs.declared.Outcome.{Outcome}
 use Rattle.store.specs.Stores.{lane_at}
-use Rattle.machine.specs.declared.LaneStep.{LaneStep}
+use Rattle.machine.specs.Machine.Parts.{LaneStep}
 use Rattle.machine.specs.Machine.Begin.{complete, waits, hit, read_of, eject_of, evict, miss_with, miss, begin_at, begin_lane, begin_of}
 use Rattle.machine.proofs.Laws.Tests.{on}
 use Rattle.machine.proofs.Laws.Sets.{same?}
@@ -39,21 +37,22 @@ use Rattle.machine.proofs.Bounds.KeepsBegun.{begin_lane_begins}
 use Rattle.machine.proofs.Bounds.KeepsStore.{Fit, lane_fit, commit_lane_keeps}
 use Rattle.machine.proofs.Bounds.KeepsDeliver.{found_below}
 use Rattle.machine.proofs.Rules.Rules.{begin_rule}
+use Rattle.std.specs.Prelude.{Option, Some, None}
 
 -- no line passes the test, so line j does not
-pub first_nothing : (p : Line → Bool) (ls : List Line) (n k : ℕ) → first_from p ls n k ≡ Nothing → (j : ℕ) → k ≤ j → j < k + n → p (get_or ls j no_line) ≡ false
+pub first_nothing : (p : Line → Bool) (ls : List Line) (n k : ℕ) → first_from p ls n k ≡ None → (j : ℕ) → k ≤ j → j < k + n → p (get_or ls j no_line) ≡ false
 unfolding first_from
 first_nothing p ls zero k e j a b = absurd (omega arith)
 first_nothing p ls (suc n) k e j a b = go (p (get_or ls k no_line)) refl e (λ q. first_nothing p ls n (k + 1) q j) (same? j k)
   where
-    go : (t : Bool) → p (get_or ls k no_line) ≡ t → cond t (At (record { 0 = k })) (first_from p ls n (k + 1)) ≡ Nothing →
-        (first_from p ls n (k + 1) ≡ Nothing → k + 1 ≤ j → j < k + 1 + n → p (get_or ls j no_line) ≡ false) → (j ≡ k) ⊎ (j ≢ k) → p (get_or ls j no_line) ≡ false
+    go : (t : Bool) → p (get_or ls k no_line) ≡ t → cond t (Some (record { 0 = k })) (first_from p ls n (k + 1)) ≡ None →
+        (first_from p ls n (k + 1) ≡ None → k + 1 ≤ j → j < k + 1 + n → p (get_or ls j no_line) ≡ false) → (j ≡ k) ⊎ (j ≢ k) → p (get_or ls j no_line) ≡ false
     go true t q r s = clash (cc)
     go false t q r (inl s) = rw s t
     go false t q r (inr s) = r q (omega (arith, s)) (omega arith)
 
 -- with no vacant line each of the c lines is valid
-pub all_valid : (l : Lane) (c : ℕ) → vacant_of l c ≡ Nothing → (j : ℕ) → j < c → (get_or l.lines j no_line).valid ≡ true
+pub all_valid : (l : Lane) (c : ℕ) → vacant_of l c ≡ None → (j : ℕ) → j < c → (get_or l.lines j no_line).valid ≡ true
 all_valid l c e j h =
     not-false (get_or l.lines j no_line).valid (first_nothing (λ (x : Line). not x.valid) l.lines c 0 e j (omega arith) (omega arith))
 
@@ -78,16 +77,16 @@ module _ (h c m : ℕ) (c₀ : 1 ≤ c) (c₁ : c ≤ h) (z : 1 ≤ m) (op : Op)
       (join_keeps (λ (x : ReturnMessage). x.block.0) no_return m l.returns.len l.returns.at (eject_of (line_at l i)) (leb-false _ _ e) z y g.sound.returns) in
       with_unserved h c m _ q (record { command = read_of op; op = op; word = w }) b))
 
-  miss_keeps : (f : Found) → vacant_of l c ≡ f → LaneFit h c m (miss_with capacity f op w l).lane
-  miss_keeps (At i) e = with_unserved h c m l g (record { command = read_of op; op = op; word = w }) b
-  miss_keeps Nothing e =
+  miss_keeps : (f : Option LineNo) → vacant_of l c ≡ f → LaneFit h c m (miss_with capacity f op w l).lane
+  miss_keeps (Some i) e = with_unserved h c m l g (record { command = read_of op; op = op; word = w }) b
+  miss_keeps None e =
       let o = g.sound.order.named 0 c₀ in
       evict_keeps (place_at l.order 0) (g.sound.lines (place_at l.order 0).0 o (all_valid l c e (place_at l.order 0).0 o))
 
-  at_keeps : (f : Found) → search_of l c (block_of w) ≡ f → LaneFit h c m (begin_at capacity f c op w l).lane
+  at_keeps : (f : Option LineNo) → search_of l c (block_of w) ≡ f → LaneFit h c m (begin_at capacity f c op w l).lane
   unfolding miss
-  at_keeps (At i) e = hit_keeps i (found_below l c (block_of w) i e)
-  at_keeps Nothing e = miss_keeps (vacant_of l c) refl
+  at_keeps (Some i) e = hit_keeps i (found_below l c (block_of w) i e)
+  at_keeps None e = miss_keeps (vacant_of l c) refl
 
   -- the lane's part of begin
   pub begin_lane_keeps : LaneFit h c m (begin_lane capacity c op w l).lane

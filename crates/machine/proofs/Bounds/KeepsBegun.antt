@@ -19,18 +19,16 @@ use Rattle.words.specs.Units.{block_of}
 use Rattle.words.specs.Operations.{is_load}
 use Rattle.words.specs.Folds.{up_to, sum_to}
 use Rattle.words.proofs.Folds.{below?, by_cond, pick, or_left}
-use Rattle.queues.specs.declared.ReturnMessage.{ReturnMessage}
-use Rattle.queues.specs.declared.DownMessage.{DownMessage}
+use Rattle.queues.specs.Messages.{ReturnMessage}
+use Rattle.queues.specs.Messages.{DownMessage}
 use Rattle.queues.specs.declared.DownKind.{DownKind}
 use Rattle.queues.specs.declared.DownKind.TheVariants.{Update, Purge, Grant, BareGrant}
-use Rattle.queues.specs.Queues.{capacity, empty_at, head_down, take_down, push_return}
+use Rattle.queues.specs.Queues.{capacity, empty_at, head_down, after_take, after_push, full_at}
 use Rattle.lanes.specs.declared.Lane.{Lane}
 use Rattle.lanes.specs.declared.Operation.{Operation}
 use Rattle.lanes.specs.declared.Command.TheVariants.{Exclude}
 use Rattle.lanes.specs.declared.Waiting.{Waiting}
 use Rattle.lanes.specs.declared.Waiting.TheVariants.{Idle, Unserved, Served}
-use Rattle.lanes.specs.declared.Found.{Found}
-use Rattle.lanes.specs.declared.Found.TheVariants.{At, Nothing}
 use Rattle.lanes.specs.Search.{line_at, search_of, vacant_of}
 use Rattle.lanes.specs.UseOrder.{Insertion, place_at}
 use Rattle.lanes.specs.Waits.{idle_of}
@@ -45,10 +43,8 @@ use Rattle.store.specs.LaneSets.{goes_to}
 use Rattle.machine.specs.Machine.Begun.{waiting_in, begun_in}
 use Rattle.machine.specs.declared.LaneAnswer.{LaneAnswer}
 use Rattle.machine.specs.declared.LaneAnswer.TheVariants.{Value, Waits, Stepped}
-use Rattle.machine.specs.declared.LaneStep.{LaneStep}
-use Rattle.machine.specs.declared.Move.{Move}
-use Rattle.machine.specs.declared.Ready.{Ready}
-use Rattle.machine.specs.declared.Ready.TheVariants.{Go, No}
+use Rattle.machine.specs.Machine.Parts.{LaneStep}
+use Rattle.machine.specs.Machine.Parts.{Move}
 use Rattle.machine.specs.Machine.Change.{refuse_lane, refused_in, counted, lane_store, posted, post_to, post_all, moved_store}
 use Rattle.machine.specs.Machine.Begin.{complete_with, complete, hit, eject_of, evict, miss_with, miss, begin_at, begin_lane}
 use Rattle.machine.specs.Machine.Begin as begin
@@ -59,6 +55,7 @@ use Rattle.machine.proofs.Laws.Sets.{set_cases}
 use Rattle.machine.proofs.Laws.Sums.{sum_same, set_sum, sum_part, count_sum}
 use Rattle.machine.proofs.Rules.Rules.{Admitted}
 use Rattle.machine.proofs.Rules.RulesMemory.{serve_move_rule, return_move_rule}
+use Rattle.std.specs.Prelude.{Option, Some, None, Result, Ok, Err}
 
 -- 1 where the lane's operation waits
 abbrev pub waits : Lane → ℕ
@@ -68,17 +65,17 @@ waiting_waits : (l : Lane) (w : Waiting) → l.waiting ≡ w → waits l ≡ con
 waiting_waits l w e = ap (λ (x : Waiting). cond (not (idle_of x)) 1 0) e
 
 -- how many operations complete in a lane's part: so many more are counted
-abbrev pub completes : LaneAnswer → ℕ
-completes (Value v) = 1
-completes Waits = 0
-completes Stepped = 0
-completes (LaneAnswer.Refused x) = 0
+abbrev pub completes : Result LaneAnswer Refusal → ℕ
+completes (Ok (Value v)) = 1
+completes (Ok Waits) = 0
+completes (Ok Stepped) = 0
+completes (Err x) = 0
 
-counted_more : (a : LaneAnswer) (done : ℕ) → counted a done ≡ done + completes a
-counted_more (Value v) done = refl
-counted_more Waits done = sym (add-zero done)
-counted_more Stepped done = sym (add-zero done)
-counted_more (LaneAnswer.Refused x) done = sym (add-zero done)
+counted_more : (a : Result LaneAnswer Refusal) (done : ℕ) → counted a done ≡ done + completes a
+counted_more (Ok (Value v)) done = refl
+counted_more (Ok Waits) done = sym (add-zero done)
+counted_more (Ok Stepped) done = sym (add-zero done)
+counted_more (Err x) done = sym (add-zero done)
 
 -- a lane's part that isn't refused begins b operations: what completes in it and what waits after it are so many more than what waited before
 abbrev pub LaneBegins : ℕ → Lane → LaneStep → Type 0
@@ -108,16 +105,16 @@ module _ (c : ℕ) (op : Op) (w : WordNo) (l : Lane) (admits : Admitted c op w l
   evict_begins : l.waiting ≡ Idle → (i : LineNo) → LaneBegins 1 l (evict capacity i op w l)
   unfolding evict
   evict_begins idle i =
-      by_cond (LaneBegins 1 l) (push_return capacity l.returns (eject_of (line_at l i))).full (refuse_lane QueueFull l) _ (refused_begins 1 l QueueFull) (λ _. sym (begins_one idle))
+      by_cond (LaneBegins 1 l) (full_at capacity l.returns.len) (refuse_lane QueueFull l) _ (refused_begins 1 l QueueFull) (λ _. sym (begins_one idle))
 
-  miss_begins : l.waiting ≡ Idle → (f : Found) → LaneBegins 1 l (miss_with capacity f op w l)
-  miss_begins idle (At i) = λ _. sym (begins_one idle)
-  miss_begins idle Nothing = evict_begins idle (place_at l.order 0)
+  miss_begins : l.waiting ≡ Idle → (f : Option LineNo) → LaneBegins 1 l (miss_with capacity f op w l)
+  miss_begins idle (Some i) = λ _. sym (begins_one idle)
+  miss_begins idle None = evict_begins idle (place_at l.order 0)
 
-  at_begins : (f : Found) → search_of l c (block_of w) ≡ f → LaneBegins 1 l (begin_at capacity f c op w l)
+  at_begins : (f : Option LineNo) → search_of l c (block_of w) ≡ f → LaneBegins 1 l (begin_at capacity f c op w l)
   unfolding miss
-  at_begins (At i) e = hit_begins i
-  at_begins Nothing e = miss_begins (admits.miss e) (vacant_of l c)
+  at_begins (Some i) e = hit_begins i
+  at_begins None e = miss_begins (admits.miss e) (vacant_of l c)
 
   -- the lane's part of begin
   pub begin_lane_begins : LaneBegins 1 l (begin_lane capacity c op w l)
@@ -128,47 +125,47 @@ module _ (c : ℕ) (op : Op) (w : WordNo) (l : Lane) (admits : Admitted c op w l
 reply_begins : (y : ReturnMessage) (l t : Lane) → waits t ≡ waits l → LaneBegins 0 l (reply capacity y t)
 unfolding reply
 reply_begins y l t h =
-    by_cond (LaneBegins 0 l) (push_return capacity t.returns y).full (refuse_lane QueueFull t) _ (λ e. absurd (true≢false e)) (λ _. omega arith)
+    by_cond (LaneBegins 0 l) (full_at capacity t.returns.len) (refuse_lane QueueFull t) _ (λ e. absurd (true≢false e)) (λ _. omega arith)
 
 module _ (ins : Insertion) (c : ℕ) (l : Lane) where
-  update_begins : (a : BlockNo) (f : Found) → LaneBegins 0 l (update_at capacity f a l)
-  update_begins a (At i) = reply_begins _ l _ refl
-  update_begins a Nothing = reply_begins _ l l refl
+  update_begins : (a : BlockNo) (f : Option LineNo) → LaneBegins 0 l (update_at capacity f a l)
+  update_begins a (Some i) = reply_begins _ l _ refl
+  update_begins a None = reply_begins _ l l refl
 
-  purge_begins : (a : BlockNo) (f : Found) → LaneBegins 0 l (purge_at capacity f a l)
-  purge_begins a (At i) = reply_begins _ l _ refl
-  purge_begins a Nothing = reply_begins _ l l refl
+  purge_begins : (a : BlockNo) (f : Option LineNo) → LaneBegins 0 l (purge_at capacity f a l)
+  purge_begins a (Some i) = reply_begins _ l _ refl
+  purge_begins a None = reply_begins _ l l refl
 
   -- a grant is to the operation that the lane waits for
   module _ (o : Operation) (served : l.waiting ≡ Served o) where
     waited_one : waits l + 0 ≡ 1 + waits (waits_no_more l)
     waited_one = rw (waiting_waits l (Served o) served) refl
 
-    fill_begins : (x : DownMessage) (f : Found) → LaneBegins 0 l (fill_at ins f c x o l)
-    fill_begins x (At i) = complete_begins 0 _ i _ o.op o.word l (waits_no_more l) waited_one
-    fill_begins x Nothing = refused_begins 0 l Unexpected
+    fill_begins : (x : DownMessage) (f : Option LineNo) → LaneBegins 0 l (fill_at ins f c x o l)
+    fill_begins x (Some i) = complete_begins 0 _ i _ o.op o.word l (waits_no_more l) waited_one
+    fill_begins x None = refused_begins 0 l Unexpected
 
-    grant_begins : (x : DownMessage) (f : Found) → LaneBegins 0 l (grant_at ins f c x o l)
-    grant_begins x (At i) = refused_begins 0 l Unexpected
-    grant_begins x Nothing = fill_begins x (vacant_of l c)
+    grant_begins : (x : DownMessage) (f : Option LineNo) → LaneBegins 0 l (grant_at ins f c x o l)
+    grant_begins x (Some i) = refused_begins 0 l Unexpected
+    grant_begins x None = fill_begins x (vacant_of l c)
 
-    bare_begins : (f : Found) → LaneBegins 0 l (bare_at f c o l)
-    bare_begins (At i) = complete_begins 0 _ i _ o.op o.word l (waits_no_more l) waited_one
-    bare_begins Nothing = refused_begins 0 l Unexpected
+    bare_begins : (f : Option LineNo) → LaneBegins 0 l (bare_at f c o l)
+    bare_begins (Some i) = complete_begins 0 _ i _ o.op o.word l (waits_no_more l) waited_one
+    bare_begins None = refused_begins 0 l Unexpected
 
   -- .. or is refused
   grants_begin : (x : DownMessage) (w : Waiting) → l.waiting ≡ w → LaneBegins 0 l (grant_to ins (served_on w x.block) c x l)
   grants_begin x Idle e = refused_begins 0 l Unexpected
   grants_begin x (Unserved o) e = refused_begins 0 l Unexpected
   grants_begin x (Served o) e =
-      by_cond (λ (r : Ready). LaneBegins 0 l (grant_to ins r c x l)) (eqb (block_of o.word).0 x.block.0) (Go o) (No Unexpected)
+      by_cond (λ (r : Result Operation Refusal). LaneBegins 0 l (grant_to ins r c x l)) (eqb (block_of o.word).0 x.block.0) (Ok o) (Err Unexpected)
       (grant_begins o e x (search_of l c x.block)) (refused_begins 0 l Unexpected)
 
   bares_begin : (x : DownMessage) (w : Waiting) → l.waiting ≡ w → LaneBegins 0 l (bare_to (served_on w x.block) c x l)
   bares_begin x Idle e = refused_begins 0 l Unexpected
   bares_begin x (Unserved o) e = refused_begins 0 l Unexpected
   bares_begin x (Served o) e =
-      by_cond (λ (r : Ready). LaneBegins 0 l (bare_to r c x l)) (eqb (block_of o.word).0 x.block.0) (Go o) (No Unexpected)
+      by_cond (λ (r : Result Operation Refusal). LaneBegins 0 l (bare_to r c x l)) (eqb (block_of o.word).0 x.block.0) (Ok o) (Err Unexpected)
       (bare_begins o e (search_of l c x.block)) (refused_begins 0 l Unexpected)
 
   -- what a message does in a lane that has taken it
@@ -183,7 +180,7 @@ pub deliver_lane_begins : (ins : Insertion) (c : ℕ) (l : Lane) → LaneBegins 
 unfolding deliver_lane
 deliver_lane_begins ins c l =
     pick (LaneBegins 0 l) (empty_at l.downs.len) (refuse_lane NothingPending l) _ (λ _. refused_begins 0 l NothingPending)
-    (λ _ e. rw e (kind_begins ins c (with_downs (take_down l.downs).queue l) (head_down l.downs).kind (head_down l.downs) e))
+    (λ _ e. rw e (kind_begins ins c (with_downs (after_take l.downs) l) (head_down l.downs).kind (head_down l.downs) e))
 
 -- memory's part: the lane waits on
 pub serve_move_waits : (k : LaneNo) (o : Operation) (l : Lane) (b : Block) (x : Control) → l.waiting ≡ Unserved o → waits (serve_move k o l b x).lane ≡ waits l
@@ -226,11 +223,11 @@ lane_counted b s k r h t =
     let c = begun_sum s in
     omega arith
   where
-    few : (a : LaneAnswer) → (refused_in a ≡ false → completes a + waits r.lane ≡ waits (lane_at s k.0) + b) → completes a ≤ waits (lane_at s k.0) + b
-    few (Value v) g = let e = g refl in omega arith
-    few Waits g = omega arith
-    few Stepped g = omega arith
-    few (LaneAnswer.Refused x) g = omega arith
+    few : (a : Result LaneAnswer Refusal) → (refused_in a ≡ false → completes a + waits r.lane ≡ waits (lane_at s k.0) + b) → completes a ≤ waits (lane_at s k.0) + b
+    few (Ok (Value v)) g = let e = g refl in omega arith
+    few (Ok Waits) g = omega arith
+    few (Ok Stepped) g = omega arith
+    few (Err x) g = omega arith
 
 -- a lane whose use order has a place is there
 pub lane_there : (ls : List Lane) (k : ℕ) → 1 ≤ length (get_or ls k no_lane).order → k < length ls

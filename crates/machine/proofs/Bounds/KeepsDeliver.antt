@@ -9,17 +9,15 @@ use Rattle.words.specs.declared.BlockNo.{BlockNo}
 use Rattle.words.specs.declared.Line.{Line}
 use Rattle.words.specs.Lines.{holds_of, invalid, filled_line}
 use Rattle.words.proofs.Folds.{by_cond, pick}
-use Rattle.queues.specs.declared.ReturnMessage.{ReturnMessage}
+use Rattle.queues.specs.Messages.{ReturnMessage}
 use Rattle.queues.specs.declared.ReturnKind.TheVariants.{Updated, Gone}
-use Rattle.queues.specs.declared.DownMessage.{DownMessage}
+use Rattle.queues.specs.Messages.{DownMessage}
 use Rattle.queues.specs.declared.DownKind.{DownKind}
 use Rattle.queues.specs.declared.DownKind.TheVariants.{Update, Purge, Grant, BareGrant}
-use Rattle.queues.specs.Queues.{capacity, empty_at, head_down, take_down, no_down}
-use Rattle.queues.specs.Messages.{bare_return, words_return}
+use Rattle.queues.specs.Queues.{capacity, empty_at, head_down, after_take, no_down}
+use Rattle.queues.specs.Messages.{bare_message, words_message}
 use Rattle.lanes.specs.declared.Lane.{Lane}
 use Rattle.lanes.specs.declared.Operation.{Operation}
-use Rattle.lanes.specs.declared.Found.{Found}
-use Rattle.lanes.specs.declared.Found.TheVariants.{At, Nothing}
 use Rattle.lanes.specs.Search.{line_at, search_of, vacant_of}
 use Rattle.lanes.specs.UseOrder.{Insertion}
 use Rattle.lanes.specs.Lanes.{with_downs, with_line}
@@ -28,9 +26,7 @@ use Rattle.answers.specs.declared.Refusal.TheVariants.{NothingPending}
 use Rattle.store.specs.declared.Store.{Store}
 use Rattle.store.specs.declared.Outcome.{Outcome}
 use Rattle.store.specs.Stores.{lane_at}
-use Rattle.machine.specs.declared.LaneStep.{LaneStep}
-use Rattle.machine.specs.declared.Ready.{Ready}
-use Rattle.machine.specs.declared.Ready.TheVariants.{Go, No}
+use Rattle.machine.specs.Machine.Parts.{LaneStep}
 use Rattle.machine.specs.Machine.Change.{refuse_lane, refused_in}
 use Rattle.machine.specs.Machine.Deliver.{waits_no_more, shared, update_at, purged_of, purge_at, claimed, fill_at, grant_at, bare_at, served_on, grant_to, bare_to, deliver_kind, deliver_lane, deliver_of}
 use Rattle.machine.proofs.Laws.Orders.{used_kept, inserted_kept}
@@ -38,46 +34,48 @@ use Rattle.machine.proofs.Bounds.KeepsLane.{LaneFit, clash, with_line_lem, with_
 use Rattle.machine.proofs.Bounds.KeepsBegun.{deliver_lane_begins}
 use Rattle.machine.proofs.Bounds.KeepsStore.{Fit, lane_fit, commit_lane_keeps}
 use Rattle.machine.proofs.Rules.Rules.{deliver_rule}
+use Rattle.std.specs.Prelude.{Option, Some, None, Result, Ok, Err}
+use Rattle.answers.specs.declared.Refusal.{Refusal}
 
 -- the line that Search finds is one of the c lines
-pub found_below : (l : Lane) (c : ℕ) (a : BlockNo) (i : LineNo) → search_of l c a ≡ At i → i.0 < c
+pub found_below : (l : Lane) (c : ℕ) (a : BlockNo) (i : LineNo) → search_of l c a ≡ Some i → i.0 < c
 found_below l c a i e = let b = first_bound (λ (x : Line). holds_of x a) l.lines c 0 i e in omega arith
 
 module _ (ins : Insertion) (h c m : ℕ) (c₀ : 1 ≤ c) (c₁ : c ≤ h) (z : 1 ≤ m) (l : Lane) (g : LaneFit h c m l) where
-  update_keeps : (a : BlockNo) → a.0 < m → (f : Found) → search_of l c a ≡ f → LaneFit h c m (update_at capacity f a l).lane
-  update_keeps a b (At i) e =
+  update_keeps : (a : BlockNo) → a.0 < m → (f : Option LineNo) → search_of l c a ≡ f → LaneFit h c m (update_at capacity f a l).lane
+  update_keeps a b (Some i) e =
       reply_keeps h c m (with_line i (shared (line_at l i)) l)
       (with_line_lem h c m l g i (shared (line_at l i)) (g.sound.lines i.0 (found_below l c a i e)))
-      (words_return Updated a (line_at l i).words) z b
-  update_keeps a b Nothing e = reply_keeps h c m l g (bare_return Gone a) z b
+      (words_message Updated a (line_at l i).words) z b
+  update_keeps a b None e = reply_keeps h c m l g (bare_message Gone a) z b
 
-  purge_keeps : (a : BlockNo) → a.0 < m → (f : Found) → LaneFit h c m (purge_at capacity f a l).lane
-  purge_keeps a b (At i) =
+  purge_keeps : (a : BlockNo) → a.0 < m → (f : Option LineNo) → LaneFit h c m (purge_at capacity f a l).lane
+  purge_keeps a b (Some i) =
       reply_keeps h c m (with_line i (invalid (line_at l i)) l) (with_line_lem h c m l g i (invalid (line_at l i)) (λ e. clash (cc)))
       (purged_of a (line_at l i)) z (by_cond (λ (x : ReturnMessage). x.block.0 < m) (line_at l i).private _ _ b b)
-  purge_keeps a b Nothing = reply_keeps h c m l g (bare_return Gone a) z b
+  purge_keeps a b None = reply_keeps h c m l g (bare_message Gone a) z b
 
-  fill_keeps : (x : DownMessage) (o : Operation) → x.block.0 < m → (f : Found) → LaneFit h c m (fill_at ins f c x o l).lane
-  fill_keeps x o b (At i) =
+  fill_keeps : (x : DownMessage) (o : Operation) → x.block.0 < m → (f : Option LineNo) → LaneFit h c m (fill_at ins f c x o l).lane
+  fill_keeps x o b (Some i) =
       complete_keeps h c m (waits_no_more l) (with_idle h c m l g) _ i (claimed o.op (filled_line x.block x.words)) o.op o.word c₀ c₁ (λ _. b) (inserted_kept ins o.op c i l.order)
-  fill_keeps x o b Nothing = g
+  fill_keeps x o b None = g
 
-  grant_keeps : (x : DownMessage) (o : Operation) → x.block.0 < m → (f : Found) → LaneFit h c m (grant_at ins f c x o l).lane
-  grant_keeps x o b (At i) = g
-  grant_keeps x o b Nothing = fill_keeps x o b (vacant_of l c)
+  grant_keeps : (x : DownMessage) (o : Operation) → x.block.0 < m → (f : Option LineNo) → LaneFit h c m (grant_at ins f c x o l).lane
+  grant_keeps x o b (Some i) = g
+  grant_keeps x o b None = fill_keeps x o b (vacant_of l c)
 
-  bare_keeps : (o : Operation) (a : BlockNo) (f : Found) → search_of l c a ≡ f → LaneFit h c m (bare_at f c o l).lane
-  bare_keeps o a (At i) e =
+  bare_keeps : (o : Operation) (a : BlockNo) (f : Option LineNo) → search_of l c a ≡ f → LaneFit h c m (bare_at f c o l).lane
+  bare_keeps o a (Some i) e =
       complete_keeps h c m (waits_no_more l) (with_idle h c m l g) _ i (claimed o.op (line_at l i)) o.op o.word c₀ c₁ (g.sound.lines i.0 (found_below l c a i e)) (used_kept c i l.order)
-  bare_keeps o a Nothing e = g
+  bare_keeps o a None e = g
 
-  grants_keep : (x : DownMessage) → x.block.0 < m → (r : Ready) → LaneFit h c m (grant_to ins r c x l).lane
-  grants_keep x b (No n) = g
-  grants_keep x b (Go o) = grant_keeps x o b (search_of l c x.block)
+  grants_keep : (x : DownMessage) → x.block.0 < m → (r : Result Operation Refusal) → LaneFit h c m (grant_to ins r c x l).lane
+  grants_keep x b (Err n) = g
+  grants_keep x b (Ok o) = grant_keeps x o b (search_of l c x.block)
 
-  bares_keep : (x : DownMessage) (r : Ready) → LaneFit h c m (bare_to r c x l).lane
-  bares_keep x (No n) = g
-  bares_keep x (Go o) = bare_keeps o x.block (search_of l c x.block) refl
+  bares_keep : (x : DownMessage) (r : Result Operation Refusal) → LaneFit h c m (bare_to r c x l).lane
+  bares_keep x (Err n) = g
+  bares_keep x (Ok o) = bare_keeps o x.block (search_of l c x.block) refl
 
   -- what a message does in a lane that has taken it
   pub kind_keeps : (y : DownKind) (x : DownMessage) → x.block.0 < m → LaneFit h c m (deliver_kind capacity ins y c x l).lane
@@ -92,11 +90,11 @@ unfolding deliver_lane
 deliver_lane_keeps ins h c m l c₀ c₁ z g =
     pick (λ (r : LaneStep). LaneFit h c m r.lane) (empty_at l.downs.len) (refuse_lane NothingPending l) _ (λ _. g)
     (λ e. by_cond (LaneFit h c m) (refused_in took.answer) l took.lane g
-    (kind_keeps ins h c m c₀ c₁ z (with_downs (take_down l.downs).queue l) (taken_keeps h c m l g z) (head_down l.downs).kind (head_down l.downs)
+    (kind_keeps ins h c m c₀ c₁ z (with_downs (after_take l.downs) l) (taken_keeps h c m l g z) (head_down l.downs).kind (head_down l.downs)
     (head_inside m l.downs.len (λ i. (get_or l.downs.at i no_down).block.0) g.sound.downs e)))
   where
     took : LaneStep
-    took = deliver_kind capacity ins (head_down l.downs).kind c (head_down l.downs) (with_downs (take_down l.downs).queue l)
+    took = deliver_kind capacity ins (head_down l.downs).kind c (head_down l.downs) (with_downs (after_take l.downs) l)
 
 pub deliver_fit : (ins : Insertion) (h : ℕ) (s : Store) (k : LaneNo) → s.shape.c ≤ h → Fit h s → Fit h (deliver_of ins s k).store
 deliver_fit ins h s k b g =

@@ -16,11 +16,11 @@ use Rattle.words.specs.declared.Op.{Op}
 use Rattle.words.specs.Units.{block_of}
 use Rattle.words.specs.Lines.{no_line}
 use Rattle.words.specs.Operations.{perform_of}
-use Rattle.queues.specs.declared.ReturnMessage.{ReturnMessage}
-use Rattle.queues.specs.declared.ReturnQueue.{ReturnQueue}
-use Rattle.queues.specs.declared.DownMessage.{DownMessage}
-use Rattle.queues.specs.declared.DownQueue.{DownQueue}
-use Rattle.queues.specs.Queues.{capacity, shifted, no_return, no_down, take_return, take_down}
+use Rattle.queues.specs.Messages.{ReturnMessage}
+use Rattle.queues.specs.Queues.{ReturnQueue}
+use Rattle.queues.specs.Messages.{DownMessage}
+use Rattle.queues.specs.Queues.{DownQueue}
+use Rattle.queues.specs.Queues.{capacity, shifted, no_return, no_down, after_take}
 use Rattle.queues.proofs.Shifts.{shifted_cases}
 use Rattle.lanes.specs.declared.Lane.{Lane}
 use Rattle.lanes.specs.declared.Operation.{Operation}
@@ -131,13 +131,13 @@ module _ (h c m : ℕ) (l : Lane) (g : LaneFit h c m l) where
       (join_keeps (λ (y : DownMessage). y.block.0) no_down m l.downs.len l.downs.at x (leb-false _ _ e) z b g.sound.downs)))
 
   -- the head of a queue leaves it
-  pub returned_keeps : 1 ≤ m → LaneFit h c m (with_returns (take_return l.returns).queue l)
+  pub returned_keeps : 1 ≤ m → LaneFit h c m (with_returns (after_take l.returns) l)
   returned_keeps z =
       on (eqb l.returns.len 0) (λ e. rw e g)
       (λ e. rw e (with_returns_lem (record { len = l.returns.len - 1; at = shifted l.returns.at })
       (leave_keeps (λ (y : ReturnMessage). y.block.0) no_return m l.returns.len l.returns.at z g.sound.returns)))
 
-  pub taken_keeps : 1 ≤ m → LaneFit h c m (with_downs (take_down l.downs).queue l)
+  pub taken_keeps : 1 ≤ m → LaneFit h c m (with_downs (after_take l.downs) l)
   taken_keeps z =
       on (eqb l.downs.len 0) (λ e. rw e g)
       (λ e. rw e (with_downs_lem (record { len = l.downs.len - 1; at = shifted l.downs.at })

@@ -10,7 +10,7 @@ use Rattle.words.specs.declared.LaneNo.{LaneNo}
 use Rattle.words.specs.Units.{block_of}
 use Rattle.words.specs.Folds.{count_to}
 use Rattle.words.proofs.Folds.{by_cond}
-use Rattle.queues.specs.declared.DownMessage.{DownMessage}
+use Rattle.queues.specs.Messages.{DownMessage}
 use Rattle.lanes.specs.declared.Lane.{Lane}
 use Rattle.lanes.specs.declared.Operation.{Operation}
 use Rattle.lanes.specs.declared.Command.{Command}
@@ -21,9 +21,8 @@ use Rattle.store.specs.declared.Store.{Store}
 use Rattle.store.specs.declared.Block.{Block}
 use Rattle.store.specs.declared.Service.{Service}
 use Rattle.store.specs.declared.Control.{Control}
-use Rattle.store.specs.declared.Slot.{Slot}
 use Rattle.store.specs.Opening.{blank_control}
-use Rattle.store.specs.Control.{slot_at, slot_of, open_services, busy_for, free_slot, free, busy_with, with_slot, with_service, with_updated, without_service}
+use Rattle.store.specs.Control.{slot_at, slot_of, open_services, busy_for, free_slot, free, busy_with, with_slot, with_service, with_updated, without_service, is_busy, service_in}
 use Rattle.store.proofs.Services.{Found, Distinct, slot_is, count_most_written, opened_distinct, updated_count, updated_distinct, closed_count, closed_distinct, not_busy_for}
 use Rattle.store.specs.declared.Outcome.{Outcome}
 use Rattle.store.specs.Stores.{lane_at, block_at}
@@ -40,14 +39,14 @@ use Rattle.machine.proofs.Rules.Rules.{serve_rule}
 use Rattle.machine.proofs.Rules.RulesMemory.{serve_move_rule}
 
 -- the control after one slot was written stays within bounds
-written_sound : (n m limit i : ℕ) (y : Slot) (x : Control) → (y.busy ≡ true → ServiceSound n m y.service) → ControlSound n m limit x → Distinct (with_slot i y x) →
+written_sound : (n m limit i : ℕ) (y : Option Service) (x : Control) → (is_busy y ≡ true → ServiceSound n m (service_in y)) → ControlSound n m limit x → Distinct (with_slot i y x) →
     open_services (with_slot i y x) ≤ limit → ControlSound n m limit (with_slot i y x)
 written_sound n m limit i y x h g d c = record { services = λ j l b. go j l b (slot_is x i j y); distinct = d; most = c }
   where
-    go : (j : ℕ) → j < 8 → (slot_at (with_slot i y x) j).busy ≡ true → ((j ≡ i) × (slot_at (with_slot i y x) j ≡ y)) ⊎ (slot_at (with_slot i y x) j ≡ slot_at x j) →
-        ServiceSound n m (slot_at (with_slot i y x) j).service
-    go j l b (inl e) = rw e.1 (h (ap (λ (r : Slot). r.busy) (sym e.1) ∙ b))
-    go j l b (inr e) = rw e (g.services j l (ap (λ (r : Slot). r.busy) (sym e) ∙ b))
+    go : (j : ℕ) → j < 8 → is_busy (slot_at (with_slot i y x) j) ≡ true → ((j ≡ i) × (slot_at (with_slot i y x) j ≡ y)) ⊎ (slot_at (with_slot i y x) j ≡ slot_at x j) →
+        ServiceSound n m (service_in (slot_at (with_slot i y x) j))
+    go j l b (inl e) = rw e.1 (h (ap (λ (r : Option Service). is_busy r) (sym e.1) ∙ b))
+    go j l b (inr e) = rw e (g.services j l (ap (λ (r : Option Service). is_busy r) (sym e) ∙ b))
 
 module _ (n m limit : ℕ) (v : Service) (x : Control) (g : ControlSound n m limit x) where
   -- a service is opened
@@ -78,15 +77,15 @@ module _ (n m limit : ℕ) (v : Service) (x : Control) (g : ControlSound n m lim
 pub blank_sound : (n m limit : ℕ) → ControlSound n m limit blank_control
 unfolding open_services
 blank_sound n m limit =
-    let z = count_zero (λ i. (slot_at blank_control i).busy) 8 none in
+    let z = count_zero (λ i. is_busy (slot_at blank_control i)) 8 none in
     record {
       services = λ i h b. absurd (true≢false (sym b ∙ none i h));
       distinct = λ i j h _ b _. absurd (true≢false (sym b ∙ none i h));
       most = omega arith;
     }
   where
-    none : (i : ℕ) → i < 8 → (slot_at blank_control i).busy ≡ false
-    none i h = ap (λ (y : Slot). y.busy) (get_or-replicate 8 i free free h)
+    none : (i : ℕ) → i < 8 → is_busy (slot_at blank_control i) ≡ false
+    none i h = ap (λ (y : Option Service). is_busy y) (get_or-replicate 8 i free free h)
 
 -- nobody is no lane
 nobody_absent : (j : ℕ) → j < 8 → goes_to nobody j ≡ false

@@ -10,15 +10,15 @@ use Rattle.words.specs.declared.BlockNo.{BlockNo}
 use Rattle.words.specs.Folds.{up_to}
 use Rattle.words.proofs.Folds.{by_cond}
 use Rattle.queues.specs.Queues.{capacity}
-use Rattle.queues.specs.declared.DownMessage.{DownMessage}
+use Rattle.queues.specs.Messages.{DownMessage}
 use Rattle.lanes.specs.declared.Lane.{Lane}
 use Rattle.store.specs.declared.Store.{Store}
 use Rattle.store.specs.declared.Outcome.{Outcome}
 use Rattle.store.specs.Stores.{no_lane, no_block, lane_at}
 use Rattle.machine.specs.Machine.Begun.{begun_in, last_place}
 use Rattle.store.specs.LaneSets.{goes_to}
-use Rattle.machine.specs.declared.LaneStep.{LaneStep}
-use Rattle.machine.specs.declared.Move.{Move}
+use Rattle.machine.specs.Machine.Parts.{LaneStep}
+use Rattle.machine.specs.Machine.Parts.{Move}
 use Rattle.machine.specs.Machine.Change.{refused_in, lane_store, commit_lane, posted, post_to, post_all, commit_move}
 use Rattle.machine.proofs.Laws.Sets.{set_cases}
 use Rattle.machine.proofs.Bounds.Sound.{LaneSound, BlockSound, ControlSound, Sound}

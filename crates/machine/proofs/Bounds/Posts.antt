@@ -9,7 +9,7 @@ use lib.Seq.{get_or-set_same, get_or-set_other}
 use native.Mathlib.Omega.{arith}
 use Rattle.words.specs.Folds.{up_to}
 use Rattle.words.proofs.Folds.{by_cond}
-use Rattle.queues.specs.declared.DownMessage.{DownMessage}
+use Rattle.queues.specs.Messages.{DownMessage}
 use Rattle.lanes.specs.declared.Lane.{Lane}
 use Rattle.store.specs.Stores.{no_lane}
 use Rattle.store.specs.LaneSets.{goes_to}

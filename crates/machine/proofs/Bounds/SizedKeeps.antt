@@ -17,27 +17,21 @@ use Rattle.words.specs.Operations.{perform_of, is_load}
 use Rattle.words.specs.Folds.{up_to}
 use Rattle.words.specs.Lines.{invalid}
 use Rattle.words.proofs.Folds.{by_cond}
-use Rattle.queues.specs.declared.ReturnMessage.{ReturnMessage}
+use Rattle.queues.specs.Messages.{ReturnMessage}
 use Rattle.queues.specs.declared.ReturnKind.{ReturnKind}
 use Rattle.queues.specs.declared.ReturnKind.TheVariants.{Eject, WriteEject, Updated, Purged, PurgedWords, Gone}
-use Rattle.queues.specs.declared.ReturnQueue.{ReturnQueue}
-use Rattle.queues.specs.declared.ReturnPushed.{ReturnPushed}
-use Rattle.queues.specs.declared.ReturnTaken.{ReturnTaken}
-use Rattle.queues.specs.declared.DownMessage.{DownMessage}
+use Rattle.queues.specs.Queues.{ReturnQueue}
+use Rattle.queues.specs.Messages.{DownMessage}
 use Rattle.queues.specs.declared.DownKind.{DownKind}
 use Rattle.queues.specs.declared.DownKind.TheVariants.{Update, Purge, Grant, BareGrant}
-use Rattle.queues.specs.declared.DownQueue.{DownQueue}
-use Rattle.queues.specs.declared.DownPushed.{DownPushed}
-use Rattle.queues.specs.declared.DownTaken.{DownTaken}
-use Rattle.queues.specs.Queues.{capacity, full_at, empty_at, head_return, head_down, push_return, push_down, take_return, take_down}
+use Rattle.queues.specs.Queues.{DownQueue}
+use Rattle.queues.specs.Queues.{capacity, full_at, empty_at, head_return, head_down, after_push, after_take}
 use Rattle.lanes.specs.declared.Lane.{Lane}
 use Rattle.lanes.specs.declared.Operation.{Operation}
 use Rattle.lanes.specs.declared.Command.{Command}
 use Rattle.lanes.specs.declared.Command.TheVariants.{ReadShared, ReadExclusive, Exclude}
 use Rattle.lanes.specs.declared.Waiting.{Waiting}
 use Rattle.lanes.specs.declared.Waiting.TheVariants.{Idle, Served}
-use Rattle.lanes.specs.declared.Found.{Found}
-use Rattle.lanes.specs.declared.Found.TheVariants.{At, Nothing}
 use Rattle.lanes.specs.Search.{line_at, search_of, vacant_of}
 use Rattle.lanes.specs.UseOrder.{Insertion, place_at}
 use Rattle.lanes.specs.Lanes.{with_waiting, with_returns, with_downs, with_line}
@@ -45,17 +39,15 @@ use Rattle.answers.specs.declared.Refusal.TheVariants.{NothingPending}
 use Rattle.store.specs.declared.Store.{Store}
 use Rattle.store.specs.declared.Block.{Block}
 use Rattle.store.specs.declared.Control.{Control}
-use Rattle.store.specs.declared.Slot.{Slot}
+use Rattle.store.specs.declared.Service.{Service}
 use Rattle.store.specs.Control.{slot_count, free, slot_of, free_slot, with_slot, with_service, with_updated, without_service}
 use Rattle.queues.proofs.Shifts.{length_shifted}
 use Rattle.store.specs.declared.Outcome.{Outcome}
 use Rattle.store.specs.Opening.{blank_lane, blank_block, fresh_of}
 use Rattle.store.specs.Stores.{no_lane, no_block, lane_at, block_at}
 use Rattle.store.specs.LaneSets.{nobody, only, goes_to}
-use Rattle.machine.specs.declared.LaneStep.{LaneStep}
-use Rattle.machine.specs.declared.Ready.{Ready}
-use Rattle.machine.specs.declared.Ready.TheVariants.{Go, No}
-use Rattle.machine.specs.declared.Move.{Move}
+use Rattle.machine.specs.Machine.Parts.{LaneStep}
+use Rattle.machine.specs.Machine.Parts.{Move}
 use Rattle.machine.specs.Machine.Change.{refuse_lane, commit_lane, posted, post_to, post_all, commit_move, refused_in}
 use Rattle.machine.specs.Machine.Begin.{complete_with, complete, waits, hit, eject_of, evict, miss_with, miss, begin_at, begin_lane, begin_of}
 use Rattle.machine.specs.Machine.Serve.{closed_block, close, serve_move, serve_of}
@@ -69,23 +61,25 @@ use Rattle.machine.proofs.Bounds.Keeps.{Whole}
 use Rattle.machine.proofs.Rules.Rules.{lane_rule, move_rule, begin_rule, serve_rule, return_rule, deliver_rule}
 use Rattle.machine.proofs.Rules.RulesSettle.{step_rule}
 use Rattle.machine.proofs.Rules.RulesMemory.{return_move_rule, serve_move_rule}
+use Rattle.std.specs.Prelude.{Option, Some, None, Result, Ok, Err}
+use Rattle.answers.specs.declared.Refusal.{Refusal}
 
 -- a message joins a queue, or the head leaves it: its places stay 2
-push_return_sized : (q : ReturnQueue) (x : ReturnMessage) → length q.at ≡ capacity → length (push_return capacity q x).queue.at ≡ capacity
+push_return_sized : (q : ReturnQueue) (x : ReturnMessage) → length q.at ≡ capacity → length (after_push capacity q x).at ≡ capacity
 push_return_sized q x e =
-    by_cond (λ (r : ReturnPushed). length r.queue.at ≡ capacity) (full_at capacity q.len) _ _ e (length-set q.at q.len x ∙ e)
+    by_cond (λ (r : ReturnQueue). length r.at ≡ capacity) (full_at capacity q.len) _ _ e (length-set q.at q.len x ∙ e)
 
-push_down_sized : (q : DownQueue) (x : DownMessage) → length q.at ≡ capacity → length (push_down capacity q x).queue.at ≡ capacity
+push_down_sized : (q : DownQueue) (x : DownMessage) → length q.at ≡ capacity → length (after_push capacity q x).at ≡ capacity
 push_down_sized q x e =
-    by_cond (λ (r : DownPushed). length r.queue.at ≡ capacity) (full_at capacity q.len) _ _ e (length-set q.at q.len x ∙ e)
+    by_cond (λ (r : DownQueue). length r.at ≡ capacity) (full_at capacity q.len) _ _ e (length-set q.at q.len x ∙ e)
 
-take_return_sized : (q : ReturnQueue) → length q.at ≡ capacity → length (take_return q).queue.at ≡ capacity
+take_return_sized : (q : ReturnQueue) → length q.at ≡ capacity → length (after_take q).at ≡ capacity
 take_return_sized q e =
-    by_cond (λ (r : ReturnTaken). length r.queue.at ≡ capacity) (empty_at q.len) _ _ e (length_shifted q.at ∙ e)
+    by_cond (λ (r : ReturnQueue). length r.at ≡ capacity) (empty_at q.len) _ _ e (length_shifted q.at ∙ e)
 
-take_down_sized : (q : DownQueue) → length q.at ≡ capacity → length (take_down q).queue.at ≡ capacity
+take_down_sized : (q : DownQueue) → length q.at ≡ capacity → length (after_take q).at ≡ capacity
 take_down_sized q e =
-    by_cond (λ (r : DownTaken). length r.queue.at ≡ capacity) (empty_at q.len) _ _ e (length_shifted q.at ∙ e)
+    by_cond (λ (r : DownQueue). length r.at ≡ capacity) (empty_at q.len) _ _ e (length_shifted q.at ∙ e)
 
 module _ (l : Lane) (g : LaneSized l) where
   with_returns_sized : (q : ReturnQueue) → length q.at ≡ capacity → LaneSized (with_returns q l)
@@ -121,7 +115,7 @@ module _ (l : Lane) (g : LaneSized l) where
   evict_sized : (i : LineNo) (op : Op) (w : WordNo) → LaneSized (evict capacity i op w l).lane
   unfolding evict
   evict_sized i op w =
-      by_cond (λ (r : LaneStep). LaneSized r.lane) (push_return capacity l.returns (eject_of (line_at l i))).full _ _ g
+      by_cond (λ (r : LaneStep). LaneSized r.lane) (full_at capacity l.returns.len) _ _ g
       (record {
         lines = length-set l.lines i.0 (invalid (line_at l i)) ∙ g.lines;
         order = g.order;
@@ -129,14 +123,14 @@ module _ (l : Lane) (g : LaneSized l) where
         downs = g.downs;
       })
 
-  miss_sized : (op : Op) (w : WordNo) (f : Found) → LaneSized (miss_with capacity f op w l).lane
-  miss_sized op w (At i) = with_waiting_sized _
-  miss_sized op w Nothing = evict_sized (place_at l.order 0) op w
+  miss_sized : (op : Op) (w : WordNo) (f : Option LineNo) → LaneSized (miss_with capacity f op w l).lane
+  miss_sized op w (Some i) = with_waiting_sized _
+  miss_sized op w None = evict_sized (place_at l.order 0) op w
 
-  begin_at_sized : (c : ℕ) (op : Op) (w : WordNo) (f : Found) → LaneSized (begin_at capacity f c op w l).lane
+  begin_at_sized : (c : ℕ) (op : Op) (w : WordNo) (f : Option LineNo) → LaneSized (begin_at capacity f c op w l).lane
   unfolding miss
-  begin_at_sized c op w (At i) = hit_sized c i op w
-  begin_at_sized c op w Nothing = miss_sized op w (vacant_of l c)
+  begin_at_sized c op w (Some i) = hit_sized c i op w
+  begin_at_sized c op w None = miss_sized op w (vacant_of l c)
 
   -- the lane's part of begin
   pub begin_lane_sized : (c : ℕ) (op : Op) (w : WordNo) → LaneSized (begin_lane capacity c op w l).lane
@@ -145,42 +139,42 @@ module _ (l : Lane) (g : LaneSized l) where
 
   -- a message joins the down queue
   posted_sized : (x : DownMessage) → LaneSized (posted capacity x l)
-  posted_sized x = with_downs_sized (push_down capacity l.downs x).queue (push_down_sized l.downs x g.downs)
+  posted_sized x = with_downs_sized (after_push capacity l.downs x) (push_down_sized l.downs x g.downs)
 
   reply_sized : (x : ReturnMessage) → LaneSized (reply capacity x l).lane
   unfolding reply
   reply_sized x =
-      by_cond (λ (r : LaneStep). LaneSized r.lane) (push_return capacity l.returns x).full _ _ g
-      (with_returns_sized (push_return capacity l.returns x).queue (push_return_sized l.returns x g.returns))
+      by_cond (λ (r : LaneStep). LaneSized r.lane) (full_at capacity l.returns.len) _ _ g
+      (with_returns_sized (after_push capacity l.returns x) (push_return_sized l.returns x g.returns))
 
 module _ (ins : Insertion) (c : ℕ) (l : Lane) (g : LaneSized l) where
-  update_sized : (a : BlockNo) (f : Found) → LaneSized (update_at capacity f a l).lane
-  update_sized a (At i) = reply_sized (with_line i (shared (line_at l i)) l) (with_line_sized l g i (shared (line_at l i))) _
-  update_sized a Nothing = reply_sized l g _
+  update_sized : (a : BlockNo) (f : Option LineNo) → LaneSized (update_at capacity f a l).lane
+  update_sized a (Some i) = reply_sized (with_line i (shared (line_at l i)) l) (with_line_sized l g i (shared (line_at l i))) _
+  update_sized a None = reply_sized l g _
 
-  purge_sized : (a : BlockNo) (f : Found) → LaneSized (purge_at capacity f a l).lane
-  purge_sized a (At i) = reply_sized (with_line i (invalid (line_at l i)) l) (with_line_sized l g i (invalid (line_at l i))) _
-  purge_sized a Nothing = reply_sized l g _
+  purge_sized : (a : BlockNo) (f : Option LineNo) → LaneSized (purge_at capacity f a l).lane
+  purge_sized a (Some i) = reply_sized (with_line i (invalid (line_at l i)) l) (with_line_sized l g i (invalid (line_at l i))) _
+  purge_sized a None = reply_sized l g _
 
-  fill_sized : (x : DownMessage) (o : Operation) (f : Found) → LaneSized (fill_at ins f c x o l).lane
-  fill_sized x o (At i) = complete_sized (waits_no_more l) (with_waiting_sized l g Idle) _ i _ o.op o.word (inserted_kept ins o.op c i l.order).0
-  fill_sized x o Nothing = g
+  fill_sized : (x : DownMessage) (o : Operation) (f : Option LineNo) → LaneSized (fill_at ins f c x o l).lane
+  fill_sized x o (Some i) = complete_sized (waits_no_more l) (with_waiting_sized l g Idle) _ i _ o.op o.word (inserted_kept ins o.op c i l.order).0
+  fill_sized x o None = g
 
-  grant_sized : (x : DownMessage) (o : Operation) (f : Found) → LaneSized (grant_at ins f c x o l).lane
-  grant_sized x o (At i) = g
-  grant_sized x o Nothing = fill_sized x o (vacant_of l c)
+  grant_sized : (x : DownMessage) (o : Operation) (f : Option LineNo) → LaneSized (grant_at ins f c x o l).lane
+  grant_sized x o (Some i) = g
+  grant_sized x o None = fill_sized x o (vacant_of l c)
 
-  bare_sized : (o : Operation) (f : Found) → LaneSized (bare_at f c o l).lane
-  bare_sized o (At i) = complete_sized (waits_no_more l) (with_waiting_sized l g Idle) _ i _ o.op o.word (used_kept c i l.order).0
-  bare_sized o Nothing = g
+  bare_sized : (o : Operation) (f : Option LineNo) → LaneSized (bare_at f c o l).lane
+  bare_sized o (Some i) = complete_sized (waits_no_more l) (with_waiting_sized l g Idle) _ i _ o.op o.word (used_kept c i l.order).0
+  bare_sized o None = g
 
-  grants_sized : (x : DownMessage) (r : Ready) → LaneSized (grant_to ins r c x l).lane
-  grants_sized x (No n) = g
-  grants_sized x (Go o) = grant_sized x o (search_of l c x.block)
+  grants_sized : (x : DownMessage) (r : Result Operation Refusal) → LaneSized (grant_to ins r c x l).lane
+  grants_sized x (Err n) = g
+  grants_sized x (Ok o) = grant_sized x o (search_of l c x.block)
 
-  bares_sized : (x : DownMessage) (r : Ready) → LaneSized (bare_to r c x l).lane
-  bares_sized x (No n) = g
-  bares_sized x (Go o) = bare_sized o (search_of l c x.block)
+  bares_sized : (x : DownMessage) (r : Result Operation Refusal) → LaneSized (bare_to r c x l).lane
+  bares_sized x (Err n) = g
+  bares_sized x (Ok o) = bare_sized o (search_of l c x.block)
 
   kind_sized : (y : DownKind) (x : DownMessage) → LaneSized (deliver_kind capacity ins y c x l).lane
   kind_sized Update x = update_sized x.block (search_of l c x.block)
@@ -194,11 +188,11 @@ unfolding deliver_lane
 deliver_lane_sized ins c l g =
     by_cond (λ (r : LaneStep). LaneSized r.lane) (empty_at l.downs.len) (refuse_lane NothingPending l) _ g
     (by_cond LaneSized (refused_in took.answer) l took.lane g
-    (kind_sized ins c (with_downs (take_down l.downs).queue l)
-    (with_downs_sized l g (take_down l.downs).queue (take_down_sized l.downs g.downs)) (head_down l.downs).kind (head_down l.downs)))
+    (kind_sized ins c (with_downs (after_take l.downs) l)
+    (with_downs_sized l g (after_take l.downs) (take_down_sized l.downs g.downs)) (head_down l.downs).kind (head_down l.downs)))
   where
     took : LaneStep
-    took = deliver_kind capacity ins (head_down l.downs).kind c (head_down l.downs) (with_downs (take_down l.downs).queue l)
+    took = deliver_kind capacity ins (head_down l.downs).kind c (head_down l.downs) (with_downs (after_take l.downs) l)
 
 -- the lanes of a store, all of them with their lengths
 pub record LanesSized (ls : List Lane) : Type 0 where
@@ -253,7 +247,7 @@ commit_move_sized s k a v g f x b =
     })
 
 -- the control with another slot
-slot_sized : (i : ℕ) (y : Slot) (x : Control) → length x.slots ≡ slot_count → length (with_slot i y x).slots ≡ slot_count
+slot_sized : (i : ℕ) (y : Option Service) (x : Control) → length x.slots ≡ slot_count → length (with_slot i y x).slots ≡ slot_count
 slot_sized i y x e = length-set x.slots i y ∙ e
 
 -- the flags of one lane alone
@@ -292,7 +286,7 @@ taken_by_sized Gone ws k b e = length-set b.present k.0 false ∙ e
 pub return_move_lane : (k : LaneNo) (x : ReturnMessage) (l : Lane) (b : Block) (y : Control) → LaneSized l → LaneSized (return_move k x l b y).lane
 unfolding close
 return_move_lane k x l b y f =
-    let t = with_returns_sized l f (take_return l.returns).queue (take_return_sized l.returns f.returns) in
+    let t = with_returns_sized l f (after_take l.returns) (take_return_sized l.returns f.returns) in
     return_move_rule (λ (v : Move). LaneSized v.lane) k x l b y (λ _. t) f (λ _ v _ _. t) (λ _ v _ _. t)
 
 return_move_present : (k : LaneNo) (x : ReturnMessage) (l : Lane) (b : Block) (y : Control) → length b.present ≡ 8 →

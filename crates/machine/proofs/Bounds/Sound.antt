@@ -26,7 +26,7 @@ use Rattle.store.specs.declared.Store.{Store}
 use Rattle.store.specs.declared.Block.{Block}
 use Rattle.store.specs.declared.Service.{Service}
 use Rattle.store.specs.declared.Control.{Control}
-use Rattle.store.specs.Control.{slot_at, is_for, slot_of, open_services}
+use Rattle.store.specs.Control.{slot_at, is_for, slot_of, open_services, is_busy, service_in}
 use Rattle.store.specs.Stores.{lane_at, block_at}
 use Rattle.store.proofs.Services.{Found, Distinct, for_turned, never}
 use Rattle.machine.specs.Machine.Begun.{begun_in, last_place}
@@ -65,7 +65,7 @@ pub record ServiceSound (n m : ℕ) (v : Service) : Type 0 where
 
 -- a control: each of its services, no two of one block, at most as many as the limit
 pub record ControlSound (n m limit : ℕ) (x : Control) : Type 0 where
-  pub services : (i : ℕ) → i < 8 → (slot_at x i).busy ≡ true → ServiceSound n m (slot_at x i).service
+  pub services : (i : ℕ) → i < 8 → is_busy (slot_at x i) ≡ true → ServiceSound n m (service_in (slot_at x i))
   pub distinct : Distinct x
   pub most : open_services x ≤ limit
 
@@ -204,22 +204,22 @@ sound_service n m v h = or_never _ _ (lt-leb n v.lane.0 h.lane) (or_never _ _ (l
 
 -- the test that an earlier slot has a service of slot i's block
 abbrev served_before : Control → ℕ → ℕ → Bool
-served_before x i j = is_for (slot_at x i).service.block (slot_at x j)
+served_before x i j = is_for (service_in (slot_at x i)).block (slot_at x j)
 
 module _ (shape : Shape) (x : Control) where
   abbrev slot_test : ℕ → Bool
-  slot_test i = bad_service shape.n shape.m (slot_at x i).service || any_to (served_before x i) i
+  slot_test i = bad_service shape.n shape.m (service_in (slot_at x i)) || any_to (served_before x i) i
 
   pub control_sound : bad_control shape x ≡ false → ControlSound shape.n shape.m shape.limit x
   unfolding bad_control
   control_sound e = record { services = λ i h b. tested_service _ _ _ (or_left _ (any_to (served_before x i) i) (each i h b)); distinct = once; most = ltb-false _ _ (or_left _ _ e) }
     where
-      each : (i : ℕ) → i < 8 → (slot_at x i).busy ≡ true → slot_test i ≡ false
-      each i h b = and_right (slot_at x i).busy (slot_test i) (any_false (bad_slot shape.n shape.m x) 8 i (or_right (ltb shape.limit (open_services x)) _ e) h) b
+      each : (i : ℕ) → i < 8 → is_busy (slot_at x i) ≡ true → slot_test i ≡ false
+      each i h b = and_right (is_busy (slot_at x i)) (slot_test i) (any_false (bad_slot shape.n shape.m x) 8 i (or_right (ltb shape.limit (open_services x)) _ e) h) b
 
-      apart : (i j : ℕ) → j < i → i < 8 → (slot_at x i).busy ≡ true → served_before x i j ≡ true → ⊥
+      apart : (i j : ℕ) → j < i → i < 8 → is_busy (slot_at x i) ≡ true → served_before x i j ≡ true → ⊥
       apart i j l h b f =
-          true≢false (sym f ∙ any_false (served_before x i) i j (or_right (bad_service shape.n shape.m (slot_at x i).service) (any_to (served_before x i) i) (each i h b)) l)
+          true≢false (sym f ∙ any_false (served_before x i) i j (or_right (bad_service shape.n shape.m (service_in (slot_at x i))) (any_to (served_before x i) i) (each i h b)) l)
 
       once : Distinct x
       once i j hi hj b f = go (below? i j) (below? j i)
@@ -234,7 +234,7 @@ module _ (shape : Shape) (x : Control) where
   sound_control g =
       or_never _ _ (le-ltb _ _ g.most)
       (any_never (bad_slot shape.n shape.m x) 8
-      (λ i h. and_never (slot_at x i).busy (slot_test i)
+      (λ i h. and_never (is_busy (slot_at x i)) (slot_test i)
       (λ b. or_never _ _ (sound_service _ _ _ (g.services i h b)) (any_never (served_before x i) i (λ j l. never (served_before x i j) (λ f. let e = g.distinct i j h (omega arith) b f in absurd (omega arith)))))))
 
 -- what a store has that is not corrupt

@@ -11,9 +11,8 @@ use Rattle.words.specs.declared.LineNo.{LineNo}
 use Rattle.words.specs.Operations.{is_load}
 use Rattle.words.specs.Folds.{up_to, down_to}
 use Rattle.words.proofs.Folds.{up_to_keeps}
-use Rattle.queues.specs.declared.DownMessage.{DownMessage}
+use Rattle.queues.specs.Messages.{DownMessage}
 use Rattle.lanes.specs.declared.Operation.{Operation}
-use Rattle.lanes.specs.declared.Found.TheVariants.{At}
 use Rattle.lanes.specs.UseOrder.{Insertion, Newest, LoadsOldest, place_at, carry_of, used_of, oldest_of}
 use Rattle.machine.specs.Machine.Corruption.{bad_order}
 use Rattle.machine.specs.Machine.Begin.{complete_with, hit}
@@ -22,6 +21,7 @@ use Rattle.machine.specs.Claims.UseOrders.{BecomesOldest, BecomesNewest, MadeNew
 use Rattle.machine.proofs.Laws.Orders.{swapped, first, second, other, swapped_place, swapped_length, carry_length}
 use Rattle.machine.proofs.Bounds.Sound.{order_sound}
 use Rattle.machine.proofs.Laws.Sets.{same?}
+use Rattle.std.specs.Prelude.{Some}
 
 -- of the places up to n, j alone names line i
 pub record NamedOnce (n j : ℕ) (i : LineNo) (o : List LineNo) : Type 0 where
@@ -169,6 +169,6 @@ use_orders c j l h n e =
     }
   where
     other_fill : BecomesNewest c j l.order (used_of c (place_at l.order j) l.order) → (ins : Insertion) (x : DownMessage) (o : Operation) → is_load o.op ≡ false →
-        MadeNewest c j l (fill_at ins (At (line_named l j)) c x o l)
+        MadeNewest c j l (fill_at ins (Some (line_named l j)) c x o l)
     other_fill u Newest x o a = u
     other_fill u LoadsOldest x o a = rw a u

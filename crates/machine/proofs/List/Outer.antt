@@ -20,6 +20,8 @@ use Rattle.machine.proofs.List.Owes.{Pending, Rests, upd, fed, Completes, BeginO
 use Rattle.machine.proofs.Laws.Sets.{same?}
 use Rattle.machine.proofs.Bounds.KeepsLane.{clash}
 use Rattle.machine.proofs.List.OuterTie.{Outstanding, Tied, one_each, tied_none, tied_later, still_waits, waited_too, tied_done, waiting, last_is, waits_now, all_wait, new_or_old, tied_wait}
+use Rattle.std.specs.Prelude.{Result, Ok, Err}
+use Rattle.answers.specs.declared.Refusal.{Refusal}
 
 -- what a list of calls that paid tells, with the operations that wait (q) and flat memory (g) after it
 pub record Told (m : ℕ) (h : List Entry) (q : ℕ → Pending) (g : List ℕ) : Type 0 where
@@ -258,20 +260,20 @@ module _ (h : List Entry) (q : ℕ → Pending) (g : List ℕ) where
 
   module _ (p : ℕ → Pending) (last : LastWaits) (i : ℕ) (f : List ℕ) (t : Tied (In h) p last i) (p₁ : ℕ → Pending) (f₁ : List ℕ) (xs : List Attributed) (bs : List Begun) where
     -- a begin call
-    follows_begin : (k : LaneNo) (op : Op) (w : WordNo) (a : Answer) → ((b : Begun) → Memᴰ b (begun_by i (Begin k op w) (is_refused (Answers a))) → In h b) →
+    follows_begin : (k : LaneNo) (op : Op) (w : WordNo) (a : Result Answer Refusal) → ((b : Begun) → Memᴰ b (begun_by i (Begin k op w) (is_refused (Answers a))) → In h b) →
         BeginOwes p f k op w a p₁ f₁ → Follows p last i f (Begin k op w) (Answers a) p₁ f₁ xs bs
     unfolding waits_after origin_of begun_by
-    follows_begin k op w Opened new s = absurd s
-    follows_begin k op w (Done x) new s = (
+    follows_begin k op w (Ok Opened) new s = absurd s
+    follows_begin k op w (Ok (Done x)) new s = (
       rw s.2 (tied_later (In h) p last i t),
       λ r. tells_hit p last i f x (begun_at i k op w) xs bs t refl (new (begun_at i k op w) (Memᴰ.head refl)) (sym s.0) s.1 (rw (s.2, s.3) at r),
     )
-    follows_begin k op w Wait new s = (
+    follows_begin k op w (Ok Wait) new s = (
       rw s.1 (tied_wait p last i k op w (In h) t (new (begun_at i k op w) (Memᴰ.head refl))),
       λ r. tells_wait p last i f k op w xs bs s.0 (rw (s.1, s.2) at r),
     )
-    follows_begin k op w Step new s = absurd s
-    follows_begin k op w (Answer.Refused n) new s = (rw s.0 (tied_later (In h) p last i t), λ r. tells_later p last i f xs bs (rw (s.0, s.1) at r))
+    follows_begin k op w (Ok Step) new s = absurd s
+    follows_begin k op w (Err n) new s = (rw s.0 (tied_later (In h) p last i t), λ r. tells_later p last i f xs bs (rw (s.0, s.1) at r))
 
     -- any other call: its completions are of their lanes' last waits
     abbrev Lately : Reply → Type 0

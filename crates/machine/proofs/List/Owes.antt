@@ -14,6 +14,8 @@ use Rattle.answers.specs.declared.Completion.{Completion}
 use Rattle.machine.specs.Machine.Calls.{Call, Begin, Serve, Return, Deliver, Settle, Reply, Answers, SettledWith, Entry, completions_of}
 use Rattle.machine.specs.Claims.Attribution.{Begun, begun_at}
 use Rattle.machine.specs.Claims.Flat.{flat_value, flat_after}
+use Rattle.std.specs.Prelude.{Result, Ok, Err}
+use Rattle.answers.specs.declared.Refusal.{Refusal}
 
 -- what a lane waits for
 pub data Pending : Type 0 where
@@ -40,12 +42,12 @@ Completes p f (x ∷ xs) q g =
     Completes (upd p x.lane.0 Rests) (flat_after f (fed op w)) xs q g
 
 -- a begin call, by its answer
-abbrev pub BeginOwes : (ℕ → Pending) → List ℕ → LaneNo → Op → WordNo → Answer → (ℕ → Pending) → List ℕ → Type 0
-BeginOwes p f k op w Opened q g = ⊥
-BeginOwes p f k op w (Done x) q g = (x.lane ≡ k) × (x.value ≡ flat_value f (fed op w)) × (q ≡ p) × (g ≡ flat_after f (fed op w))
-BeginOwes p f k op w Wait q g = (p k.0 ≡ Rests) × (q ≡ upd p k.0 (StillWaits op w)) × (g ≡ f)
-BeginOwes p f k op w Step q g = ⊥
-BeginOwes p f k op w (Answer.Refused r) q g = Unchanged p f q g
+abbrev pub BeginOwes : (ℕ → Pending) → List ℕ → LaneNo → Op → WordNo → Result Answer Refusal → (ℕ → Pending) → List ℕ → Type 0
+BeginOwes p f k op w (Ok Opened) q g = ⊥
+BeginOwes p f k op w (Ok (Done x)) q g = (x.lane ≡ k) × (x.value ≡ flat_value f (fed op w)) × (q ≡ p) × (g ≡ flat_after f (fed op w))
+BeginOwes p f k op w (Ok Wait) q g = (p k.0 ≡ Rests) × (q ≡ upd p k.0 (StillWaits op w)) × (g ≡ f)
+BeginOwes p f k op w (Ok Step) q g = ⊥
+BeginOwes p f k op w (Err r) q g = Unchanged p f q g
 
 -- what a call with its answer owes: p and f are before it, q and g after it
 abbrev pub Owes : (ℕ → Pending) → List ℕ → Call → Reply → (ℕ → Pending) → List ℕ → Type 0

@@ -8,7 +8,6 @@ use lib.ListN.{length, take, drop}
 use lib.Seq.{take_at}
 use Rattle.words.proofs.Folds.{by_cond, pick}
 use Rattle.store.specs.declared.Store.{Store}
-use Rattle.machine.specs.declared.Filled.TheVariants.{Length}
 use Rattle.machine.specs.Machine.Corruption.{corrupt_of}
 use Rattle.machine.specs.Machine.Fill.{Filling}
 use Rattle.machine.specs.Machine.Picture.{picture_bytes, picture_of}
@@ -16,6 +15,7 @@ use Rattle.machine.specs.Claims.PictureOrder.{PictureInOrder, SamePictures}
 use Rattle.machine.proofs.Bounds.KeepsLane.{clash}
 use Rattle.machine.proofs.Pictures.Copies.{bytes_in_order}
 use Rattle.machine.proofs.Pictures.OneOrder.{one_order}
+use Rattle.std.specs.Prelude.{Ok}
 
 -- a picture that isn't refused is of a store that is not corrupt, begins with these bytes and gives their length
 record Pictured (s : Store) (l : ℕ) (buffer : List ℕ) : Type 0 where
@@ -23,7 +23,7 @@ record Pictured (s : Store) (l : ℕ) (buffer : List ℕ) : Type 0 where
   size : l ≡ length (picture_bytes s)
   bytes : take l buffer ≡ picture_bytes s
 
-picture_given : (s : Store) (b : List ℕ) (l : ℕ) → (picture_of s b).answer ≡ Length l → Pictured s l (picture_of s b).buffer
+picture_given : (s : Store) (b : List ℕ) (l : ℕ) → (picture_of s b).answer ≡ Ok l → Pictured s l (picture_of s b).buffer
 unfolding picture_of
 picture_given s b l = pick P (corrupt_of s) _ _ (λ _ e. clash (cc))
     (λ g. by_cond P (ltb (length b) (length p)) _ _ (λ e. clash (cc))
@@ -33,7 +33,7 @@ picture_given s b l = pick P (corrupt_of s) _ _ (λ _ e. clash (cc))
     p = picture_bytes s
 
     P : Filling → Type 0
-    P x = x.answer ≡ Length l → Pictured s l x.buffer
+    P x = x.answer ≡ Ok l → Pictured s l x.buffer
 
 pub in_order : PictureInOrder
 in_order s b l e = let g = picture_given s b l e in rw g.bytes (bytes_in_order s g.sound)

@@ -13,7 +13,7 @@ use native.Mathlib.Omega.{arith}
 use Rattle.words.specs.declared.LaneNo.{LaneNo}
 use Rattle.words.specs.declared.BlockNo.{BlockNo}
 use Rattle.words.proofs.Folds.{below?, any_false, by_cond}
-use Rattle.queues.specs.declared.DownMessage.{DownMessage}
+use Rattle.queues.specs.Messages.{DownMessage}
 use Rattle.queues.specs.Queues.{capacity, full_at, messages}
 use Rattle.lanes.specs.declared.Lane.{Lane}
 use Rattle.store.specs.declared.Store.{Store}
@@ -21,7 +21,7 @@ use Rattle.store.specs.declared.Block.{Block}
 use Rattle.store.specs.Control.{service_of}
 use Rattle.store.specs.Stores.{no_lane, no_block, lane_at, block_at, with_lane}
 use Rattle.store.specs.LaneSets.{goes_to}
-use Rattle.machine.specs.declared.Move.{Move}
+use Rattle.machine.specs.Machine.Parts.{Move}
 use Rattle.machine.specs.Machine.Change.{some_full, posted, post_all, moved_store}
 use Rattle.machine.specs.Machine.Sized.{LaneSized, Sized}
 use Rattle.machine.proofs.Laws.Tests.{on, and_right}

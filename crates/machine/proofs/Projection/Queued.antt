@@ -8,11 +8,11 @@ use lib.ListN.{length, get_or, set, take}
 use borrow.Author.Tests.{lt-leb, ne_eqb}
 use native.Mathlib.Omega.{arith}
 use native.Mathlib.Numerals.{add-one}
-use Rattle.queues.specs.declared.ReturnMessage.{ReturnMessage}
-use Rattle.queues.specs.declared.ReturnQueue.{ReturnQueue}
-use Rattle.queues.specs.declared.DownMessage.{DownMessage}
-use Rattle.queues.specs.declared.DownQueue.{DownQueue}
-use Rattle.queues.specs.Queues.{capacity, messages, joined, shifted, no_return, no_down, head_return, head_down, push_return, push_down, take_return, take_down}
+use Rattle.queues.specs.Messages.{ReturnMessage}
+use Rattle.queues.specs.Queues.{ReturnQueue}
+use Rattle.queues.specs.Messages.{DownMessage}
+use Rattle.queues.specs.Queues.{DownQueue}
+use Rattle.queues.specs.Queues.{capacity, messages, joined, shifted, no_return, no_down, head_return, head_down, after_push, after_take}
 use Rattle.queues.proofs.Shifts.{take_shifted}
 use Rattle.machine.proofs.Protocol.BlockState.{keep_if}
 
@@ -64,14 +64,14 @@ abbrev pub queued_downs : DownQueue → List DownMessage
 queued_downs q = messages q.len q.at
 
 -- the two queues when a message joins them or the head leaves them
-pub push_returns : (q : ReturnQueue) (x : ReturnMessage) → length q.at ≡ capacity → q.len < capacity → queued_returns (push_return capacity q x).queue ≡ queued_returns q ++ (x ∷ [])
+pub push_returns : (q : ReturnQueue) (x : ReturnMessage) → length q.at ≡ capacity → q.len < capacity → queued_returns (after_push capacity q x) ≡ queued_returns q ++ (x ∷ [])
 push_returns q x e h = rw (lt-leb capacity q.len h) (push_messages q.len q.at x e h)
 
-pub push_downs : (q : DownQueue) (x : DownMessage) → length q.at ≡ capacity → q.len < capacity → queued_downs (push_down capacity q x).queue ≡ queued_downs q ++ (x ∷ [])
+pub push_downs : (q : DownQueue) (x : DownMessage) → length q.at ≡ capacity → q.len < capacity → queued_downs (after_push capacity q x) ≡ queued_downs q ++ (x ∷ [])
 push_downs q x e h = rw (lt-leb capacity q.len h) (push_messages q.len q.at x e h)
 
-pub take_returns : (q : ReturnQueue) → length q.at ≡ capacity → q.len ≢ 0 → q.len ≤ capacity → queued_returns q ≡ head_return q ∷ queued_returns (take_return q).queue
+pub take_returns : (q : ReturnQueue) → length q.at ≡ capacity → q.len ≢ 0 → q.len ≤ capacity → queued_returns q ≡ head_return q ∷ queued_returns (after_take q)
 take_returns q e n h = rw (ne_eqb q.len 0 n) (take_messages no_return q.len q.at e n h)
 
-pub take_downs : (q : DownQueue) → length q.at ≡ capacity → q.len ≢ 0 → q.len ≤ capacity → queued_downs q ≡ head_down q ∷ queued_downs (take_down q).queue
+pub take_downs : (q : DownQueue) → length q.at ≡ capacity → q.len ≢ 0 → q.len ≤ capacity → queued_downs q ≡ head_down q ∷ queued_downs (after_take q)
 take_downs q e n h = rw (ne_eqb q.len 0 n) (take_messages no_down q.len q.at e n h)

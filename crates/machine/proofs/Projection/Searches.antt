@@ -14,8 +14,6 @@ use Rattle.words.specs.declared.BlockNo.{BlockNo}
 use Rattle.words.specs.declared.Line.{Line}
 use Rattle.words.specs.Lines.{no_line, holds_of}
 use Rattle.lanes.specs.declared.Lane.{Lane}
-use Rattle.lanes.specs.declared.Found.{Found}
-use Rattle.lanes.specs.declared.Found.TheVariants.{At, Nothing}
 use Rattle.lanes.specs.Search.{line_at, first_from, search_of, vacant_of}
 use Rattle.lanes.proofs.Firsts.{first_bound, first_passes}
 use Rattle.machine.proofs.Laws.Tests.{on}
@@ -25,6 +23,7 @@ use Rattle.machine.proofs.Bounds.KeepsLane.{clash}
 use Rattle.machine.proofs.Bounds.KeepsDeliver.{found_below}
 use Rattle.machine.proofs.Bounds.KeepsBegin.{first_nothing}
 use Rattle.machine.proofs.Protocol.BlockState.{Shared, Modified, status_at, words_at}
+use Rattle.std.specs.Prelude.{Option, Some, None}
 
 -- the valid lines of a lane of c lines have different blocks
 abbrev pub Unique : ℕ → Lane → Type 0
@@ -37,37 +36,37 @@ pub same_block : (a b : BlockNo) → a.0 ≡ b.0 → a ≡ b
 same_block a b e = λ i. record { 0 = e i }
 
 -- no line passes the test
-first_none_of : (p : Line → Bool) (ls : List Line) (n k : ℕ) → ((j : ℕ) → k ≤ j → j < k + n → p (get_or ls j no_line) ≡ false) → first_from p ls n k ≡ Nothing
+first_none_of : (p : Line → Bool) (ls : List Line) (n k : ℕ) → ((j : ℕ) → k ≤ j → j < k + n → p (get_or ls j no_line) ≡ false) → first_from p ls n k ≡ None
 unfolding first_from
 first_none_of p ls zero k h = refl
 first_none_of p ls (suc n) k h = rw (h k (omega arith) (omega arith)) (first_none_of p ls n (k + 1) (λ j a b. h j (omega arith) (omega arith)))
 
 -- line j is the first that passes the test
 first_is : (p : Line → Bool) (ls : List Line) (n k j : ℕ) → k ≤ j → j < k + n → p (get_or ls j no_line) ≡ true →
-    ((i : ℕ) → i < j → p (get_or ls i no_line) ≡ false) → first_from p ls n k ≡ At (record { 0 = j })
+    ((i : ℕ) → i < j → p (get_or ls i no_line) ≡ false) → first_from p ls n k ≡ Some (record { 0 = j })
 unfolding first_from
 first_is p ls zero k j a b t h = absurd (omega arith)
 first_is p ls (suc n) k j a b t h = go (same? j k) (λ r. first_is p ls n (k + 1) j r (omega arith) t h)
   where
-    go : (j ≡ k) ⊎ (j ≢ k) → (k + 1 ≤ j → first_from p ls n (k + 1) ≡ At (record { 0 = j })) → first_from p ls (suc n) k ≡ At (record { 0 = j })
+    go : (j ≡ k) ⊎ (j ≢ k) → (k + 1 ≤ j → first_from p ls n (k + 1) ≡ Some (record { 0 = j })) → first_from p ls (suc n) k ≡ Some (record { 0 = j })
     go (inl e) ih = rw (e, rw e at t)
     go (inr m) ih = rw (h k (omega (arith, m))) (ih (omega (arith, m)))
 
 module _ (c : ℕ) (l : Lane) where
   -- the line found is one of the c lines, and holds the block
-  pub found_holds : (a : BlockNo) (i : LineNo) → search_of l c a ≡ At i → (i.0 < c) × (holds_of (line_at l i) a ≡ true)
+  pub found_holds : (a : BlockNo) (i : LineNo) → search_of l c a ≡ Some i → (i.0 < c) × (holds_of (line_at l i) a ≡ true)
   found_holds a i e = (found_below l c a i e, first_passes (λ (x : Line). holds_of x a) l.lines c 0 i e)
 
   -- where none is found no line holds the block
-  pub none_holds : (a : BlockNo) → search_of l c a ≡ Nothing → (j : ℕ) → j < c → holds_of (get_or l.lines j no_line) a ≡ false
+  pub none_holds : (a : BlockNo) → search_of l c a ≡ None → (j : ℕ) → j < c → holds_of (get_or l.lines j no_line) a ≡ false
   none_holds a e j h = first_nothing (λ (x : Line). holds_of x a) l.lines c 0 e j (omega arith) (omega arith)
 
   -- .. and the other way round
-  pub search_none : (a : BlockNo) → ((j : ℕ) → j < c → holds_of (get_or l.lines j no_line) a ≡ false) → search_of l c a ≡ Nothing
+  pub search_none : (a : BlockNo) → ((j : ℕ) → j < c → holds_of (get_or l.lines j no_line) a ≡ false) → search_of l c a ≡ None
   search_none a h = first_none_of (λ (x : Line). holds_of x a) l.lines c 0 (λ j _ b. h j (omega arith))
 
   -- a line that holds the block is the one found
-  pub search_at : Unique c l → (a : BlockNo) (j : ℕ) → j < c → holds_of (get_or l.lines j no_line) a ≡ true → search_of l c a ≡ At (record { 0 = j })
+  pub search_at : Unique c l → (a : BlockNo) (j : ℕ) → j < c → holds_of (get_or l.lines j no_line) a ≡ true → search_of l c a ≡ Some (record { 0 = j })
   search_at u a j h t = first_is (λ (x : Line). holds_of x a) l.lines c 0 j (omega arith) (omega arith) t before
     where
       before : (i : ℕ) → i < j → holds_of (get_or l.lines i no_line) a ≡ false
@@ -81,7 +80,7 @@ module _ (c : ℕ) (l : Lane) where
               absurd (omega arith)
 
   -- the vacant line is one of the c lines, and is not valid
-  pub vacant_invalid : (i : LineNo) → vacant_of l c ≡ At i → (i.0 < c) × ((line_at l i).valid ≡ false)
+  pub vacant_invalid : (i : LineNo) → vacant_of l c ≡ Some i → (i.0 < c) × ((line_at l i).valid ≡ false)
   vacant_invalid i e =
       let b = first_bound (λ (x : Line). not x.valid) l.lines c 0 i e in
       (omega arith, not-true (line_at l i).valid (first_passes (λ (x : Line). not x.valid) l.lines c 0 i e))
@@ -108,7 +107,7 @@ pub replace_alone : (c : ℕ) (i : LineNo) (y : Line) (l : Lane) → Unique c l 
 replace_alone c i y l u h v e j b n w q = n (u j i.0 b h w v (q ∙ sym e))
 
 -- .. where the block was not found
-pub fill_alone : (c : ℕ) (i : LineNo) (y : Line) (l : Lane) → search_of l c y.block ≡ Nothing → Alone c i y l
+pub fill_alone : (c : ℕ) (i : LineNo) (y : Line) (l : Lane) → search_of l c y.block ≡ None → Alone c i y l
 fill_alone c i y l e j b n w q =
     let f = none_holds c l y.block e j b in
     let t = valid_holds (get_or l.lines j no_line) y.block w q in
@@ -140,11 +139,11 @@ module _ (c : ℕ) (i : LineNo) (y : Line) (l l' : Lane) (x : Changed i y l l') 
           u j k hj hk (cc) (cc) (cc)
 
   -- the block of a valid y is found at line i
-  pub changed_found : Unique c l' → i.0 < c → (a : BlockNo) → holds_of y a ≡ true → search_of l' c a ≡ At i
+  pub changed_found : Unique c l' → i.0 < c → (a : BlockNo) → holds_of y a ≡ true → search_of l' c a ≡ Some i
   changed_found u h a t = search_at c l' u a i.0 h (rw x.here t)
 
   -- a block that only line i had, and y does not hold, is not found
-  pub changed_gone : (a : BlockNo) → Unique c l → i.0 < c → holds_of (line_at l i) a ≡ true → holds_of y a ≡ false → search_of l' c a ≡ Nothing
+  pub changed_gone : (a : BlockNo) → Unique c l → i.0 < c → holds_of (line_at l i) a ≡ true → holds_of y a ≡ false → search_of l' c a ≡ None
   changed_gone a u h t f = search_none c l' a (λ j b. go j b (same? j i.0))
     where
       go : (j : ℕ) → j < c → (j ≡ i.0) ⊎ (j ≢ i.0) → holds_of (get_or l'.lines j no_line) a ≡ false
@@ -161,8 +160,8 @@ module _ (c : ℕ) (i : LineNo) (y : Line) (l l' : Lane) (x : Changed i y l l') 
   pub changed_other : (a : BlockNo) → Unique c l' → holds_of (line_at l i) a ≡ false → holds_of y a ≡ false → SameLine c a l l'
   changed_other a u s t = go (search_of l c a) refl
     where
-      go : (f : Found) → search_of l c a ≡ f → SameLine c a l l'
-      go (At j) e = record { line = rw (e, e') (ap (λ (z : Line). cond z.private Modified Shared) q); words = rw (e, e') (ap (λ (z : Line). z.words) q) }
+      go : (f : Option LineNo) → search_of l c a ≡ f → SameLine c a l l'
+      go (Some j) e = record { line = rw (e, e') (ap (λ (z : Line). cond z.private Modified Shared) q); words = rw (e, e') (ap (λ (z : Line). z.words) q) }
         where
           p : (j.0 < c) × (holds_of (line_at l j) a ≡ true)
           p = found_holds c l a j e
@@ -173,13 +172,13 @@ module _ (c : ℕ) (i : LineNo) (y : Line) (l l' : Lane) (x : Changed i y l l') 
           q : line_at l' j ≡ line_at l j
           q = x.there j.0 n
 
-          e' : search_of l' c a ≡ At j
+          e' : search_of l' c a ≡ Some j
           e' = search_at c l' u a j.0 p.0 (rw q p.1)
-      go Nothing e = record { line = rw (e, e'); words = rw (e, e') }
+      go None e = record { line = rw (e, e'); words = rw (e, e') }
         where
           each : (j : ℕ) → j < c → (j ≡ i.0) ⊎ (j ≢ i.0) → holds_of (get_or l'.lines j no_line) a ≡ false
           each j b (inl r) = rw (r, x.here) t
           each j b (inr n) = rw (x.there j n) (none_holds c l a e j b)
 
-          e' : search_of l' c a ≡ Nothing
+          e' : search_of l' c a ≡ None
           e' = search_none c l' a (λ j b. each j b (same? j i.0))

@@ -17,23 +17,21 @@ use Rattle.words.specs.Units.{block_of}
 use Rattle.words.specs.Lines.{holds_of, invalid}
 use Rattle.words.specs.Operations.{perform_of, is_load}
 use Rattle.words.proofs.Folds.{or_left, or_right, pick}
-use Rattle.queues.specs.declared.ReturnMessage.{ReturnMessage}
-use Rattle.queues.specs.declared.ReturnQueue.{ReturnQueue}
-use Rattle.queues.specs.Queues.{capacity, push_return}
+use Rattle.queues.specs.Messages.{ReturnMessage}
+use Rattle.queues.specs.Queues.{ReturnQueue, full_at}
+use Rattle.queues.specs.Queues.{capacity, after_push, full_at}
 use Rattle.lanes.specs.declared.Lane.{Lane}
 use Rattle.lanes.specs.declared.Command.{Command}
 use Rattle.lanes.specs.declared.Command.TheVariants.{Exclude}
 use Rattle.lanes.specs.declared.Operation.{Operation}
 use Rattle.lanes.specs.declared.Waiting.{Waiting}
 use Rattle.lanes.specs.declared.Waiting.TheVariants.{Idle, Unserved, Served}
-use Rattle.lanes.specs.declared.Found.{Found}
-use Rattle.lanes.specs.declared.Found.TheVariants.{At, Nothing}
 use Rattle.lanes.specs.Search.{line_at, search_of, vacant_of}
 use Rattle.lanes.specs.UseOrder.{used_of, place_at}
 use Rattle.lanes.specs.Lanes.{with_waiting, with_returns, with_line}
 use Rattle.answers.specs.declared.Refusal.{Refusal}
 use Rattle.answers.specs.declared.Refusal.TheVariants.{QueueFull}
-use Rattle.machine.specs.declared.LaneStep.{LaneStep}
+use Rattle.machine.specs.Machine.Parts.{LaneStep}
 use Rattle.machine.specs.declared.LaneAnswer.TheVariants.{Value, Waits}
 use Rattle.machine.specs.declared.LaneAnswer.{LaneAnswer}
 use Rattle.machine.specs.Machine.Change.{refuse_lane}
@@ -48,6 +46,7 @@ use Rattle.machine.proofs.Protocol.Moves.{hit_seen, wait_seen, evict_seen, eject
 use Rattle.machine.proofs.Projection.Queued.{queued_returns, queued_downs, push_returns, keep_join}
 use Rattle.machine.proofs.Laws.Lines.{holds_valid, valid_holds, other_holds}
 use Rattle.machine.proofs.Projection.Searches.{Unique, Changed, set_changed, Alone, replace_alone, SameLine, unique_changed, changed_found, changed_gone, changed_other, found_holds, none_holds, search_at}
+use Rattle.std.specs.Prelude.{Option, Some, None, Ok, Err}
 
 -- what block a sees of a lane whose line of it is x, and of one that has no line of it
 abbrev pub held_as : BlockNo → Line → Lane → Seen
@@ -78,11 +77,11 @@ dirty_line true = refl
 dirty_line false = refl
 
 module _ (c : ℕ) (a : BlockNo) where
-  pub seen_held : (l : Lane) (i : LineNo) → search_of l c a ≡ At i → seen c a l ≡ held_as a (line_at l i) l
+  pub seen_held : (l : Lane) (i : LineNo) → search_of l c a ≡ Some i → seen c a l ≡ held_as a (line_at l i) l
   unfolding seen
   seen_held l i e = rw e
 
-  pub seen_none : (l : Lane) → search_of l c a ≡ Nothing → seen c a l ≡ not_held a l
+  pub seen_none : (l : Lane) → search_of l c a ≡ None → seen c a l ≡ not_held a l
   unfolding seen
   seen_none l e = rw e
 
@@ -133,18 +132,18 @@ module _ (o : List LineNo) (c : ℕ) (l : Lane) (long : c ≤ length l.lines) (u
       seen_same c a l (complete_with o i x op w l).lane s refl refl refl
 
 -- a queue that took a message had a free place
-pub push_room : (q : ReturnQueue) (m : ReturnMessage) → (push_return capacity q m).full ≡ false → q.len < capacity
+pub push_room : (q : ReturnQueue) (m : ReturnMessage) → (full_at capacity q.len) ≡ false → q.len < capacity
 push_room q m e = on (leb capacity q.len) (λ t. clash (cc (rw t at e))) (λ t. leb-false capacity q.len t)
 
 -- a message joins the return queue: the block it is about sees it, the others do not
 module _ (q : ReturnQueue) (m : ReturnMessage) (z : length q.at ≡ capacity) (room : q.len < capacity) (a : BlockNo) where
-  returns_after : keep_if (return_about a) (queued_returns (push_return capacity q m).queue) ≡ cond (return_about a m) (keep_if (return_about a) (queued_returns q) ++ (m ∷ [])) (keep_if (return_about a) (queued_returns q))
+  returns_after : keep_if (return_about a) (queued_returns (after_push capacity q m)) ≡ cond (return_about a m) (keep_if (return_about a) (queued_returns q) ++ (m ∷ [])) (keep_if (return_about a) (queued_returns q))
   returns_after = ap (keep_if (return_about a)) (push_returns q m z room) ∙ keep_join (return_about a) (queued_returns q) m
 
-  pub returns_here : m.block.0 ≡ a.0 → keep_if (return_about a) (queued_returns (push_return capacity q m).queue) ≡ keep_if (return_about a) (queued_returns q) ++ (m ∷ [])
+  pub returns_here : m.block.0 ≡ a.0 → keep_if (return_about a) (queued_returns (after_push capacity q m)) ≡ keep_if (return_about a) (queued_returns q) ++ (m ∷ [])
   returns_here e = returns_after ∙ rw (eq-eqb m.block.0 a.0 e)
 
-  pub returns_other : m.block.0 ≢ a.0 → keep_if (return_about a) (queued_returns (push_return capacity q m).queue) ≡ keep_if (return_about a) (queued_returns q)
+  pub returns_other : m.block.0 ≢ a.0 → keep_if (return_about a) (queued_returns (after_push capacity q m)) ≡ keep_if (return_about a) (queued_returns q)
   returns_other n = returns_after ∙ rw (ne_eqb m.block.0 a.0 n)
 
 -- the ejection of a line is about its block, and is the one that the block sees
@@ -156,7 +155,7 @@ eject_seen x l = on x.private (λ p. rw p) (λ p. rw p)
 
 -- the lane with line i given up
 abbrev pub evicted : LineNo → Lane → Lane
-evicted i l = with_returns (push_return capacity l.returns (eject_of (line_at l i))).queue (with_line i (invalid (line_at l i)) l)
+evicted i l = with_returns (after_push capacity l.returns (eject_of (line_at l i))) (with_line i (invalid (line_at l i)) l)
 
 -- line i is given up: it is valid, and the return queue has a free place
 module _ (c : ℕ) (l : Lane) (z : LaneSized l) (b : c ≤ 8) (u : Unique c l) (i : LineNo) (h : i.0 < c) (v : (line_at l i).valid ≡ true) (room : l.returns.len < capacity) where
@@ -190,7 +189,7 @@ module _ (c : ℕ) (l : Lane) (z : LaneSized l) (b : c ≤ 8) (u : Unique c l) (
 
 -- begin completes on a held line; what the lane waits for, it waits for still
 pub record HitCase (c : ℕ) (op : Op) (w : WordNo) (l : Lane) (r : LaneStep) : Type 0 where
-  pub answer : r.answer ≡ Value (value_done op w (seen c (block_of w) l).words)
+  pub answer : r.answer ≡ Ok (Value (value_done op w (seen c (block_of w) l).words))
   pub copy : held (seen c (block_of w) l).line ≡ true
   pub able : (is_load op || dirty (seen c (block_of w) l).line) ≡ true
   pub here : seen c (block_of w) r.lane ≡ hit_seen op w (seen c (block_of w) l)
@@ -205,7 +204,7 @@ asked x op w = record { command = x; op = op; word = w }
 -- begin waits with command x, where the lane waited for nothing and has s of the block
 pub record WaitCase (c : ℕ) (op : Op) (w : WordNo) (x : Command) (s : Status) (l : Lane) (r : LaneStep) : Type 0 where
   pub idle : l.waiting ≡ Idle
-  pub answer : r.answer ≡ Waits
+  pub answer : r.answer ≡ Ok Waits
   pub line : (seen c (block_of w) l).line ≡ s
   pub here : seen c (block_of w) r.lane ≡ wait_seen (Unserved (asked x op w)) (seen c (block_of w) l)
   pub waiting : r.lane.waiting ≡ Unserved (asked x op w)
@@ -234,7 +233,7 @@ pub record EvictCase (c : ℕ) (op : Op) (w : WordNo) (l : Lane) (r : LaneStep) 
 -- a refusal leaves the lane as it was
 pub record RefusedCase (l : Lane) (r : LaneStep) : Type 0 where
   pub reason : Refusal
-  pub answer : r.answer ≡ LaneAnswer.Refused reason
+  pub answer : r.answer ≡ Err reason
   pub same : r.lane ≡ l
 
 pub data BeginCase (c : ℕ) (op : Op) (w : WordNo) (l : Lane) (r : LaneStep) : Type 0 where
@@ -257,7 +256,7 @@ module _ (c : ℕ) (op : Op) (w : WordNo) (l : Lane) (z : LaneSized l) (b : c �
       ap (λ (y : Waiting). wait_seen y (seen c a l')) ((waiting_other (asked x op w) a n).0 ∙ sym (seen_idle c a l' e))
 
   -- Search finds line i
-  module _ (i : LineNo) (e : search_of l c (block_of w) ≡ At i) where
+  module _ (i : LineNo) (e : search_of l c (block_of w) ≡ Some i) where
     hit_seen_lem : seen c (block_of w) l ≡ held_as (block_of w) (line_at l i) l
     hit_seen_lem = seen_held c (block_of w) l i e
 
@@ -275,7 +274,7 @@ module _ (c : ℕ) (op : Op) (w : WordNo) (l : Lane) (z : LaneSized l) (b : c �
     hit_case t =
         let long : c ≤ length l.lines = let n = z.lines in omega arith in
         record {
-          answer = ap (λ (x : Seen). Value (value_done op w x.words)) (sym hit_seen_lem);
+          answer = ap (λ (x : Seen). (Ok (Value (value_done op w x.words)))) (sym hit_seen_lem);
           copy = ap (λ (x : Seen). held x.line) hit_seen_lem ∙ held_line (line_at l i).private;
           able = ap (λ (x : Seen). is_load op || dirty x.line) hit_seen_lem ∙ ap (λ (p : Bool). is_load op || p) (dirty_line (line_at l i).private) ∙ t;
           here = complete_here (used_of c i l.order) c l long u i (line_at l i) op w hit_below hit_valid.0 hit_alone (block_of w) hit_valid.1 ∙ ap (hit_seen op w) (sym hit_seen_lem);
@@ -306,7 +305,7 @@ module _ (c : ℕ) (op : Op) (w : WordNo) (l : Lane) (z : LaneSized l) (b : c �
     at_case = on (is_load op || (line_at l i).private) (λ t. rw t (Hits (hit_case t))) (λ t. rw t (Excludes (exclude_case t)))
 
   -- Search finds nothing
-  module _ (e : search_of l c (block_of w) ≡ Nothing) where
+  module _ (e : search_of l c (block_of w) ≡ None) where
     idle : l.waiting ≡ Idle
     idle = admits.miss e
 
@@ -344,19 +343,19 @@ module _ (c : ℕ) (op : Op) (w : WordNo) (l : Lane) (z : LaneSized l) (b : c �
     oldest_case : (i : LineNo) → i.0 < c → (line_at l i).valid ≡ true → BeginCase c op w l (evict capacity i op w l)
     unfolding evict
     oldest_case i h v =
-        pick (BeginCase c op w l) (push_return capacity l.returns (eject_of (line_at l i))).full (refuse_lane QueueFull l) (waits (read_of op) op w (evicted i l))
+        pick (BeginCase c op w l) (full_at capacity l.returns.len) (refuse_lane QueueFull l) (waits (read_of op) op w (evicted i l))
         (λ t. Refuses (record { reason = QueueFull; answer = refl; same = refl }))
         (λ t. Evicts (evict_case i h v (push_room l.returns (eject_of (line_at l i)) t)))
 
-    miss_case : (place_at l.order 0).0 < c → (f : Found) → vacant_of l c ≡ f → BeginCase c op w l (miss_with capacity f op w l)
-    miss_case h (At i) q = Reads read_case
-    miss_case h Nothing q = oldest_case (place_at l.order 0) h (all_valid l c q (place_at l.order 0).0 h)
+    miss_case : (place_at l.order 0).0 < c → (f : Option LineNo) → vacant_of l c ≡ f → BeginCase c op w l (miss_with capacity f op w l)
+    miss_case h (Some i) q = Reads read_case
+    miss_case h None q = oldest_case (place_at l.order 0) h (all_valid l c q (place_at l.order 0).0 h)
 
 -- the lane's part of begin
 pub begin_case : (c : ℕ) (op : Op) (w : WordNo) (l : Lane) → LaneSized l → c ≤ 8 → Unique c l → (place_at l.order 0).0 < c → Admitted c op w l → BeginCase c op w l (begin_lane capacity c op w l)
 unfolding begin_lane miss
 begin_case c op w l z b u h admits = go (search_of l c (block_of w)) refl
   where
-    go : (f : Found) → search_of l c (block_of w) ≡ f → BeginCase c op w l (begin_at capacity f c op w l)
-    go (At i) e = at_case c op w l z b u admits i e
-    go Nothing e = miss_case c op w l z b u admits e h (vacant_of l c) refl
+    go : (f : Option LineNo) → search_of l c (block_of w) ≡ f → BeginCase c op w l (begin_at capacity f c op w l)
+    go (Some i) e = at_case c op w l z b u admits i e
+    go None e = miss_case c op w l z b u admits e h (vacant_of l c) refl

@@ -15,28 +15,24 @@ use Rattle.words.specs.Units.{block_of}
 use Rattle.words.specs.Lines.{holds_of, invalid, filled_line}
 use Rattle.words.specs.Operations.{is_load}
 use Rattle.words.proofs.Folds.{pick}
-use Rattle.queues.specs.declared.ReturnMessage.{ReturnMessage}
+use Rattle.queues.specs.Messages.{ReturnMessage}
 use Rattle.queues.specs.declared.ReturnKind.TheVariants.{Updated, PurgedWords, Gone}
-use Rattle.queues.specs.declared.DownMessage.{DownMessage}
+use Rattle.queues.specs.Messages.{DownMessage}
 use Rattle.queues.specs.declared.DownKind.{DownKind}
 use Rattle.queues.specs.declared.DownKind.TheVariants.{Update, Purge, Grant, BareGrant}
-use Rattle.queues.specs.declared.DownQueue.{DownQueue}
-use Rattle.queues.specs.Queues.{capacity, empty_at, head_down, take_down, push_return}
-use Rattle.queues.specs.Messages.{bare_return, words_return}
+use Rattle.queues.specs.Queues.{DownQueue, full_at}
+use Rattle.queues.specs.Queues.{capacity, empty_at, head_down, after_take, after_push, full_at}
+use Rattle.queues.specs.Messages.{bare_message, words_message}
 use Rattle.lanes.specs.declared.Lane.{Lane}
 use Rattle.lanes.specs.declared.Operation.{Operation}
 use Rattle.lanes.specs.declared.Waiting.{Waiting}
 use Rattle.lanes.specs.declared.Waiting.TheVariants.{Idle, Unserved, Served}
-use Rattle.lanes.specs.declared.Found.{Found}
-use Rattle.lanes.specs.declared.Found.TheVariants.{At, Nothing}
 use Rattle.lanes.specs.Search.{line_at, search_of, vacant_of}
 use Rattle.lanes.specs.UseOrder.{Insertion}
 use Rattle.lanes.specs.Lanes.{with_downs, with_lines, with_returns}
 use Rattle.answers.specs.declared.Refusal.{Refusal}
 use Rattle.answers.specs.declared.Refusal.TheVariants.{NothingPending, QueueFull, Unexpected}
-use Rattle.machine.specs.declared.LaneStep.{LaneStep}
-use Rattle.machine.specs.declared.Ready.{Ready}
-use Rattle.machine.specs.declared.Ready.TheVariants.{Go, No}
+use Rattle.machine.specs.Machine.Parts.{LaneStep}
 use Rattle.machine.specs.declared.LaneAnswer.TheVariants.{Value, Stepped}
 use Rattle.machine.specs.Machine.Change.{refuse_lane}
 use Rattle.machine.specs.Machine.Begin.{complete_with}
@@ -50,13 +46,14 @@ use Rattle.machine.proofs.Projection.Queued.{queued_returns, queued_downs, take_
 use Rattle.machine.proofs.Laws.Lines.{holds_valid, valid_holds, invalid_holds, other_holds}
 use Rattle.machine.proofs.Projection.Searches.{Unique, Changed, set_changed, Alone, replace_alone, fill_alone, SameLine, unique_changed, changed_found, changed_gone, changed_other, found_holds, vacant_invalid}
 use Rattle.machine.proofs.Projection.SeenBegin.{held_line, seen_held, seen_none, seen_same, waiting_here, waiting_other, push_room, returns_here, returns_other, complete_unique, complete_here, complete_others, RefusedCase}
+use Rattle.std.specs.Prelude.{Option, Some, None, Result, Ok, Err}
 
 -- the block of the head of a lane's down queue, and the queue after it has left
 abbrev pub head_block : Lane → BlockNo
 head_block l = (head_down l.downs).block
 
 abbrev pub after_head : Lane → DownQueue
-after_head l = (take_down l.downs).queue
+after_head l = (after_take l.downs)
 
 -- what is said of a message taken from the down queue, whatever it is: the messages about its block after it, and that no other block sees a change
 pub record Taken (c : ℕ) (y : DownKind) (l : Lane) (r : LaneStep) : Type 0 where
@@ -69,7 +66,7 @@ pub record Taken (c : ℕ) (y : DownKind) (l : Lane) (r : LaneStep) : Type 0 whe
 -- an order is taken: f says what the block sees after it
 pub record OrderCase (c : ℕ) (y : DownKind) (f : Status → BlockNo → List DownMessage → Seen → Seen) (l : Lane) (r : LaneStep) : Type 0 where
   pub taken : Taken c y l r
-  pub answer : r.answer ≡ Stepped
+  pub answer : r.answer ≡ Ok Stepped
   pub here : seen c (head_block l) r.lane ≡ f (seen c (head_block l) l).line (head_block l) taken.rest (seen c (head_block l) l)
   pub waiting : r.lane.waiting ≡ l.waiting
 
@@ -80,7 +77,7 @@ pub record GrantCase (c : ℕ) (y : DownKind) (ws : List ℕ) (l : Lane) (r : La
   pub served : l.waiting ≡ Served operation
   pub block : (block_of operation.word).0 ≡ (head_block l).0
   pub before : (seen c (head_block l) l).waiting ≡ Served operation
-  pub answer : r.answer ≡ Value (value_done operation.op operation.word ws)
+  pub answer : r.answer ≡ Ok (Value (value_done operation.op operation.word ws))
   pub here : seen c (head_block l) r.lane ≡ grant_seen operation ws taken.rest (seen c (head_block l) l)
   pub waiting : r.lane.waiting ≡ Idle
 
@@ -94,22 +91,22 @@ pub data DeliverCase (c : ℕ) (l : Lane) (r : LaneStep) : Type 0 where
 -- an order's move, on a line x and on none
 module _ (s : Seen) (a : BlockNo) (rest : List DownMessage) where
   update_held : (x : Line) → s.line ≡ cond x.private Modified Shared → s.words ≡ x.words →
-      answer_seen Shared x.words (words_return Updated a x.words) rest s ≡ update_seen s.line a rest s
+      answer_seen Shared x.words (words_message Updated a x.words) rest s ≡ update_seen s.line a rest s
   update_held x e w =
-      ap (λ (ws : List ℕ). answer_seen Shared ws (words_return Updated a ws) rest s) (sym w) ∙
+      ap (λ (ws : List ℕ). answer_seen Shared ws (words_message Updated a ws) rest s) (sym w) ∙
       on x.private (λ p. ap (λ (t : Status). update_seen t a rest s) (sym (rw p at e))) (λ p. ap (λ (t : Status). update_seen t a rest s) (sym (rw p at e)))
 
   purge_held : (x : Line) → s.line ≡ cond x.private Modified Shared → s.words ≡ x.words → answer_seen Invalid [] (purged_of a x) rest s ≡ purge_seen s.line a rest s
   purge_held x e w =
       on x.private
-      (λ p. rw p (ap (λ (ws : List ℕ). answer_seen Invalid [] (words_return PurgedWords a ws) rest s) (sym w) ∙ ap (λ (t : Status). purge_seen t a rest s) (sym (rw p at e))))
+      (λ p. rw p (ap (λ (ws : List ℕ). answer_seen Invalid [] (words_message PurgedWords a ws) rest s) (sym w) ∙ ap (λ (t : Status). purge_seen t a rest s) (sym (rw p at e))))
       (λ p. rw p (ap (λ (t : Status). purge_seen t a rest s) (sym (rw p at e))))
 
-  update_none : s.line ≡ Invalid → s.words ≡ [] → answer_seen Invalid [] (bare_return Gone a) rest s ≡ update_seen s.line a rest s
-  update_none e w = ap (λ (ws : List ℕ). answer_seen Invalid ws (bare_return Gone a) rest s) (sym w) ∙ ap (λ (t : Status). update_seen t a rest s) (sym e)
+  update_none : s.line ≡ Invalid → s.words ≡ [] → answer_seen Invalid [] (bare_message Gone a) rest s ≡ update_seen s.line a rest s
+  update_none e w = ap (λ (ws : List ℕ). answer_seen Invalid ws (bare_message Gone a) rest s) (sym w) ∙ ap (λ (t : Status). update_seen t a rest s) (sym e)
 
-  purge_none : s.line ≡ Invalid → s.words ≡ [] → answer_seen Invalid [] (bare_return Gone a) rest s ≡ purge_seen s.line a rest s
-  purge_none e w = ap (λ (ws : List ℕ). answer_seen Invalid ws (bare_return Gone a) rest s) (sym w) ∙ ap (λ (t : Status). purge_seen t a rest s) (sym e)
+  purge_none : s.line ≡ Invalid → s.words ≡ [] → answer_seen Invalid [] (bare_message Gone a) rest s ≡ purge_seen s.line a rest s
+  purge_none e w = ap (λ (ws : List ℕ). answer_seen Invalid ws (bare_message Gone a) rest s) (sym w) ∙ ap (λ (t : Status). purge_seen t a rest s) (sym e)
 
 -- PURGED is about the block
 purged_block : (a : BlockNo) (x : Line) → (purged_of a x).block.0 ≡ a.0
@@ -122,7 +119,7 @@ claimed_line false = refl
 
 -- the lane with other lines, its head taken and an answer sent
 abbrev with_answer : List Line → ReturnMessage → Lane → Lane
-with_answer ls m l = with_returns (push_return capacity l.returns m).queue (with_downs (after_head l) (with_lines ls l))
+with_answer ls m l = with_returns (after_push capacity l.returns m) (with_downs (after_head l) (with_lines ls l))
 
 -- .. its lines changed for the head's block alone, which then has status t and the words ws
 record Relined (c : ℕ) (ls : List Line) (m : ReturnMessage) (t : Status) (ws : List ℕ) (l : Lane) : Type 0 where
@@ -133,12 +130,12 @@ record Relined (c : ℕ) (ls : List Line) (m : ReturnMessage) (t : Status) (ws :
 
 module _ (c : ℕ) (l : Lane) (z : LaneSized l) (b : c ≤ 8) (u : Unique c l) (m : ReturnMessage) where
   -- the block is not held: no line changes
-  untouched : search_of l c (head_block l) ≡ Nothing → Relined c l.lines m Invalid [] l
+  untouched : search_of l c (head_block l) ≡ None → Relined c l.lines m Invalid [] l
   untouched e =
       let s = seen_none c (head_block l) (with_answer l.lines m l) e in
       record { same = λ a n. record { line = refl; words = refl }; unique = u; line = ap (λ (x : Seen). x.line) s; words = ap (λ (x : Seen). x.words) s }
 
-  module _ (i : LineNo) (e : search_of l c (head_block l) ≡ At i) where
+  module _ (i : LineNo) (e : search_of l c (head_block l) ≡ Some i) where
     found : (i.0 < c) × (holds_of (line_at l i) (head_block l) ≡ true)
     found = found_holds c l (head_block l) i e
 
@@ -215,7 +212,7 @@ module _ (ins : Insertion) (c : ℕ) (l : Lane) (z : LaneSized l) (b : c ≤ 8) 
     -- the order is taken, given what f says for status t and the words ws after it
     order_case : (y : DownKind) (f : Status → BlockNo → List DownMessage → Seen → Seen) (t : Status) (ws : List ℕ) → (head_down l.downs).kind ≡ y → Relined c ls m t ws l →
         answer_seen t ws m (left (head_block l)) (seen c (head_block l) l) ≡ f (seen c (head_block l) l).line (head_block l) (left (head_block l)) (seen c (head_block l) l) →
-        OrderCase c y f l (record { answer = Stepped; lane = with_answer ls m l })
+        OrderCase c y f l (record { answer = Ok Stepped; lane = with_answer ls m l })
     order_case y f t ws q x p =
         record {
           taken = record { kind = q; rest = left (head_block l); head = downs_head; others = λ a n. answer_others a n (x.same a n); unique = x.unique };
@@ -226,43 +223,43 @@ module _ (ins : Insertion) (c : ℕ) (l : Lane) (z : LaneSized l) (b : c ≤ 8) 
         }
 
   -- 12, or the answer is sent
-  reply_rule : (ls : List Line) (m : ReturnMessage) → (l.returns.len < capacity → DeliverCase c l (record { answer = Stepped; lane = with_answer ls m l })) →
+  reply_rule : (ls : List Line) (m : ReturnMessage) → (l.returns.len < capacity → DeliverCase c l (record { answer = Ok Stepped; lane = with_answer ls m l })) →
       DeliverCase c l (or_as_before l (reply capacity m (with_downs (after_head l) (with_lines ls l))))
   unfolding reply
   reply_rule ls m next =
-      pick (λ (r : LaneStep). DeliverCase c l (or_as_before l r)) (push_return capacity l.returns m).full (refuse_lane QueueFull _) (record { answer = Stepped; lane = with_answer ls m l })
+      pick (λ (r : LaneStep). DeliverCase c l (or_as_before l r)) (full_at capacity l.returns.len) (refuse_lane QueueFull _) (record { answer = Ok Stepped; lane = with_answer ls m l })
       (λ t. Refuses (record { reason = QueueFull; answer = refl; same = refl })) (λ t. next (push_room l.returns m t))
 
   -- the line found, and none found, as the head's block sees them
-  at_line : (i : LineNo) → search_of l c (head_block l) ≡ At i → ((seen c (head_block l) l).line ≡ cond (line_at l i).private Modified Shared) × ((seen c (head_block l) l).words ≡ (line_at l i).words)
+  at_line : (i : LineNo) → search_of l c (head_block l) ≡ Some i → ((seen c (head_block l) l).line ≡ cond (line_at l i).private Modified Shared) × ((seen c (head_block l) l).words ≡ (line_at l i).words)
   at_line i e = let s = seen_held c (head_block l) l i e in (ap (λ (x : Seen). x.line) s, ap (λ (x : Seen). x.words) s)
 
-  no_line : search_of l c (head_block l) ≡ Nothing → ((seen c (head_block l) l).line ≡ Invalid) × ((seen c (head_block l) l).words ≡ [])
+  no_line : search_of l c (head_block l) ≡ None → ((seen c (head_block l) l).line ≡ Invalid) × ((seen c (head_block l) l).words ≡ [])
   no_line e = let s = seen_none c (head_block l) l e in (ap (λ (x : Seen). x.line) s, ap (λ (x : Seen). x.words) s)
 
-  update_case : (head_down l.downs).kind ≡ Update → (f : Found) → search_of l c (head_block l) ≡ f → DeliverCase c l (or_as_before l (update_at capacity f (head_block l) (with_downs (after_head l) l)))
-  update_case q (At i) e =
+  update_case : (head_down l.downs).kind ≡ Update → (f : Option LineNo) → search_of l c (head_block l) ≡ f → DeliverCase c l (or_as_before l (update_at capacity f (head_block l) (with_downs (after_head l) l)))
+  update_case q (Some i) e =
       let x = line_at l i in
-      let m = words_return Updated (head_block l) x.words in
+      let m = words_message Updated (head_block l) x.words in
       let v = found_valid c l z b u m i e in
       reply_rule (set l.lines i.0 (shared x)) m
       (λ room. Updates (order_case _ m refl room Update update_seen Shared x.words q (replaced c l z b u m i e (shared x) v.0 v.1)
       (update_held (seen c (head_block l) l) (head_block l) (left (head_block l)) x (at_line i e).0 (at_line i e).1)))
-  update_case q Nothing e =
-      let m = bare_return Gone (head_block l) in
+  update_case q None e =
+      let m = bare_message Gone (head_block l) in
       reply_rule l.lines m
       (λ room. Updates (order_case l.lines m refl room Update update_seen Invalid [] q (untouched c l z b u m e)
       (update_none (seen c (head_block l) l) (head_block l) (left (head_block l)) (no_line e).0 (no_line e).1)))
 
-  purge_case : (head_down l.downs).kind ≡ Purge → (f : Found) → search_of l c (head_block l) ≡ f → DeliverCase c l (or_as_before l (purge_at capacity f (head_block l) (with_downs (after_head l) l)))
-  purge_case q (At i) e =
+  purge_case : (head_down l.downs).kind ≡ Purge → (f : Option LineNo) → search_of l c (head_block l) ≡ f → DeliverCase c l (or_as_before l (purge_at capacity f (head_block l) (with_downs (after_head l) l)))
+  purge_case q (Some i) e =
       let x = line_at l i in
       let m = purged_of (head_block l) x in
       reply_rule (set l.lines i.0 (invalid x)) m
       (λ room. Purges (order_case _ m (purged_block (head_block l) x) room Purge purge_seen Invalid [] q (dropped c l z b u m i e)
       (purge_held (seen c (head_block l) l) (head_block l) (left (head_block l)) x (at_line i e).0 (at_line i e).1)))
-  purge_case q Nothing e =
-      let m = bare_return Gone (head_block l) in
+  purge_case q None e =
+      let m = bare_message Gone (head_block l) in
       reply_rule l.lines m
       (λ room. Purges (order_case l.lines m refl room Purge purge_seen Invalid [] q (untouched c l z b u m e)
       (purge_none (seen c (head_block l) l) (head_block l) (left (head_block l)) (no_line e).0 (no_line e).1)))
@@ -314,51 +311,51 @@ module _ (ins : Insertion) (c : ℕ) (l : Lane) (z : LaneSized l) (b : c ≤ 8) 
             served = t;
             block = n;
             before = served_seen;
-            answer = ap (λ (m : List ℕ). Value (value_done o.op o.word m)) r;
+            answer = ap (λ (m : List ℕ). (Ok (Value (value_done o.op o.word m)))) r;
             here = grant_here ∙ ap (λ (m : List ℕ). grant_seen o m (left (head_block l)) (seen c (head_block l) l)) r;
             waiting = refl;
           }
 
-    fill_case : (head_down l.downs).kind ≡ Grant → search_of l c (head_block l) ≡ Nothing → (f : Found) → vacant_of l c ≡ f →
+    fill_case : (head_down l.downs).kind ≡ Grant → search_of l c (head_block l) ≡ None → (f : Option LineNo) → vacant_of l c ≡ f →
         DeliverCase c l (or_as_before l (fill_at ins f c (head_down l.downs) o (with_downs (after_head l) l)))
-    fill_case q e (At i) r =
+    fill_case q e (Some i) r =
         let x : Line = filled_line (head_block l) (head_down l.downs).words in
         let p = vacant_invalid c l i r in
         Grants (no_line e).0 (grant_case _ i x p.0 refl refl (fill_alone c i x l e) Grant x.words q refl (λ a _. invalid_holds (line_at l i) a p.1))
-    fill_case q e Nothing r = Refuses (record { reason = Unexpected; answer = refl; same = refl })
+    fill_case q e None r = Refuses (record { reason = Unexpected; answer = refl; same = refl })
 
-    words_case : (head_down l.downs).kind ≡ Grant → (f : Found) → search_of l c (head_block l) ≡ f →
+    words_case : (head_down l.downs).kind ≡ Grant → (f : Option LineNo) → search_of l c (head_block l) ≡ f →
         DeliverCase c l (or_as_before l (grant_at ins f c (head_down l.downs) o (with_downs (after_head l) l)))
-    words_case q (At i) e = Refuses (record { reason = Unexpected; answer = refl; same = refl })
-    words_case q Nothing e = fill_case q e (vacant_of l c) refl
+    words_case q (Some i) e = Refuses (record { reason = Unexpected; answer = refl; same = refl })
+    words_case q None e = fill_case q e (vacant_of l c) refl
 
-    bare_case : (head_down l.downs).kind ≡ BareGrant → (f : Found) → search_of l c (head_block l) ≡ f →
+    bare_case : (head_down l.downs).kind ≡ BareGrant → (f : Option LineNo) → search_of l c (head_block l) ≡ f →
         DeliverCase c l (or_as_before l (bare_at f c o (with_downs (after_head l) l)))
-    bare_case q (At i) e =
+    bare_case q (Some i) e =
         let x = line_at l i in
         let h = found_holds c l (head_block l) i e in
         let v = holds_valid x (head_block l) h.1 in
         BareGrants (ap held (at_line i e).0 ∙ held_line x.private)
         (grant_case _ i x h.0 v.0 v.1 (replace_alone c i x l u h.0 v.0 refl) BareGrant (seen c (head_block l) l).words q (sym (at_line i e).1)
         (λ a m. other_holds x a (λ p. m (sym p ∙ v.1))))
-    bare_case q Nothing e = Refuses (record { reason = Unexpected; answer = refl; same = refl })
+    bare_case q None e = Refuses (record { reason = Unexpected; answer = refl; same = refl })
 
   -- a grant, by what waits
-  served_case : (P : Ready → Type 0) → ((r : Refusal) → P (No r)) → ((o : Operation) → l.waiting ≡ Served o → (block_of o.word).0 ≡ (head_block l).0 → P (Go o)) →
+  served_case : (P : Result Operation Refusal → Type 0) → ((r : Refusal) → P (Err r)) → ((o : Operation) → l.waiting ≡ Served o → (block_of o.word).0 ≡ (head_block l).0 → P (Ok o)) →
       (x : Waiting) → l.waiting ≡ x → P (served_on x (head_block l))
   served_case P refused go Idle e = refused Unexpected
   served_case P refused go (Unserved o) e = refused Unexpected
   served_case P refused go (Served o) e =
-      pick P (eqb (block_of o.word).0 (head_block l).0) (Go o) (No Unexpected) (λ q. go o e (eqb-true _ _ q)) (λ _. refused Unexpected)
+      pick P (eqb (block_of o.word).0 (head_block l).0) (Ok o) (Err Unexpected) (λ q. go o e (eqb-true _ _ q)) (λ _. refused Unexpected)
 
   kind_case : (y : DownKind) → (head_down l.downs).kind ≡ y → DeliverCase c l (or_as_before l (deliver_kind capacity ins y c (head_down l.downs) (with_downs (after_head l) l)))
   kind_case Update q = update_case q (search_of l c (head_block l)) refl
   kind_case Purge q = purge_case q (search_of l c (head_block l)) refl
   kind_case Grant q =
-      served_case (λ (r : Ready). DeliverCase c l (or_as_before l (grant_to ins r c (head_down l.downs) (with_downs (after_head l) l))))
+      served_case (λ (r : Result Operation Refusal). DeliverCase c l (or_as_before l (grant_to ins r c (head_down l.downs) (with_downs (after_head l) l))))
       (λ r. Refuses (record { reason = r; answer = refl; same = refl })) (λ o t n. words_case o t n q (search_of l c (head_block l)) refl) l.waiting refl
   kind_case BareGrant q =
-      served_case (λ (r : Ready). DeliverCase c l (or_as_before l (bare_to r c (head_down l.downs) (with_downs (after_head l) l))))
+      served_case (λ (r : Result Operation Refusal). DeliverCase c l (or_as_before l (bare_to r c (head_down l.downs) (with_downs (after_head l) l))))
       (λ r. Refuses (record { reason = r; answer = refl; same = refl })) (λ o t n. bare_case o t n q (search_of l c (head_block l)) refl) l.waiting refl
 
 -- the lane's part of deliver

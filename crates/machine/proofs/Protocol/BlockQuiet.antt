@@ -5,13 +5,13 @@ use mathlib.Core.Bool.{false}
 use mathlib.Core.List.{List, []}
 use lib.ListN.{length, get_or}
 use Rattle.lanes.specs.declared.Waiting.TheVariants.{Idle}
-use Rattle.store.specs.declared.Lookup.TheVariants.{Nothing}
 use Rattle.store.specs.Control.{awaited_of}
 use Rattle.machine.proofs.Bounds.KeepsLane.{clash}
 use Rattle.machine.proofs.Laws.Sums.{zero_sum}
 use Rattle.machine.proofs.Protocol.BlockState.{Status, Invalid, held, Seen, BlockState}
 use Rattle.machine.proofs.Protocol.Invariant.{Chain, Bears, owed, Inv}
 use Rattle.machine.proofs.Protocol.Directories.{blank_directory}
+use Rattle.std.specs.Prelude.{None}
 
 -- two empty queues: the view is the line
 pub rest_chain : (v : Status) (l : Seen) → Chain v l → l.returns ≡ [] → l.downs ≡ [] → v ≡ l.line
@@ -39,7 +39,7 @@ blank_owed l h = rw (h.returns, h.downs)
 
 -- the opening
 pub blank_inv : (b : BlockState) (f : List ℕ) → ((k : ℕ) → Blank (b.lane k)) → length b.block.present ≡ 8 →
-    ((k : ℕ) → get_or b.block.present k false ≡ false) → b.block.modified ≡ false → b.block.words ≡ f → b.service ≡ Nothing →
+    ((k : ℕ) → get_or b.block.present k false ≡ false) → b.block.modified ≡ false → b.block.words ≡ f → b.service ≡ None →
     Inv (λ k. Invalid) b f
 blank_inv b f h l p m w s =
     record {

@@ -12,20 +12,20 @@ use Rattle.words.specs.declared.Op.{Op}
 use Rattle.words.specs.Lines.{no_line}
 use Rattle.words.specs.Units.{block_of, place_of}
 use Rattle.words.specs.Operations.{apply_of}
-use Rattle.queues.specs.declared.ReturnMessage.{ReturnMessage}
-use Rattle.queues.specs.declared.DownMessage.{DownMessage}
+use Rattle.queues.specs.Messages.{ReturnMessage}
+use Rattle.queues.specs.Messages.{DownMessage}
 use Rattle.queues.specs.Queues.{messages}
 use Rattle.lanes.specs.declared.Lane.{Lane}
 use Rattle.lanes.specs.declared.Waiting.{Waiting}
 use Rattle.lanes.specs.declared.Waiting.TheVariants.{Idle, Unserved, Served}
-use Rattle.lanes.specs.declared.Found.{Found}
-use Rattle.lanes.specs.declared.Found.TheVariants.{At, Nothing}
 use Rattle.lanes.specs.Search.{search_of}
 use Rattle.store.specs.declared.Store.{Store}
 use Rattle.store.specs.declared.Block.{Block}
-use Rattle.store.specs.declared.Lookup.{Lookup}
 use Rattle.store.specs.Control.{service_of}
 use Rattle.store.specs.Stores.{lane_at, block_at}
+use Rattle.std.specs.Prelude.{Option, Some, None}
+use Rattle.words.specs.declared.LineNo.{LineNo}
+use Rattle.store.specs.declared.Service.{Service}
 
 -- what a lane has of the block (the field's I, S and M)
 pub data Status : Type 0 where
@@ -57,7 +57,7 @@ pub record Seen : Type 0 where
 pub record BlockState : Type 0 where
   pub lane : ℕ → Seen
   pub block : Block
-  pub service : Lookup
+  pub service : Option Service
 
 -- the elements that pass a test, in order
 abbrev pub keep_if : {A : Type 0} → (A → Bool) → List A → List A
@@ -72,13 +72,13 @@ abbrev pub down_about : BlockNo → DownMessage → Bool
 down_about a x = eqb x.block.0 a.0
 
 -- the line that Search finds among lines, and its words
-abbrev pub status_at : Found → List Line → Status
-status_at (At i) ls = cond (get_or ls i.0 no_line).private Modified Shared
-status_at Nothing ls = Invalid
+abbrev pub status_at : Option LineNo → List Line → Status
+status_at (Some i) ls = cond (get_or ls i.0 no_line).private Modified Shared
+status_at None ls = Invalid
 
-abbrev pub words_at : Found → List Line → List ℕ
-words_at (At i) ls = (get_or ls i.0 no_line).words
-words_at Nothing ls = []
+abbrev pub words_at : Option LineNo → List Line → List ℕ
+words_at (Some i) ls = (get_or ls i.0 no_line).words
+words_at None ls = []
 
 -- the operation, where it is on the block
 abbrev pub waiting_on : BlockNo → Waiting → Waiting

@@ -9,10 +9,10 @@ use lib.Dec.{eqb}
 use lib.ListN.{length, get_or}
 use Rattle.words.specs.Folds.{sum_to}
 use Rattle.words.specs.Operations.{is_load}
-use Rattle.queues.specs.declared.ReturnMessage.{ReturnMessage}
+use Rattle.queues.specs.Messages.{ReturnMessage}
 use Rattle.queues.specs.declared.ReturnKind.{ReturnKind}
 use Rattle.queues.specs.declared.ReturnKind.TheVariants.{Eject, WriteEject, Updated, Purged, PurgedWords, Gone}
-use Rattle.queues.specs.declared.DownMessage.{DownMessage}
+use Rattle.queues.specs.Messages.{DownMessage}
 use Rattle.queues.specs.declared.DownKind.{DownKind}
 use Rattle.queues.specs.declared.DownKind.TheVariants.{Update, Purge, Grant, BareGrant}
 use Rattle.lanes.specs.declared.Command.{Command}
@@ -22,12 +22,11 @@ use Rattle.lanes.specs.declared.Waiting.{Waiting}
 use Rattle.lanes.specs.declared.Waiting.TheVariants.{Idle, Unserved, Served}
 use Rattle.store.specs.declared.Block.{Block}
 use Rattle.store.specs.declared.Service.{Service}
-use Rattle.store.specs.declared.Lookup.{Lookup}
-use Rattle.store.specs.declared.Lookup.TheVariants.{Of, Nothing}
 use Rattle.store.specs.Control.{awaited_of}
 use Rattle.machine.specs.Machine.Return.{is_answer}
 use Rattle.machine.specs.Machine.Settle.{is_order}
 use Rattle.machine.proofs.Protocol.BlockState.{Status, Invalid, Shared, Modified, held, dirty, Seen, BlockState}
+use Rattle.std.specs.Prelude.{Option, Some, None}
 
 -- a return message takes a status to the next one
 abbrev pub Fits : Status → ReturnKind → Status → Type 0
@@ -100,9 +99,9 @@ served_count (Unserved o) = 0
 served_count (Served o) = 1
 
 -- the service is lane k's
-abbrev pub serving : Lookup → ℕ → ℕ
-serving Nothing k = 0
-serving (Of s) k = cond (eqb s.lane.0 k) 1 0
+abbrev pub serving : Option Service → ℕ → ℕ
+serving None k = 0
+serving (Some s) k = cond (eqb s.lane.0 k) 1 0
 
 -- WAIT: the command of an operation fits the line
 abbrev pub CommandFits : Status → Command → Bool → Type 0
@@ -196,9 +195,9 @@ pub record ServiceFits (v : ℕ → Status) (lane : ℕ → Seen) (s : Service) 
   pub no_update : exclusive s.command ≡ true → (j : ℕ) → some_update (lane j).downs ≡ false
   pub no_updated : exclusive s.command ≡ true → (j : ℕ) → some_updated (lane j).returns ≡ false
 
-abbrev pub ServedWell : (ℕ → Status) → (ℕ → Seen) → Lookup → Type 0
-ServedWell v lane Nothing = Unit {0}
-ServedWell v lane (Of s) = ServiceFits v lane s
+abbrev pub ServedWell : (ℕ → Status) → (ℕ → Seen) → Option Service → Type 0
+ServedWell v lane None = Unit {0}
+ServedWell v lane (Some s) = ServiceFits v lane s
 
 -- memory's view of lane k, from the flags
 abbrev pub view_of : Block → ℕ → Status

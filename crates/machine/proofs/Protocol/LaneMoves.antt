@@ -13,10 +13,8 @@ use Rattle.words.specs.declared.Op.{Op}
 use Rattle.words.specs.Folds.{sum_to}
 use Rattle.words.specs.Units.{place_of}
 use Rattle.words.specs.Operations.{is_load}
-use Rattle.queues.specs.declared.DownMessage.{DownMessage}
+use Rattle.queues.specs.Messages.{DownMessage}
 use Rattle.store.specs.declared.Service.{Service}
-use Rattle.store.specs.declared.Lookup.{Lookup}
-use Rattle.store.specs.declared.Lookup.TheVariants.{Of, Nothing}
 use Rattle.machine.proofs.Bounds.KeepsLane.{clash}
 use Rattle.machine.proofs.Laws.Tests.{on}
 use Rattle.machine.proofs.Laws.Sets.{same?}
@@ -26,6 +24,7 @@ use Rattle.machine.proofs.Protocol.BlockState.{Status, Modified, held, dirty, Se
 use Rattle.machine.proofs.Protocol.Invariant.{Chain, owed, grant_count, serving, served_count, WaitFits, ReturnsBear, Bears, some_update, some_updated, ServiceFits, ServedWell, Inv}
 use Rattle.machine.proofs.Protocol.Moves.{put_lane}
 use Rattle.machine.proofs.Protocol.Chains.{idle, absent_bears}
+use Rattle.std.specs.Prelude.{Option, Some, None}
 
 -- the lane in service rests: what the service reads of it is as it was
 pub record Rests (l m : Seen) : Type 0 where
@@ -58,7 +57,7 @@ module _ (v : ℕ → Status) (b : BlockState) (g : List ℕ) (k : ℕ) (l : See
   owed_same = upd_cases (λ j m. owed m ≡ owed (b.lane j)) b.lane k l o.owes (λ j n. refl)
 
   -- the service fits the lanes after the move
-  service_keeps : (s : Service) → b.service ≡ Of s → ServiceFits v b.lane s → ServiceFits v (upd b.lane k l) s
+  service_keeps : (s : Service) → b.service ≡ Some s → ServiceFits v b.lane s → ServiceFits v (upd b.lane k l) s
   service_keeps s e h =
       record {
         below = h.below;
@@ -96,9 +95,9 @@ module _ (v : ℕ → Status) (b : BlockState) (g : List ℕ) (k : ℕ) (l : See
         service = go b.service refl i.service;
       }
     where
-      go : (x : Lookup) → b.service ≡ x → ServedWell v b.lane x → ServedWell v (upd b.lane k l) x
-      go Nothing e h = tt
-      go (Of s) e h = service_keeps s e h
+      go : (x : Option Service) → b.service ≡ x → ServedWell v b.lane x → ServedWell v (upd b.lane k l) x
+      go None e h = tt
+      go (Some s) e h = service_keeps s e h
 
 -- load changes no word
 pub load_done : (op : Op) (w : WordNo) (f : List ℕ) → is_load op ≡ true → words_done op w f ≡ f
@@ -138,6 +137,6 @@ module _ (v : ℕ → Status) (b : BlockState) (f : List ℕ) (k : ℕ) (i : Inv
   pub busy_rests : (m : DownMessage) (rest : List DownMessage) → (b.lane k).downs ≡ m ∷ rest → serving b.service k ≡ 0
   busy_rests m rest e = go b.service i.service
     where
-      go : (x : Lookup) → ServedWell v b.lane x → serving x k ≡ 0
-      go Nothing h = refl
-      go (Of s) h = elim (same? s.lane.0 k) [ inl q ↦ clash (cc (h.downs, e, q)) | inr n ↦ rw (ne_eqb s.lane.0 k n) ]
+      go : (x : Option Service) → ServedWell v b.lane x → serving x k ≡ 0
+      go None h = refl
+      go (Some s) h = elim (same? s.lane.0 k) [ inl q ↦ clash (cc (h.downs, e, q)) | inr n ↦ rw (ne_eqb s.lane.0 k n) ]

@@ -8,9 +8,9 @@ use Rattle.words.specs.declared.BlockNo.{BlockNo}
 use Rattle.words.specs.declared.WordNo.{WordNo}
 use Rattle.words.specs.declared.Op.{Op}
 use Rattle.words.specs.Operations.{is_load}
-use Rattle.queues.specs.declared.ReturnMessage.{ReturnMessage}
+use Rattle.queues.specs.Messages.{ReturnMessage}
 use Rattle.queues.specs.declared.ReturnKind.TheVariants.{Eject, WriteEject}
-use Rattle.queues.specs.Messages.{bare_return, words_return}
+use Rattle.queues.specs.Messages.{bare_message, words_message}
 use Rattle.lanes.specs.declared.Operation.{Operation}
 use Rattle.lanes.specs.declared.Waiting.TheVariants.{Idle, Unserved}
 use Rattle.machine.specs.Machine.Return.{is_answer}
@@ -32,7 +32,7 @@ dirty_modified Modified e = refl
 abbrev EjectionFits : Status → List ℕ → ReturnMessage → Type 0
 EjectionFits x ws m = Fits x m.kind Invalid × (is_answer m.kind ≡ false) × (is_updated m.kind ≡ false) × (bearing m.kind ≡ true → m.words ≡ ws)
 
-ejection_fits : (x : Status) (a : BlockNo) (ws : List ℕ) → held x ≡ true → EjectionFits x ws (cond (dirty x) (words_return WriteEject a ws) (bare_return Eject a))
+ejection_fits : (x : Status) (a : BlockNo) (ws : List ℕ) → held x ≡ true → EjectionFits x ws (cond (dirty x) (words_message WriteEject a ws) (bare_message Eject a))
 ejection_fits Invalid a ws h = clash cc
 ejection_fits Shared a ws h = ((refl, refl), refl, refl, λ q. clash cc)
 ejection_fits Modified a ws h = ((refl, refl), refl, refl, λ q. refl)

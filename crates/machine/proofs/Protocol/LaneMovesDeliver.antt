@@ -8,13 +8,13 @@ use native.Mathlib.Omega.{arith}
 use Rattle.words.specs.declared.BlockNo.{BlockNo}
 use Rattle.words.specs.Operations.{is_load}
 use Rattle.words.proofs.Folds.{or_left, or_right}
-use Rattle.queues.specs.declared.ReturnMessage.{ReturnMessage}
+use Rattle.queues.specs.Messages.{ReturnMessage}
 use Rattle.queues.specs.declared.ReturnKind.{ReturnKind}
 use Rattle.queues.specs.declared.ReturnKind.TheVariants.{Updated, Purged, PurgedWords, Gone}
-use Rattle.queues.specs.declared.DownMessage.{DownMessage}
+use Rattle.queues.specs.Messages.{DownMessage}
 use Rattle.queues.specs.declared.DownKind.{DownKind}
 use Rattle.queues.specs.declared.DownKind.TheVariants.{Update, Purge, Grant, BareGrant}
-use Rattle.queues.specs.Messages.{bare_return, words_return}
+use Rattle.queues.specs.Messages.{bare_message, words_message}
 use Rattle.lanes.specs.declared.Command.{Command}
 use Rattle.lanes.specs.declared.Command.TheVariants.{ReadShared, ReadExclusive, Exclude}
 use Rattle.lanes.specs.declared.Operation.{Operation}
@@ -97,7 +97,7 @@ module _ (v : ℕ → Status) (b : BlockState) (f : List ℕ) (k : ℕ) where
           }
 
   -- GONE, to any order
-  gone_fits : (n : DownKind) (a : BlockNo) (ws : List ℕ) → (b.lane k).line ≡ Invalid → AnswerFits f n (b.lane k).line Invalid ws (bare_return Gone a)
+  gone_fits : (n : DownKind) (a : BlockNo) (ws : List ℕ) → (b.lane k).line ≡ Invalid → AnswerFits f n (b.lane k).line Invalid ws (bare_message Gone a)
   gone_fits n a ws e = record { fits = (e, refl); answer = refl; words = λ z. clash cc; line = λ z. clash cc; updated = λ z. refl }
 
   -- UPDATE taken
@@ -105,14 +105,14 @@ module _ (v : ℕ → Status) (b : BlockState) (f : List ℕ) (k : ℕ) where
       Inv v (put_lane k (update_seen (b.lane k).line a rest (b.lane k)) b) f
   update_keeps a m rest i e q = go (b.lane k).line refl
     where
-      fits : held (b.lane k).line ≡ true → AnswerFits f m.kind (b.lane k).line Shared (b.lane k).words (words_return Updated a (b.lane k).words)
+      fits : held (b.lane k).line ≡ true → AnswerFits f m.kind (b.lane k).line Shared (b.lane k).words (words_message Updated a (b.lane k).words)
       fits h =
           record { fits = (h, refl); answer = refl; words = λ z. (i.bears k).line h; line = λ z. (i.bears k).line h; updated = λ z. clash (cc (z, ap is_update q)) }
 
       go : (x : Status) → (b.lane k).line ≡ x → Inv v (put_lane k (update_seen x a rest (b.lane k)) b) f
-      go Invalid h = order_keeps m rest Invalid (b.lane k).words (bare_return Gone a) i e (ap is_order q) (gone_fits m.kind a (b.lane k).words h)
-      go Shared h = order_keeps m rest Shared (b.lane k).words (words_return Updated a (b.lane k).words) i e (ap is_order q) (fits (ap held h))
-      go Modified h = order_keeps m rest Shared (b.lane k).words (words_return Updated a (b.lane k).words) i e (ap is_order q) (fits (ap held h))
+      go Invalid h = order_keeps m rest Invalid (b.lane k).words (bare_message Gone a) i e (ap is_order q) (gone_fits m.kind a (b.lane k).words h)
+      go Shared h = order_keeps m rest Shared (b.lane k).words (words_message Updated a (b.lane k).words) i e (ap is_order q) (fits (ap held h))
+      go Modified h = order_keeps m rest Shared (b.lane k).words (words_message Updated a (b.lane k).words) i e (ap is_order q) (fits (ap held h))
 
   -- PURGE taken
   pub purge_keeps : (a : BlockNo) (m : DownMessage) (rest : List DownMessage) → Inv v b f → (b.lane k).downs ≡ m ∷ rest → m.kind ≡ Purge →
@@ -120,12 +120,12 @@ module _ (v : ℕ → Status) (b : BlockState) (f : List ℕ) (k : ℕ) where
   purge_keeps a m rest i e q = go (b.lane k).line refl
     where
       go : (x : Status) → (b.lane k).line ≡ x → Inv v (put_lane k (purge_seen x a rest (b.lane k)) b) f
-      go Invalid h = order_keeps m rest Invalid (b.lane k).words (bare_return Gone a) i e (ap is_order q) (gone_fits m.kind a (b.lane k).words h)
+      go Invalid h = order_keeps m rest Invalid (b.lane k).words (bare_message Gone a) i e (ap is_order q) (gone_fits m.kind a (b.lane k).words h)
       go Shared h =
-          order_keeps m rest Invalid [] (bare_return Purged a) i e (ap is_order q)
+          order_keeps m rest Invalid [] (bare_message Purged a) i e (ap is_order q)
           (record { fits = (h, refl); answer = refl; words = λ z. clash cc; line = λ z. clash cc; updated = λ z. refl })
       go Modified h =
-          order_keeps m rest Invalid [] (words_return PurgedWords a (b.lane k).words) i e (ap is_order q)
+          order_keeps m rest Invalid [] (words_message PurgedWords a (b.lane k).words) i e (ap is_order q)
           (record { fits = (h, refl); answer = refl; words = λ z. (i.bears k).line (ap held h); line = λ z. clash cc; updated = λ z. refl })
 
   -- a grant taken, with flat memory's words in the line

@@ -10,7 +10,7 @@ use native.Mathlib.Omega.{arith}
 use Rattle.words.specs.declared.LaneNo.{LaneNo}
 use Rattle.words.specs.Operations.{is_load}
 use Rattle.words.proofs.Folds.{pick}
-use Rattle.queues.specs.declared.DownMessage.{DownMessage}
+use Rattle.queues.specs.Messages.{DownMessage}
 use Rattle.queues.specs.declared.DownKind.TheVariants.{Grant, BareGrant}
 use Rattle.lanes.specs.declared.Command.{Command}
 use Rattle.lanes.specs.declared.Command.TheVariants.{ReadShared, ReadExclusive, Exclude}
@@ -18,7 +18,6 @@ use Rattle.lanes.specs.declared.Operation.{Operation}
 use Rattle.lanes.specs.declared.Waiting.TheVariants.{Served}
 use Rattle.store.specs.declared.Block.{Block}
 use Rattle.store.specs.declared.Service.{Service}
-use Rattle.store.specs.declared.Lookup.TheVariants.{Of, Nothing}
 use Rattle.store.specs.LaneSets.{nobody, only}
 use Rattle.store.specs.Control.{awaited_of}
 use Rattle.machine.specs.Machine.Serve.{closed_block, grant_of}
@@ -32,6 +31,7 @@ use Rattle.machine.proofs.Protocol.Moves.{post_seen, send_all, close_state}
 use Rattle.machine.proofs.Protocol.Directories.{nobody_none, not_held, close_directory, closed_words}
 use Rattle.machine.proofs.Protocol.BlockQuiet.{quiet_view}
 use Rattle.machine.proofs.Protocol.MemoryMoves.{LaneFits, PutFits, put_keeps, nothing_owed, post_owed, post_bears}
+use Rattle.std.specs.Prelude.{Some, None}
 
 -- what the command needs: nobody else has a PRIVATE copy, and where it is exclusive nobody has any
 covered_clean : (x : Command) (y : Status) → Covered x y → dirty y ≡ false
@@ -82,7 +82,7 @@ grant_owed b s l = post_owed (grant_of b s) l ∙ rw (grant_no_order b s) (omega
 -- the conjuncts of the lane that the grant goes to
 granted_fits : (y : Status) (f : List ℕ) (k : ℕ) (l : Seen) (o : Operation) (m : DownMessage) → l.returns ≡ [] → l.downs ≡ [] → l.waiting ≡ Served o →
     OperationFits l.line o → DueHead (Served o) l.line m.kind [] y → is_order m.kind ≡ false → (is_grant m.kind ≡ true → m.words ≡ f) →
-    Bears f l → LaneFits y Nothing f k (post_seen m l)
+    Bears f l → LaneFits y None f k (post_seen m l)
 granted_fits y f k l o m r d w c g n q h =
     record {
       chain = record { meet = y; sent = rw r refl; due = rw (d, w) g };
@@ -100,9 +100,9 @@ only_sends k m lane h = fun_ext (λ j. go j (same? j k.0))
     go j (inr n) = rw (get_or-set_other nobody k.0 j true false n, nobody_none j, ne_eqb j k.0 n)
 
 -- what the close owes
-closed_fits : (v : ℕ → Status) (b : BlockState) (f : List ℕ) (s : Service) → Inv v b f → b.service ≡ Of s → s.awaited ≡ 0 → ServiceFits v b.lane s →
+closed_fits : (v : ℕ → Status) (b : BlockState) (f : List ℕ) (s : Service) → Inv v b f → b.service ≡ Some s → s.awaited ≡ 0 → ServiceFits v b.lane s →
     PutFits v b f s.lane.0 (cond (exclusive s.command) Modified Shared) (post_seen (grant_of b.block s) (b.lane s.lane.0))
-    (closed_block s.command b.block s.lane) Nothing
+    (closed_block s.command b.block s.lane) None
 closed_fits v b f s i e a g =
     record {
       directory = close_directory v b.block s.lane s.command i.directory g.below cover (clean s.lane.0);
@@ -133,11 +133,11 @@ closed_fits v b f s i e a g =
     ]
 
 -- close
-pub close_keeps : (v : ℕ → Status) (b : BlockState) (f : List ℕ) (s : Service) → Inv v b f → b.service ≡ Of s → s.awaited ≡ 0 →
+pub close_keeps : (v : ℕ → Status) (b : BlockState) (f : List ℕ) (s : Service) → Inv v b f → b.service ≡ Some s → s.awaited ≡ 0 →
     (u : (ℕ → Status)) × Inv u (close_state s b) f
 close_keeps v b f s i e a =
     let h = i.service in
     let g : ServiceFits v b.lane s = rw e at h in (
       upd v s.lane.0 (cond (exclusive s.command) Modified Shared),
-      rw (only_sends s.lane (grant_of b.block s) b.lane g.below) (put_keeps v b f s.lane.0 _ _ _ Nothing i g.below (closed_fits v b f s i e a g)),
+      rw (only_sends s.lane (grant_of b.block s) b.lane g.below) (put_keeps v b f s.lane.0 _ _ _ None i g.below (closed_fits v b f s i e a g)),
     )

@@ -9,9 +9,8 @@ use borrow.Author.Tests.{eq-eqb, ne_eqb}
 use native.Mathlib.Omega.{arith}
 use Rattle.words.specs.Folds.{sum_to}
 use Rattle.words.proofs.Folds.{below?}
-use Rattle.queues.specs.declared.DownMessage.{DownMessage}
+use Rattle.queues.specs.Messages.{DownMessage}
 use Rattle.store.specs.declared.Block.{Block}
-use Rattle.store.specs.declared.Lookup.{Lookup}
 use Rattle.store.specs.Control.{awaited_of}
 use Rattle.machine.specs.Machine.Settle.{is_order}
 use Rattle.machine.proofs.Laws.Sets.{same?}
@@ -21,9 +20,11 @@ use Rattle.machine.proofs.Protocol.BlockState.{Status, Invalid, Modified, dirty,
 use Rattle.machine.proofs.Protocol.Invariant.{Chain, grant_count, serving, served_count, WaitFits, is_grant, DownsBear, Bears, answer_count, order_count, owed, ServedWell, Directory, Inv}
 use Rattle.machine.proofs.Protocol.Moves.{post_seen}
 use Rattle.machine.proofs.Laws.Updates.{upd_same, upd_other}
+use Rattle.std.specs.Prelude.{Option}
+use Rattle.store.specs.declared.Service.{Service}
 
 -- the conjuncts of lane k alone
-pub record LaneFits (v : Status) (x : Lookup) (f : List ℕ) (k : ℕ) (l : Seen) : Type 0 where
+pub record LaneFits (v : Status) (x : Option Service) (f : List ℕ) (k : ℕ) (l : Seen) : Type 0 where
   pub chain : Chain v l
   pub grant : grant_count l.downs + serving x k ≡ served_count l.waiting
   pub wait : WaitFits l.line l.waiting
@@ -33,11 +34,11 @@ pub lane_fits : (v : ℕ → Status) (b : BlockState) (f : List ℕ) → Inv v b
 lane_fits v b f i k = record { chain = i.chain k; grant = i.grant k; wait = i.wait k; bears = i.bears k }
 
 -- .. under another service that is as little or as much the lane's
-pub other_service : (v : Status) (x y : Lookup) (f : List ℕ) (k : ℕ) (l : Seen) → serving y k ≡ serving x k → LaneFits v x f k l → LaneFits v y f k l
+pub other_service : (v : Status) (x y : Option Service) (f : List ℕ) (k : ℕ) (l : Seen) → serving y k ≡ serving x k → LaneFits v x f k l → LaneFits v y f k l
 other_service v x y f k l e h = record { chain = h.chain; grant = rw e h.grant; wait = h.wait; bears = h.bears }
 
 -- what another view y of lane k, lane l, block c and service x owe
-pub record PutFits (v : ℕ → Status) (b : BlockState) (f : List ℕ) (k : ℕ) (y : Status) (l : Seen) (c : Block) (x : Lookup) : Type 0 where
+pub record PutFits (v : ℕ → Status) (b : BlockState) (f : List ℕ) (k : ℕ) (y : Status) (l : Seen) (c : Block) (x : Option Service) : Type 0 where
   pub directory : Directory (upd v k y) c
   pub here : LaneFits y x f k l
   pub others : (j : ℕ) → j ≢ k → serving x j ≡ serving b.service j
@@ -48,7 +49,7 @@ pub record PutFits (v : ℕ → Status) (b : BlockState) (f : List ℕ) (k : ℕ
   pub service : ServedWell (upd v k y) (upd b.lane k l) x
 
 -- every lane's conjuncts after it
-put_lanes : (v : ℕ → Status) (b : BlockState) (f : List ℕ) (k : ℕ) (y : Status) (l : Seen) (c : Block) (x : Lookup) → Inv v b f →
+put_lanes : (v : ℕ → Status) (b : BlockState) (f : List ℕ) (k : ℕ) (y : Status) (l : Seen) (c : Block) (x : Option Service) → Inv v b f →
     PutFits v b f k y l c x → (j : ℕ) → LaneFits (upd v k y j) x f j (upd b.lane k l j)
 put_lanes v b f k y l c x i p j = go (same? j k)
   where
@@ -69,7 +70,7 @@ put_sole v k y sole alone gone i j e n = go (same? i k) (same? j k)
     go (inr p) (inr q) = upd_other v k y j q ∙ sole i j (sym (upd_other v k y i p) ∙ e) n
 
 -- COUNT after it
-put_count : (b : BlockState) (k : ℕ) (l : Seen) (x : Lookup) → k < 8 → sum_to (λ j. owed (b.lane j)) 8 ≡ awaited_of b.service →
+put_count : (b : BlockState) (k : ℕ) (l : Seen) (x : Option Service) → k < 8 → sum_to (λ j. owed (b.lane j)) 8 ≡ awaited_of b.service →
     awaited_of x + owed (b.lane k) ≡ awaited_of b.service + owed l → sum_to (λ j. owed (upd b.lane k l j)) 8 ≡ awaited_of x
 put_count b k l x h c e =
     let s = sum_change (λ j. owed (b.lane j)) (λ j. owed (upd b.lane k l j)) 8 k h (λ j n. ap owed (upd_other b.lane k l j n)) in
@@ -77,7 +78,7 @@ put_count b k l x h c e =
     omega arith
 
 -- it keeps the invariant
-pub put_keeps : (v : ℕ → Status) (b : BlockState) (f : List ℕ) (k : ℕ) (y : Status) (l : Seen) (c : Block) (x : Lookup) → Inv v b f → k < 8 →
+pub put_keeps : (v : ℕ → Status) (b : BlockState) (f : List ℕ) (k : ℕ) (y : Status) (l : Seen) (c : Block) (x : Option Service) → Inv v b f → k < 8 →
     PutFits v b f k y l c x → Inv (upd v k y) (record { lane = upd b.lane k l; block = c; service = x }) f
 put_keeps v b f k y l c x i h p =
     record {

@@ -9,15 +9,13 @@ use borrow.Author.Tests.{eq-eqb, ne_eqb}
 use native.Mathlib.Omega.{arith}
 use Rattle.words.specs.declared.LaneNo.{LaneNo}
 use Rattle.words.proofs.Folds.{or_left, or_right}
-use Rattle.queues.specs.declared.ReturnMessage.{ReturnMessage}
+use Rattle.queues.specs.Messages.{ReturnMessage}
 use Rattle.queues.specs.declared.ReturnKind.{ReturnKind}
 use Rattle.queues.specs.declared.ReturnKind.TheVariants.{Eject, WriteEject, Updated, Purged, PurgedWords, Gone}
 use Rattle.lanes.specs.declared.Command.{Command}
 use Rattle.lanes.specs.declared.Command.TheVariants.{ReadShared, ReadExclusive, Exclude}
 use Rattle.store.specs.declared.Block.{Block}
 use Rattle.store.specs.declared.Service.{Service}
-use Rattle.store.specs.declared.Lookup.{Lookup}
-use Rattle.store.specs.declared.Lookup.TheVariants.{Of, Nothing}
 use Rattle.store.specs.Control.{lowered, awaited_of}
 use Rattle.machine.specs.Machine.Return.{is_answer, taken_by}
 use Rattle.machine.proofs.Laws.Sets.{same?}
@@ -30,6 +28,7 @@ use Rattle.machine.proofs.Protocol.Chains.{fits_clean, fits_invalid}
 use Rattle.machine.proofs.Laws.Updates.{upd_other, upd_cases}
 use Rattle.machine.proofs.Protocol.Directories.{return_directory, taken_words}
 use Rattle.machine.proofs.Protocol.MemoryMoves.{LaneFits, lane_fits, PutFits, put_keeps}
+use Rattle.std.specs.Prelude.{Option, Some, None}
 
 -- the head fits the view, and the chain goes on from there
 head_fits : (v : Status) (l : Seen) (m : ReturnMessage) (rest : List ReturnMessage) → Chain v l → l.returns ≡ m ∷ rest →
@@ -49,7 +48,7 @@ unfolding owed
 head_owed l m rest r = let e = ap answer_count r in omega arith
 
 -- the lane's conjuncts without the head
-take_fits : (v : Status) (x z : Lookup) (f : List ℕ) (k : ℕ) (l : Seen) (m : ReturnMessage) (rest : List ReturnMessage) (y : Status) →
+take_fits : (v : Status) (x z : Option Service) (f : List ℕ) (k : ℕ) (l : Seen) (m : ReturnMessage) (rest : List ReturnMessage) (y : Status) →
     LaneFits v x f k l → l.returns ≡ m ∷ rest → Chain y (take_seen rest l) → serving z k ≡ serving x k → LaneFits y z f k (take_seen rest l)
 take_fits v x z f k l m rest y h r c e =
     record {
@@ -125,7 +124,7 @@ take_service v lane k m rest y s n g r t =
         go (inr q) = rw (ne_eqb j k q) (g.cover j p (sym (ap owed (upd_other lane k (take_seen rest (lane k)) j q)) ∙ z))
 
 -- memory takes the head; x is the service after it
-take_keeps : (v : ℕ → Status) (b : BlockState) (f : List ℕ) (k : LaneNo) (m : ReturnMessage) (rest : List ReturnMessage) (x : Lookup) → Inv v b f → k.0 < 8 →
+take_keeps : (v : ℕ → Status) (b : BlockState) (f : List ℕ) (k : LaneNo) (m : ReturnMessage) (rest : List ReturnMessage) (x : Option Service) → Inv v b f → k.0 < 8 →
     (b.lane k.0).returns ≡ m ∷ rest → ((j : ℕ) → serving x j ≡ serving b.service j) →
     awaited_of x + cond (is_answer m.kind) 1 0 ≡ awaited_of b.service →
     ((y : Status) → Fits (v k.0) m.kind y → ServedWell (upd v k.0 y) (upd b.lane k.0 (take_seen rest (b.lane k.0))) x) →
@@ -154,16 +153,16 @@ pub eject_returns : (v : ℕ → Status) (b : BlockState) (f : List ℕ) (k : La
 eject_returns v b f k m rest i h r a =
     take_keeps v b f k m rest b.service i h r (λ j. refl) (rw a (omega arith)) (λ y t. go b.service i.service y t)
   where
-    go : (x : Lookup) → ServedWell v b.lane x → (y : Status) → Fits (v k.0) m.kind y →
+    go : (x : Option Service) → ServedWell v b.lane x → (y : Status) → Fits (v k.0) m.kind y →
         ServedWell (upd v k.0 y) (upd b.lane k.0 (take_seen rest (b.lane k.0))) x
-    go Nothing g y t = tt
-    go (Of s) g y t = take_service v b.lane k.0 m rest y s s.awaited g r t
+    go None g y t = tt
+    go (Some s) g y t = take_service v b.lane k.0 m rest y s s.awaited g r t
 
 -- UPDATED, PURGED and GONE: one answer fewer is awaited
 pub answer_returns : (v : ℕ → Status) (b : BlockState) (f : List ℕ) (k : LaneNo) (m : ReturnMessage) (rest : List ReturnMessage) (s : Service) → Inv v b f → k.0 < 8 →
-    (b.lane k.0).returns ≡ m ∷ rest → is_answer m.kind ≡ true → b.service ≡ Of s → s.awaited ≢ 0 →
-    (u : (ℕ → Status)) × Inv u (return_state k m rest (Of (lowered s)) b) f
+    (b.lane k.0).returns ≡ m ∷ rest → is_answer m.kind ≡ true → b.service ≡ Some s → s.awaited ≢ 0 →
+    (u : (ℕ → Status)) × Inv u (return_state k m rest (Some (lowered s)) b) f
 answer_returns v b f k m rest s i h r a e n =
     let g = i.service in
-    take_keeps v b f k m rest (Of (lowered s)) i h r (λ j. rw e) (rw (a, e) (omega (arith, n)))
+    take_keeps v b f k m rest (Some (lowered s)) i h r (λ j. rw e) (rw (a, e) (omega (arith, n)))
     (λ y t. take_service v b.lane k.0 m rest y s (s.awaited - 1) (rw e at g) r t)

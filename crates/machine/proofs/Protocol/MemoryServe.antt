@@ -11,21 +11,19 @@ use Rattle.words.specs.Units.{block_of}
 use Rattle.words.specs.Folds.{sum_to}
 use Rattle.words.specs.Operations.{is_load}
 use Rattle.words.proofs.Folds.{or_left, or_right, pick}
-use Rattle.queues.specs.declared.ReturnMessage.{ReturnMessage}
+use Rattle.queues.specs.Messages.{ReturnMessage}
 use Rattle.queues.specs.declared.ReturnKind.{ReturnKind}
 use Rattle.queues.specs.declared.ReturnKind.TheVariants.{Eject, WriteEject, Updated, Purged, PurgedWords, Gone}
-use Rattle.queues.specs.declared.DownMessage.{DownMessage}
+use Rattle.queues.specs.Messages.{DownMessage}
 use Rattle.queues.specs.declared.DownKind.{DownKind}
 use Rattle.queues.specs.declared.DownKind.TheVariants.{Update, Purge, Grant, BareGrant}
-use Rattle.queues.specs.Messages.{bare_down}
+use Rattle.queues.specs.Messages.{bare_message}
 use Rattle.lanes.specs.declared.Command.{Command}
 use Rattle.lanes.specs.declared.Command.TheVariants.{ReadShared, ReadExclusive, Exclude}
 use Rattle.lanes.specs.declared.Operation.{Operation}
 use Rattle.lanes.specs.declared.Waiting.{Waiting}
 use Rattle.lanes.specs.declared.Waiting.TheVariants.{Unserved, Served}
 use Rattle.store.specs.declared.Service.{Service}
-use Rattle.store.specs.declared.Lookup.{Lookup}
-use Rattle.store.specs.declared.Lookup.TheVariants.{Of, Nothing}
 use Rattle.store.specs.LaneSets.{goes_to, count_of}
 use Rattle.machine.specs.Machine.Serve.{order_of, ordered, service_for}
 use Rattle.machine.specs.Machine.Return.{is_answer}
@@ -41,6 +39,7 @@ use Rattle.machine.proofs.Protocol.Chains.{rest_due}
 use Rattle.machine.proofs.Protocol.Directories.{order_covers, order_self, order_far, bare_held}
 use Rattle.machine.proofs.Protocol.BlockQuiet.{quiet_view}
 use Rattle.machine.proofs.Protocol.MemoryMoves.{LaneFits, lane_fits, other_service, nothing_owed, no_answers, no_orders, grants_join, post_owed, post_bears}
+use Rattle.std.specs.Prelude.{Option, Some, None}
 
 -- queues without orders and grants, without orders, without answers
 no_downs : (q : List DownMessage) → order_count q ≡ 0 → grant_count q ≡ 0 → q ≡ []
@@ -107,7 +106,7 @@ order_purge ReadExclusive e = refl
 order_purge Exclude e = refl
 
 -- the conjuncts of a lane that an order goes to
-posted_fits : (v : Status) (x : Lookup) (f : List ℕ) (k : ℕ) (l : Seen) (m : DownMessage) → LaneFits v x f k l → order_count l.downs ≡ 0 →
+posted_fits : (v : Status) (x : Option Service) (f : List ℕ) (k : ℕ) (l : Seen) (m : DownMessage) → LaneFits v x f k l → order_count l.downs ≡ 0 →
     is_order m.kind ≡ true → is_grant m.kind ≡ false → LaneFits v x f k (post_seen m l)
 posted_fits v x f k l m h z o n =
     record {
@@ -118,7 +117,7 @@ posted_fits v x f k l m h z o n =
     }
 
 -- .. and of the lane that is served
-served_fits : (v : Status) (y x : Lookup) (f : List ℕ) (k : ℕ) (l : Seen) (o : Operation) → LaneFits v y f k l → l.waiting ≡ Unserved o → l.downs ≡ [] →
+served_fits : (v : Status) (y x : Option Service) (f : List ℕ) (k : ℕ) (l : Seen) (o : Operation) → LaneFits v y f k l → l.waiting ≡ Unserved o → l.downs ≡ [] →
     serving x k ≡ 1 → LaneFits v x f k (wait_seen (Served o) l)
 served_fits v y x f k l o h w d e =
     record {
@@ -133,7 +132,7 @@ abbrev sent_to : LaneNo → Operation → BlockState → ℕ → Bool
 sent_to k o b j = goes_to (ordered b.block k o.command) j
 
 abbrev order_for : Operation → DownMessage
-order_for o = bare_down (order_of o.command) (block_of o.word)
+order_for o = bare_message (order_of o.command) (block_of o.word)
 
 -- the lanes after it: the one that is served, those that get the order, the others
 served_here : (k : LaneNo) (o : Operation) (b : BlockState) → (serve_state k o b).lane k.0 ≡ wait_seen (Served o) (b.lane k.0)
@@ -206,20 +205,20 @@ opened_fits v b f k o i h w r d z =
 
 -- every lane's conjuncts after it
 opened_lanes : (v : ℕ → Status) (b : BlockState) (f : List ℕ) (k : LaneNo) (o : Operation) → Inv v b f → (b.lane k.0).waiting ≡ Unserved o →
-    (b.lane k.0).downs ≡ [] → b.service ≡ Nothing → ((j : ℕ) → owed (b.lane j) ≡ 0) →
-    (j : ℕ) → LaneFits (v j) (Of (opened k o b)) f j ((serve_state k o b).lane j)
+    (b.lane k.0).downs ≡ [] → b.service ≡ None → ((j : ℕ) → owed (b.lane j) ≡ 0) →
+    (j : ℕ) → LaneFits (v j) (Some (opened k o b)) f j ((serve_state k o b).lane j)
 opened_lanes v b f k o i w d e z =
-    serve_cases (λ (j : ℕ) (l : Seen). LaneFits (v j) (Of (opened k o b)) f j l) k o b
-    (served_fits (v k.0) b.service (Of (opened k o b)) f k.0 (b.lane k.0) o (lane_fits v b f i k.0) w d (rw (eq-eqb k.0 k.0 refl)))
-    (λ j n _. posted_fits (v j) (Of (opened k o b)) f j (b.lane j) (order_for o) (other j n) (no_orders (b.lane j) (z j)) (order_order o.command) (order_bare o.command))
+    serve_cases (λ (j : ℕ) (l : Seen). LaneFits (v j) (Some (opened k o b)) f j l) k o b
+    (served_fits (v k.0) b.service (Some (opened k o b)) f k.0 (b.lane k.0) o (lane_fits v b f i k.0) w d (rw (eq-eqb k.0 k.0 refl)))
+    (λ j n _. posted_fits (v j) (Some (opened k o b)) f j (b.lane j) (order_for o) (other j n) (no_orders (b.lane j) (z j)) (order_order o.command) (order_bare o.command))
     (λ j n _. other j n)
   where
-    other : (j : ℕ) → j ≢ k.0 → LaneFits (v j) (Of (opened k o b)) f j (b.lane j)
-    other j n = other_service (v j) b.service (Of (opened k o b)) f j (b.lane j) (rw (e, ne_eqb k.0 j (λ q. n (sym q)))) (lane_fits v b f i j)
+    other : (j : ℕ) → j ≢ k.0 → LaneFits (v j) (Some (opened k o b)) f j (b.lane j)
+    other j n = other_service (v j) b.service (Some (opened k o b)) f j (b.lane j) (rw (e, ne_eqb k.0 j (λ q. n (sym q)))) (lane_fits v b f i j)
 
 -- serve
 pub serve_opens : (v : ℕ → Status) (b : BlockState) (f : List ℕ) (k : LaneNo) (o : Operation) → Inv v b f → k.0 < 8 → (b.lane k.0).waiting ≡ Unserved o →
-    (b.lane k.0).returns ≡ [] → b.service ≡ Nothing → Inv v (serve_state k o b) f
+    (b.lane k.0).returns ≡ [] → b.service ≡ None → Inv v (serve_state k o b) f
 serve_opens v b f k o i h w r e =
     record {
       directory = i.directory;
@@ -240,5 +239,5 @@ serve_opens v b f k o i h w r e =
     downs : (b.lane k.0).downs ≡ []
     downs = let g = i.grant k.0 in let g' = rw (e, w) at g in no_downs (b.lane k.0).downs (no_orders (b.lane k.0) (z k.0)) (omega arith)
 
-    lanes : (j : ℕ) → LaneFits (v j) (Of (opened k o b)) f j ((serve_state k o b).lane j)
+    lanes : (j : ℕ) → LaneFits (v j) (Some (opened k o b)) f j ((serve_state k o b).lane j)
     lanes = opened_lanes v b f k o i w downs e z

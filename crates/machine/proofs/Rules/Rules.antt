@@ -20,12 +20,11 @@ use Rattle.lanes.specs.declared.Lane.{Lane}
 use Rattle.lanes.specs.declared.Operation.{Operation}
 use Rattle.lanes.specs.declared.Waiting.{Waiting}
 use Rattle.lanes.specs.declared.Waiting.TheVariants.{Idle, Unserved, Served}
-use Rattle.lanes.specs.declared.Found.TheVariants.{Nothing}
 use Rattle.lanes.specs.Search.{search_of}
 use Rattle.lanes.specs.Waits.{idle_of}
 use Rattle.lanes.specs.UseOrder.{Insertion}
 use Rattle.answers.specs.declared.Answer.{Answer}
-use Rattle.answers.specs.declared.Answer.TheVariants.{Opened, Done, Wait, Step, Refused}
+use Rattle.answers.specs.declared.Answer.TheVariants.{Opened, Done, Wait, Step}
 use Rattle.answers.specs.declared.Refusal.{Refusal}
 use Rattle.answers.specs.declared.Refusal.TheVariants.{Corrupt, NoSuchLane, NoSuchWord, LaneBusy, NothingPending, ControlBusy, ReturnsPending, QueueFull, PlacesExhausted}
 use Rattle.answers.specs.Refusals.{number_of, refused_of}
@@ -36,9 +35,8 @@ use Rattle.machine.specs.Machine.Begun.{begun_in, last_place, exhausted_of}
 use Rattle.store.specs.Control.{busy_for}
 use Rattle.machine.specs.declared.LaneAnswer.{LaneAnswer}
 use Rattle.machine.specs.declared.LaneAnswer.TheVariants.{Value, Waits, Stepped}
-use Rattle.machine.specs.declared.LaneStep.{LaneStep}
-use Rattle.machine.specs.declared.Move.{Move}
-use Rattle.machine.specs.declared.Ready.{Ready}
+use Rattle.machine.specs.Machine.Parts.{LaneStep}
+use Rattle.machine.specs.Machine.Parts.{Move}
 use Rattle.machine.specs.Machine.Corruption.{corrupt_of}
 use Rattle.machine.specs.Machine.Change.{refuse, guarded, counted, answer_to, refused_in, lane_store, commit_lane, commit_move, some_full, moved_store}
 use Rattle.machine.specs.Machine.Begin.{is_hit, admits_of, begin_lane, begin_admitted, begin_of}
@@ -46,6 +44,7 @@ use Rattle.machine.specs.Machine.Serve.{ready_with, ready_of, serve_ready, serve
 use Rattle.machine.specs.Machine.Return.{return_move, return_of}
 use Rattle.machine.specs.Machine.Deliver.{deliver_lane, deliver_of}
 use Rattle.machine.proofs.Bounds.KeepsLane.{clash}
+use Rattle.std.specs.Prelude.{None, Result, Ok, Err}
 
 -- a refusal by another number than 12, as those are that a call checks before its part: only the part finds a queue full
 abbrev pub OtherThan12 : Refusal → Type 0
@@ -74,7 +73,7 @@ idle_waiting (Served o) e = clash (cc)
 
 -- 8 does not refuse the operation: what misses, and what is no load, begins on a lane that waits for nothing
 pub record Admitted (c : ℕ) (op : Op) (w : WordNo) (l : Lane) : Type 0 where
-  pub miss : search_of l c (block_of w) ≡ Nothing → l.waiting ≡ Idle
+  pub miss : search_of l c (block_of w) ≡ None → l.waiting ≡ Idle
   pub write : is_load op ≡ false → l.waiting ≡ Idle
 
 pub admitted : (c : ℕ) (op : Op) (w : WordNo) (l : Lane) → admits_of c op w l ≡ true → Admitted c op w l
@@ -149,8 +148,8 @@ serve_checks P s k stays next = guarded_checks P s k _ stays (λ c h. go c h (la
     go c h Idle e = stays NothingPending refl
     go c h (Served o) e = stays NothingPending refl
     go c h (Unserved o) e =
-        pick (λ (y : Ready). P (serve_ready y s k)) (busy_for s.shape.limit s.control (block_of o.word)) _ _ (λ _. stays ControlBusy refl)
-        (λ q. pick (λ (y : Ready). P (serve_ready y s k)) (ltb 0 (lane_at s k.0).returns.len) _ _ (λ _. stays ReturnsPending refl)
+        pick (λ (y : Result Operation Refusal). P (serve_ready y s k)) (busy_for s.shape.limit s.control (block_of o.word)) _ _ (λ _. stays ControlBusy refl)
+        (λ q. pick (λ (y : Result Operation Refusal). P (serve_ready y s k)) (ltb 0 (lane_at s k.0).returns.len) _ _ (λ _. stays ReturnsPending refl)
         (λ d. let p = ltb-false 0 (lane_at s k.0).returns.len d in next o (record { sound = c; lane = h; unserved = e; free = q; clear = omega arith })))
 
 pub serve_rule : (P : Outcome → Type 0) (s : Store) (k : LaneNo) → ((x : Refusal) → P (refuse x s)) → ((o : Operation) → ServeReady s k o → P (served s k o)) → P (serve_of s k)
@@ -200,27 +199,27 @@ unfolding deliver_of
 deliver_is ins s k c h = guarded_is s k _ c h
 
 -- a call on a lane is refused where the lane's part is
-pub answer_goes : (k : LaneNo) (done : ℕ) (a : LaneAnswer) → refused_of (answer_to k done a) ≡ refused_in a
-answer_goes k done (Value v) = refl
-answer_goes k done Waits = refl
-answer_goes k done Stepped = refl
-answer_goes k done (LaneAnswer.Refused x) = refl
+pub answer_goes : (k : LaneNo) (done : ℕ) (a : Result LaneAnswer Refusal) → refused_of (answer_to k done a) ≡ refused_in a
+answer_goes k done (Ok (Value v)) = refl
+answer_goes k done (Ok Waits) = refl
+answer_goes k done (Ok Stepped) = refl
+answer_goes k done (Err x) = refl
 
 -- a lane's part put back where it isn't refused
 abbrev pub put_back : Store → LaneNo → LaneStep → Outcome
 put_back s k r = record { answer = answer_to k (counted r.answer s.completions) r.answer; store = lane_store s k r }
 
 -- a lane's part put back: refused, or lane k is another, and a completion is counted
-pub lane_rule : (P : Outcome → Type 0) (s : Store) (k : LaneNo) (r : LaneStep) → ((x : Refusal) → r.answer ≡ LaneAnswer.Refused x → P (refuse x s)) →
+pub lane_rule : (P : Outcome → Type 0) (s : Store) (k : LaneNo) (r : LaneStep) → ((x : Refusal) → r.answer ≡ Err x → P (refuse x s)) →
     (refused_in r.answer ≡ false → P (put_back s k r)) → P (commit_lane s k r)
 unfolding commit_lane
 lane_rule P s k r stays next = go r.answer refl
   where
-    go : (a : LaneAnswer) → r.answer ≡ a → P (record { answer = (put_back s k r).answer; store = cond (refused_in r.answer) s (lane_store s k r) })
-    go (Value v) e = rw e (rw e at (next (rw e refl)))
-    go Waits e = rw e (rw e at (next (rw e refl)))
-    go Stepped e = rw e (rw e at (next (rw e refl)))
-    go (LaneAnswer.Refused x) e = rw e (stays x e)
+    go : (a : Result LaneAnswer Refusal) → r.answer ≡ a → P (record { answer = (put_back s k r).answer; store = cond (refused_in r.answer) s (lane_store s k r) })
+    go (Ok (Value v)) e = rw e (rw e at (next (rw e refl)))
+    go (Ok Waits) e = rw e (rw e at (next (rw e refl)))
+    go (Ok Stepped) e = rw e (rw e at (next (rw e refl)))
+    go (Err x) e = rw e (stays x e)
 
 -- memory's part put back: refused by what it says or by 12, or the store has moved
 pub move_rule : (P : Outcome → Type 0) (s : Store) (k : LaneNo) (a : BlockNo) (v : Move) → ((x : Refusal) → P (refuse x s)) →
@@ -231,9 +230,9 @@ move_rule P s k a v stays next =
     pick P (refused_of v.answer) _ _ (λ q. go v.answer q)
     (λ q. pick P (some_full capacity v.to _) _ _ (λ _. stays QueueFull) (λ e. next q e))
   where
-    go : (x : Answer) → refused_of x ≡ true → P (record { answer = x; store = s })
-    go Opened q = clash (cc)
-    go (Done y) q = clash (cc)
-    go Wait q = clash (cc)
-    go Step q = clash (cc)
-    go (Refused x) q = stays x
+    go : (x : Result Answer Refusal) → refused_of x ≡ true → P (record { answer = x; store = s })
+    go (Ok Opened) q = clash (cc)
+    go (Ok (Done y)) q = clash (cc)
+    go (Ok Wait) q = clash (cc)
+    go (Ok Step) q = clash (cc)
+    go (Err x) q = stays x

@@ -19,27 +19,23 @@ use Rattle.words.specs.Units.{block_of}
 use Rattle.words.specs.Folds.{count_to, sum_to}
 use Rattle.words.specs.Lines.{invalid}
 use Rattle.words.proofs.Folds.{below?, by_cond, pick}
-use Rattle.queues.specs.declared.ReturnMessage.{ReturnMessage}
-use Rattle.queues.specs.declared.DownMessage.{DownMessage}
+use Rattle.queues.specs.Messages.{ReturnMessage}
+use Rattle.queues.specs.Messages.{DownMessage}
 use Rattle.queues.specs.declared.DownKind.{DownKind}
 use Rattle.queues.specs.declared.DownKind.TheVariants.{Update, Purge, Grant, BareGrant}
-use Rattle.queues.specs.declared.DownQueue.{DownQueue}
-use Rattle.queues.specs.Queues.{capacity, full_at, empty_at, shifted, no_down, head_down, take_down, take_return}
+use Rattle.queues.specs.Queues.{DownQueue}
+use Rattle.queues.specs.Queues.{capacity, full_at, empty_at, shifted, no_down, head_down, after_take}
 use Rattle.lanes.specs.declared.Lane.{Lane}
 use Rattle.lanes.specs.declared.Operation.{Operation}
 use Rattle.lanes.specs.declared.Waiting.{Waiting}
 use Rattle.lanes.specs.declared.Waiting.TheVariants.{Idle, Unserved, Served}
-use Rattle.lanes.specs.declared.Found.{Found}
-use Rattle.lanes.specs.declared.Found.TheVariants.{At, Nothing}
 use Rattle.lanes.specs.Search.{line_at, search_of, vacant_of}
 use Rattle.lanes.specs.Waits.{unserved_of}
 use Rattle.lanes.specs.UseOrder.{Insertion}
 use Rattle.lanes.specs.Lanes.{with_waiting, with_returns, with_downs, with_line}
 use Rattle.answers.specs.declared.Refusal.{Refusal}
 use Rattle.answers.specs.declared.Refusal.TheVariants.{NothingPending, QueueFull, Unexpected}
-use Rattle.machine.specs.declared.LaneStep.{LaneStep}
-use Rattle.machine.specs.declared.Ready.{Ready}
-use Rattle.machine.specs.declared.Ready.TheVariants.{Go, No}
+use Rattle.machine.specs.Machine.Parts.{LaneStep}
 use Rattle.machine.specs.Machine.Change.{refuse_lane, posted, refused_in}
 use Rattle.machine.specs.Machine.Begin.{complete_with}
 use Rattle.machine.specs.Machine.Deliver.{waits_no_more, reply, shared, update_at, purge_at, fill_at, grant_at, bare_at, served_on, grant_to, bare_to, deliver_kind, deliver_lane}
@@ -49,6 +45,7 @@ use Rattle.queues.proofs.Shifts.{shifted_next}
 use Rattle.machine.proofs.Laws.Tests.{on}
 use Rattle.machine.proofs.Laws.Sums.{sum_same, sum_change, sum_most, zero_sum}
 use Rattle.machine.proofs.Rules.RulesQuiet.{Still}
+use Rattle.std.specs.Prelude.{Option, Some, None, Result, Ok, Err}
 
 -- what is added for a message of a return queue, an order and a grant of a down queue, and an unserved operation
 pub record Rates : Type 0 where
@@ -172,7 +169,7 @@ unfolding weight
 posted_weight ρ x l g e = let a = join_weight ρ l.downs.len l.downs.at x g.downs (leb-false _ _ e) in rw e (omega arith)
 
 -- the head leaves the return queue of a lane
-pub returned_weight : (ρ : Rates) (l : Lane) → empty_at l.returns.len ≡ false → weight ρ (with_returns (take_return l.returns).queue l) + ρ.return ≡ weight ρ l
+pub returned_weight : (ρ : Rates) (l : Lane) → empty_at l.returns.len ≡ false → weight ρ (with_returns (after_take l.returns) l) + ρ.return ≡ weight ρ l
 unfolding weight
 returned_weight ρ l e =
     let n = eqb-false l.returns.len 0 e in
@@ -182,7 +179,7 @@ returned_weight ρ l e =
 
 -- .. and the down queue
 taken_weight : (ρ : Rates) (l : Lane) → LaneSized l → l.downs.len ≤ capacity → empty_at l.downs.len ≡ false →
-    weight ρ (with_downs (take_down l.downs).queue l) + price ρ (head_down l.downs).kind ≡ weight ρ l
+    weight ρ (with_downs (after_take l.downs) l) + price ρ (head_down l.downs).kind ≡ weight ρ l
 unfolding weight
 taken_weight ρ l g s e =
     let n = eqb-false l.downs.len 0 e in
@@ -215,39 +212,39 @@ complete_takes ρ order i x op w l o e h =
     omega arith
 
 module _ (ins : Insertion) (ρ : Rates) (c : ℕ) (l : Lane) where
-  update_takes : (a : BlockNo) (f : Found) → Takes ρ ρ.return l (update_at capacity f a l)
-  update_takes a (At i) = line_takes ρ _ i (shared (line_at l i)) l
-  update_takes a Nothing = reply_takes ρ _ l
+  update_takes : (a : BlockNo) (f : Option LineNo) → Takes ρ ρ.return l (update_at capacity f a l)
+  update_takes a (Some i) = line_takes ρ _ i (shared (line_at l i)) l
+  update_takes a None = reply_takes ρ _ l
 
-  purge_takes : (a : BlockNo) (f : Found) → Takes ρ ρ.return l (purge_at capacity f a l)
-  purge_takes a (At i) = line_takes ρ _ i (invalid (line_at l i)) l
-  purge_takes a Nothing = reply_takes ρ _ l
+  purge_takes : (a : BlockNo) (f : Option LineNo) → Takes ρ ρ.return l (purge_at capacity f a l)
+  purge_takes a (Some i) = line_takes ρ _ i (invalid (line_at l i)) l
+  purge_takes a None = reply_takes ρ _ l
 
-  fill_takes : (x : DownMessage) (o : Operation) (f : Found) → l.waiting ≡ Served o → Takes ρ 0 l (fill_at ins f c x o l)
-  fill_takes x o (At i) e = complete_takes ρ _ i _ o.op o.word l o e
-  fill_takes x o Nothing e = refused_takes ρ 0 l Unexpected
+  fill_takes : (x : DownMessage) (o : Operation) (f : Option LineNo) → l.waiting ≡ Served o → Takes ρ 0 l (fill_at ins f c x o l)
+  fill_takes x o (Some i) e = complete_takes ρ _ i _ o.op o.word l o e
+  fill_takes x o None e = refused_takes ρ 0 l Unexpected
 
-  grant_takes : (x : DownMessage) (o : Operation) (f : Found) → l.waiting ≡ Served o → Takes ρ 0 l (grant_at ins f c x o l)
-  grant_takes x o (At i) e = refused_takes ρ 0 l Unexpected
-  grant_takes x o Nothing e = fill_takes x o (vacant_of l c) e
+  grant_takes : (x : DownMessage) (o : Operation) (f : Option LineNo) → l.waiting ≡ Served o → Takes ρ 0 l (grant_at ins f c x o l)
+  grant_takes x o (Some i) e = refused_takes ρ 0 l Unexpected
+  grant_takes x o None e = fill_takes x o (vacant_of l c) e
 
-  bare_takes : (o : Operation) (f : Found) → l.waiting ≡ Served o → Takes ρ 0 l (bare_at f c o l)
-  bare_takes o (At i) e = complete_takes ρ _ i _ o.op o.word l o e
-  bare_takes o Nothing e = refused_takes ρ 0 l Unexpected
+  bare_takes : (o : Operation) (f : Option LineNo) → l.waiting ≡ Served o → Takes ρ 0 l (bare_at f c o l)
+  bare_takes o (Some i) e = complete_takes ρ _ i _ o.op o.word l o e
+  bare_takes o None e = refused_takes ρ 0 l Unexpected
 
   -- a grant is to the operation that is served, or is refused
   grants_take : (x : DownMessage) (w : Waiting) → l.waiting ≡ w → Takes ρ 0 l (grant_to ins (served_on w x.block) c x l)
   grants_take x Idle e = refused_takes ρ 0 l Unexpected
   grants_take x (Unserved o) e = refused_takes ρ 0 l Unexpected
   grants_take x (Served o) e =
-      by_cond (λ (r : Ready). Takes ρ 0 l (grant_to ins r c x l)) (eqb (block_of o.word).0 x.block.0) (Go o) (No Unexpected)
+      by_cond (λ (r : Result Operation Refusal). Takes ρ 0 l (grant_to ins r c x l)) (eqb (block_of o.word).0 x.block.0) (Ok o) (Err Unexpected)
       (grant_takes x o (search_of l c x.block) e) (refused_takes ρ 0 l Unexpected)
 
   bares_take : (x : DownMessage) (w : Waiting) → l.waiting ≡ w → Takes ρ 0 l (bare_to (served_on w x.block) c x l)
   bares_take x Idle e = refused_takes ρ 0 l Unexpected
   bares_take x (Unserved o) e = refused_takes ρ 0 l Unexpected
   bares_take x (Served o) e =
-      by_cond (λ (r : Ready). Takes ρ 0 l (bare_to r c x l)) (eqb (block_of o.word).0 x.block.0) (Go o) (No Unexpected)
+      by_cond (λ (r : Result Operation Refusal). Takes ρ 0 l (bare_to r c x l)) (eqb (block_of o.word).0 x.block.0) (Ok o) (Err Unexpected)
       (bare_takes o (search_of l c x.block) e) (refused_takes ρ 0 l Unexpected)
 
   -- what a message does in a lane that has taken it
@@ -267,7 +264,7 @@ module _ (ins : Insertion) (c : ℕ) (l : Lane) (g : LaneSized l) (s : l.downs.l
       pick (λ (r : LaneStep). refused_in r.answer ≡ false → weight ρ r.lane + price ρ (head_down l.downs).kind ≡ weight ρ l + answered ρ (head_down l.downs).kind)
       (empty_at l.downs.len) (refuse_lane NothingPending l) _ (λ _ e. absurd (true≢false e))
       (λ q e.
-      let a = kind_takes ins ρ c (with_downs (take_down l.downs).queue l) (head_down l.downs).kind (head_down l.downs) e in
+      let a = kind_takes ins ρ c (with_downs (after_take l.downs) l) (head_down l.downs).kind (head_down l.downs) e in
       let b = taken_weight ρ l g s q in
       rw e (omega arith))
 

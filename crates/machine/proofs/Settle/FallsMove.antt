@@ -9,8 +9,8 @@ use Rattle.words.specs.declared.LaneNo.{LaneNo}
 use Rattle.words.specs.Units.{block_of}
 use Rattle.words.specs.Folds.{count_to}
 use Rattle.words.proofs.Folds.{by_cond}
-use Rattle.queues.specs.declared.ReturnMessage.{ReturnMessage}
-use Rattle.queues.specs.declared.DownMessage.{DownMessage}
+use Rattle.queues.specs.Messages.{ReturnMessage}
+use Rattle.queues.specs.Messages.{DownMessage}
 use Rattle.queues.specs.Queues.{empty_at}
 use Rattle.lanes.specs.declared.Lane.{Lane}
 use Rattle.lanes.specs.declared.Operation.{Operation}
@@ -25,7 +25,7 @@ use Rattle.store.specs.declared.Control.{Control}
 use Rattle.store.specs.Control.{busy_for, lowered, with_updated, without_service}
 use Rattle.store.proofs.Services.{vacant, not_busy_for, opened_count, updated_count, closed_count}
 use Rattle.store.specs.LaneSets.{nobody, only, goes_to, count_of}
-use Rattle.machine.specs.declared.Move.{Move}
+use Rattle.machine.specs.Machine.Parts.{Move}
 use Rattle.machine.specs.Machine.Serve.{order_of, ordered, grant_of, close, service_for, serve_move}
 use Rattle.machine.specs.Machine.Return.{send_nothing, return_move}
 use Rattle.machine.proofs.Laws.Sums.{count_zero, count_one}

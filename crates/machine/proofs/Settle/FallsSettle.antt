@@ -18,7 +18,6 @@ use Rattle.store.specs.declared.Store.{Store}
 use Rattle.machine.specs.Machine.Begun.{waiting_in}
 use Rattle.store.specs.Quiet.{quiet_of}
 use Rattle.machine.specs.declared.SettleCounts.{SettleCounts}
-use Rattle.machine.specs.declared.Settled.TheVariants.{Steps}
 use Rattle.machine.specs.Machine.Corruption.{corrupt_of}
 use Rattle.machine.specs.Claims.Potential.{tally_of, potential_of}
 use Rattle.machine.specs.Claims.Completion.{Exact, SettleExact, SettleBound}
@@ -31,10 +30,11 @@ use Rattle.machine.proofs.Bounds.KeepsRepeat.{settle_step_keeps}
 use Rattle.machine.proofs.Bounds.SizedKeeps.{settle_step_sized, sized_whole}
 use Rattle.machine.proofs.Settle.FallsStore.{quiet_tally}
 use Rattle.machine.proofs.Settle.Falls.{orders_left, step_falls, settle_falls, settle_completes}
+use Rattle.std.specs.Prelude.{Result, Ok, Err}
 
 -- where settle starts
 abbrev pub start_at : Store → Progress
-start_at s = record { count = 0; orders = 0; completions = []; answer = Step; store = s }
+start_at s = record { count = 0; orders = 0; completions = []; answer = Ok Step; store = s }
 
 -- a settle of no steps; one that has ended goes no further; one that has not takes a step
 pub repeat_none : (ins : Insertion) (p : Progress) → repeat_step ins zero p ≡ p
@@ -164,7 +164,7 @@ last_quiet ins s e g h = sym (ap (λ b. b || quiet_of (last_of ins s).store) h) 
 -- the whole settle: it is refused, or no step was and the store is quiet
 pub settle_rule : (ins : Insertion) (P : Settlement → Type 0) (s : Store) → ((r : Refusal) → P (refuse_settle r s)) →
     (corrupt_of s ≡ false → refused_of (last_of ins s).answer ≡ false → quiet_of (last_of ins s).store ≡ true →
-    P (record { answer = Steps (counts_of (last_of ins s)); completions = (last_of ins s).completions; store = (last_of ins s).store })) → P (settle_of ins s)
+    P (record { answer = Ok (counts_of (last_of ins s)); completions = (last_of ins s).completions; store = (last_of ins s).store })) → P (settle_of ins s)
 unfolding settle_of
 settle_rule ins P s refused settled =
     pick P (corrupt_of s) (refuse_settle Corrupt s) _ (λ _. refused Corrupt) (λ e. go e (last_of ins s).answer refl)
@@ -172,12 +172,12 @@ settle_rule ins P s refused settled =
     quiet : corrupt_of s ≡ false → refused_of (last_of ins s).answer ≡ false → P (reached s (last_of ins s))
     quiet e h = pick P (quiet_of (last_of ins s).store) _ (refuse_settle Unexpected s) (λ q. settled e h q) (λ _. refused Unexpected)
 
-    go : corrupt_of s ≡ false → (a : Answer) → (last_of ins s).answer ≡ a → P (unless_refused a s (reached s (last_of ins s)))
-    go e Opened q = quiet e (ap refused_of q)
-    go e (Done x) q = quiet e (ap refused_of q)
-    go e Wait q = quiet e (ap refused_of q)
-    go e Step q = quiet e (ap refused_of q)
-    go e (Answer.Refused n) q = refused n
+    go : corrupt_of s ≡ false → (a : Result Answer Refusal) → (last_of ins s).answer ≡ a → P (unless_refused a s (reached s (last_of ins s)))
+    go e (Ok Opened) q = quiet e (ap refused_of q)
+    go e (Ok (Done x)) q = quiet e (ap refused_of q)
+    go e (Ok Wait) q = quiet e (ap refused_of q)
+    go e (Ok Step) q = quiet e (ap refused_of q)
+    go e (Err n) q = refused n
 
 -- the exact count of a settle that sends so many orders
 exact_potential : (s : Store) (orders : ℕ) → exact_of s orders ≡ potential_of s + 2 * orders
@@ -196,7 +196,7 @@ bound_more s e =
 -- 02, W8: the count is R + G + 2Q + S + 2U + 2O, and O is at most (n − 1) × U, for every settle that isn't refused
 pub settle_exact : SettleExact
 settle_exact ins s g =
-    settle_rule ins (λ (r : Settlement). (counts : SettleCounts) → r.answer ≡ Steps counts → Exact s counts) s (λ r counts e. clash (cc))
+    settle_rule ins (λ (r : Settlement). (counts : SettleCounts) → r.answer ≡ Ok counts → Exact s counts) s (λ r counts e. clash (cc))
     (λ c h q counts e. let b : counts_of (last_of ins s) ≡ counts = cc in rw (← b) (last c h q))
   where
     last : corrupt_of s ≡ false → refused_of (last_of ins s).answer ≡ false → quiet_of (last_of ins s).store ≡ true → Exact s (counts_of (last_of ins s))
@@ -215,5 +215,5 @@ settle_count ins s g counts e =
     let b = a.steps in
     let c = a.orders in
     let d = exact_potential s counts.orders in
-    let m = bound_more s (settle_rule ins (λ (r : Settlement). r.answer ≡ Steps counts → corrupt_of s ≡ false) s (λ r x. clash (cc)) (λ x _ _ _. x) e) in
+    let m = bound_more s (settle_rule ins (λ (r : Settlement). r.answer ≡ Ok counts → corrupt_of s ≡ false) s (λ r x. clash (cc)) (λ x _ _ _. x) e) in
     omega arith

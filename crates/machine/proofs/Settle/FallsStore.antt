@@ -11,7 +11,7 @@ use Rattle.words.specs.declared.LaneNo.{LaneNo}
 use Rattle.words.specs.declared.BlockNo.{BlockNo}
 use Rattle.words.specs.Folds.{count_to, sum_to}
 use Rattle.words.proofs.Folds.{any_false}
-use Rattle.queues.specs.declared.DownMessage.{DownMessage}
+use Rattle.queues.specs.Messages.{DownMessage}
 use Rattle.queues.specs.Queues.{capacity, full_at}
 use Rattle.lanes.specs.declared.Lane.{Lane}
 use Rattle.lanes.specs.Waits.{unserved_of}
@@ -23,8 +23,8 @@ use Rattle.store.specs.Control.{open_services}
 use Rattle.store.specs.Stores.{no_lane, lane_at}
 use Rattle.store.specs.LaneSets.{goes_to}
 use Rattle.store.specs.Quiet.{quiet_of}
-use Rattle.machine.specs.declared.LaneStep.{LaneStep}
-use Rattle.machine.specs.declared.Move.{Move}
+use Rattle.machine.specs.Machine.Parts.{LaneStep}
+use Rattle.machine.specs.Machine.Parts.{Move}
 use Rattle.machine.specs.Machine.Change.{refused_in, lane_store, commit_lane, some_full, posted, post_all, commit_move, moved_store}
 use Rattle.machine.specs.Machine.Settle.{downs_of, orders_in, orders_queued}
 use Rattle.machine.specs.Machine.Sized.{LaneSized, Sized}

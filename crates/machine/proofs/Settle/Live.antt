@@ -10,20 +10,20 @@ use Rattle.words.specs.declared.BlockNo.{BlockNo}
 use Rattle.words.specs.Units.{block_of}
 use Rattle.words.specs.Lines.{no_line, holds_of}
 use Rattle.words.specs.Folds.{any_to}
-use Rattle.queues.specs.declared.ReturnMessage.{ReturnMessage}
+use Rattle.queues.specs.Messages.{ReturnMessage}
 use Rattle.lanes.specs.declared.Lane.{Lane}
 use Rattle.lanes.specs.declared.Waiting.{Waiting}
 use Rattle.lanes.specs.declared.Waiting.TheVariants.{Idle, Unserved, Served}
 use Rattle.lanes.specs.Waits.{unserved_of}
 use Rattle.store.specs.declared.Store.{Store}
 use Rattle.store.specs.declared.Service.{Service}
-use Rattle.store.specs.declared.Lookup.TheVariants.{Of}
 use Rattle.store.specs.Control.{service_of}
 use Rattle.store.specs.Stores.{lane_at}
 use Rattle.machine.specs.Machine.Return.{is_answer}
 use Rattle.machine.proofs.Protocol.BlockState.{project}
 use Rattle.machine.proofs.Projection.Queued.{queued_returns}
 use Rattle.machine.proofs.Protocol.Invariant.{owed}
+use Rattle.std.specs.Prelude.{Some}
 
 -- ejections among return messages
 abbrev pub eject_count : List ReturnMessage → ℕ
@@ -47,4 +47,4 @@ pub record Live (s : Store) : Type 0 where
   -- a lane owes a block at most one answer
   pub one : (a : ℕ) → a < s.shape.m → (k : ℕ) → owed ((project s a).lane k) ≤ 1
   -- a service awaits an answer
-  pub awaits : (a : BlockNo) (v : Service) → service_of s.control a ≡ Of v → v.awaited ≢ 0
+  pub awaits : (a : BlockNo) (v : Service) → service_of s.control a ≡ Some v → v.awaited ≢ 0

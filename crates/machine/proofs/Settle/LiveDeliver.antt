@@ -13,17 +13,15 @@ use Rattle.words.specs.declared.BlockNo.{BlockNo}
 use Rattle.words.specs.Units.{block_of}
 use Rattle.words.specs.Lines.{no_line, holds_of}
 use Rattle.words.proofs.Folds.{any_never, pick}
-use Rattle.queues.specs.declared.ReturnMessage.{ReturnMessage}
-use Rattle.queues.specs.declared.DownMessage.{DownMessage}
+use Rattle.queues.specs.Messages.{ReturnMessage}
+use Rattle.queues.specs.Messages.{DownMessage}
 use Rattle.queues.specs.declared.DownKind.{DownKind}
 use Rattle.queues.specs.declared.DownKind.TheVariants.{Update, Purge, Grant, BareGrant}
-use Rattle.queues.specs.Queues.{capacity, empty_at, head_down, take_down}
+use Rattle.queues.specs.Queues.{capacity, empty_at, head_down, after_take}
 use Rattle.lanes.specs.declared.Lane.{Lane}
 use Rattle.lanes.specs.declared.Operation.{Operation}
 use Rattle.lanes.specs.declared.Waiting.{Waiting}
 use Rattle.lanes.specs.declared.Waiting.TheVariants.{Served}
-use Rattle.lanes.specs.declared.Found.{Found}
-use Rattle.lanes.specs.declared.Found.TheVariants.{At, Nothing}
 use Rattle.lanes.specs.Search.{search_of, vacant_of}
 use Rattle.lanes.specs.UseOrder.{Insertion}
 use Rattle.lanes.specs.Lanes.{with_downs}
@@ -31,9 +29,7 @@ use Rattle.answers.specs.Refusals.{refused_of}
 use Rattle.store.specs.declared.Store.{Store}
 use Rattle.store.specs.declared.Outcome.{Outcome}
 use Rattle.store.specs.Stores.{lane_at}
-use Rattle.machine.specs.declared.LaneStep.{LaneStep}
-use Rattle.machine.specs.declared.Ready.{Ready}
-use Rattle.machine.specs.declared.Ready.TheVariants.{Go}
+use Rattle.machine.specs.Machine.Parts.{LaneStep}
 use Rattle.machine.specs.Machine.Change.{commit_lane, refused_in}
 use Rattle.machine.specs.Machine.Begin.{complete_with}
 use Rattle.machine.specs.Machine.Deliver.{reply, update_at, purge_at, fill_at, grant_at, bare_at, served_on, grant_to, bare_to, deliver_kind, deliver_lane, deliver_of}
@@ -55,6 +51,9 @@ use Rattle.machine.proofs.Settle.Live.{has_room, Live}
 use Rattle.machine.proofs.Settle.LiveOwing.{served_on_lem}
 use Rattle.machine.proofs.Settle.LiveShort.{answer_room}
 use Rattle.machine.proofs.Rules.Rules.{deliver_is, answer_goes}
+use Rattle.std.specs.Prelude.{Option, Some, None, Result, Ok}
+use Rattle.words.specs.declared.LineNo.{LineNo}
+use Rattle.answers.specs.declared.Refusal.{Refusal}
 
 -- an answer joins a return queue with room
 reply_goes : (y : ReturnMessage) (l : Lane) → l.returns.len < capacity → refused_in (reply capacity y l).answer ≡ false
@@ -62,7 +61,7 @@ unfolding reply
 reply_goes y l h = rw (lt-leb capacity l.returns.len h)
 
 -- what an operation waits for is held, or there is a line that is not valid
-room_vacant : (c : ℕ) (l : Lane) (o : Operation) → has_room c l (Served o) ≡ true → search_of l c (block_of o.word) ≡ Nothing → vacant_of l c ≢ Nothing
+room_vacant : (c : ℕ) (l : Lane) (o : Operation) → has_room c l (Served o) ≡ true → search_of l c (block_of o.word) ≡ None → vacant_of l c ≢ None
 room_vacant c l o r e n = clash (cc (none))
   where
     none : has_room c l (Served o) ≡ false
@@ -71,15 +70,15 @@ room_vacant c l o r e n = clash (cc (none))
         (λ i h. or_never _ _ (ap not (all_valid l c n i h)) (none_holds c l (block_of o.word) e i h))
 
 -- a line that is not held is not found, and one that is held is
-status_none : (c : ℕ) (a : BlockNo) (l : Lane) → (seen c a l).line ≡ Invalid → search_of l c a ≡ Nothing
+status_none : (c : ℕ) (a : BlockNo) (l : Lane) → (seen c a l).line ≡ Invalid → search_of l c a ≡ None
 unfolding seen
 status_none c a l e = go (search_of l c a) refl
   where
-    go : (r : Found) → search_of l c a ≡ r → search_of l c a ≡ Nothing
-    go (At j) q = clash (cc (held_line (get_or l.lines j.0 no_line).private, ap held (rw q at e)))
-    go Nothing q = q
+    go : (r : Option LineNo) → search_of l c a ≡ r → search_of l c a ≡ None
+    go (Some j) q = clash (cc (held_line (get_or l.lines j.0 no_line).private, ap held (rw q at e)))
+    go None q = q
 
-status_found : (c : ℕ) (a : BlockNo) (l : Lane) → held (seen c a l).line ≡ true → search_of l c a ≢ Nothing
+status_found : (c : ℕ) (a : BlockNo) (l : Lane) → held (seen c a l).line ≡ true → search_of l c a ≢ None
 unfolding seen
 status_found c a l e q = clash (cc (rw q at e))
 
@@ -95,10 +94,10 @@ module _ (ins : Insertion) (s : Store) (f : List ℕ) (i : Consistent s f) (live
   a = x.block
 
   abbrev t : Lane
-  t = with_downs (take_down l.downs).queue l
+  t = with_downs (after_take l.downs) l
 
   abbrev rest : List DownMessage
-  rest = keep_if (down_about a) (queued_downs (take_down l.downs).queue)
+  rest = keep_if (down_about a) (queued_downs (after_take l.downs))
 
   block_below : a.0 < s.shape.m
   block_below = ((sound s i.sound).lane k.0 h).downs.inside 0 (omega (arith, filled))
@@ -107,7 +106,7 @@ module _ (ins : Insertion) (s : Store) (f : List ℕ) (i : Consistent s f) (live
   unfolding seen
   has_head =
       let e = take_downs l.downs (lane_sized s f i k.0 h).downs filled ((sound s i.sound).lane k.0 h).downs.short in
-      ap (keep_if (down_about a)) e ∙ keep_head (down_about a) x (queued_downs (take_down l.downs).queue) (eq-eqb a.0 a.0 refl)
+      ap (keep_if (down_about a)) e ∙ keep_head (down_about a) x (queued_downs (after_take l.downs)) (eq-eqb a.0 a.0 refl)
 
   -- a grant is for the operation that its lane waits for
   grant_served : is_order x.kind ≡ false → (o : Operation) × (l.waiting ≡ Served o) × ((block_of o.word).0 ≡ a.0)
@@ -125,37 +124,37 @@ module _ (ins : Insertion) (s : Store) (f : List ℕ) (i : Consistent s f) (live
   room = answer_room s f i live k.0 h filled
 
   -- each kind
-  update_goes : (r : Found) → refused_in (update_at capacity r a t).answer ≡ false
-  update_goes (At j) = reply_goes _ _ room
-  update_goes Nothing = reply_goes _ _ room
+  update_goes : (r : Option LineNo) → refused_in (update_at capacity r a t).answer ≡ false
+  update_goes (Some j) = reply_goes _ _ room
+  update_goes None = reply_goes _ _ room
 
-  purge_goes : (r : Found) → refused_in (purge_at capacity r a t).answer ≡ false
-  purge_goes (At j) = reply_goes _ _ room
-  purge_goes Nothing = reply_goes _ _ room
+  purge_goes : (r : Option LineNo) → refused_in (purge_at capacity r a t).answer ≡ false
+  purge_goes (Some j) = reply_goes _ _ room
+  purge_goes None = reply_goes _ _ room
 
   module _ (o : Operation) (w : l.waiting ≡ Served o) (b : (block_of o.word).0 ≡ a.0) where
-    fill_goes : search_of l s.shape.c a ≡ Nothing → (r : Found) → vacant_of l s.shape.c ≡ r → refused_in (fill_at ins r s.shape.c x o t).answer ≡ false
+    fill_goes : search_of l s.shape.c a ≡ None → (r : Option LineNo) → vacant_of l s.shape.c ≡ r → refused_in (fill_at ins r s.shape.c x o t).answer ≡ false
     unfolding complete_with
-    fill_goes e (At j) q = refl
-    fill_goes e Nothing q =
+    fill_goes e (Some j) q = refl
+    fill_goes e None q =
         absurd (room_vacant s.shape.c l o (sym (ap (has_room s.shape.c l) w) ∙ (live.lane k.0).room) (ap (search_of l s.shape.c) (same_block (block_of o.word) a b) ∙ e) q)
 
-    words_goes : x.kind ≡ Grant → (r : Found) → search_of l s.shape.c a ≡ r → refused_in (grant_at ins r s.shape.c x o t).answer ≡ false
+    words_goes : x.kind ≡ Grant → (r : Option LineNo) → search_of l s.shape.c a ≡ r → refused_in (grant_at ins r s.shape.c x o t).answer ≡ false
     words_goes q r e = go r (sym e ∙ none)
       where
-        none : search_of l s.shape.c a ≡ Nothing
+        none : search_of l s.shape.c a ≡ None
         none = status_none s.shape.c a l (head_due _ (project s a.0) (flat_block f a.0) k.0 Grant x rest (i.block a.0 block_below).1 has_head q).0
 
-        go : (r : Found) → r ≡ Nothing → refused_in (grant_at ins r s.shape.c x o t).answer ≡ false
-        go (At j) z = clash (cc)
-        go Nothing z = fill_goes none (vacant_of l s.shape.c) refl
+        go : (r : Option LineNo) → r ≡ None → refused_in (grant_at ins r s.shape.c x o t).answer ≡ false
+        go (Some j) z = clash (cc)
+        go None z = fill_goes none (vacant_of l s.shape.c) refl
 
-    bare_goes : x.kind ≡ BareGrant → (r : Found) → search_of l s.shape.c a ≡ r → refused_in (bare_at r s.shape.c o t).answer ≡ false
+    bare_goes : x.kind ≡ BareGrant → (r : Option LineNo) → search_of l s.shape.c a ≡ r → refused_in (bare_at r s.shape.c o t).answer ≡ false
     unfolding complete_with
-    bare_goes q (At j) e = refl
-    bare_goes q Nothing e = absurd (status_found s.shape.c a l (bare_held _ (project s a.0) (flat_block f a.0) k.0 x rest (i.block a.0 block_below).1 has_head q) e)
+    bare_goes q (Some j) e = refl
+    bare_goes q None e = absurd (status_found s.shape.c a l (bare_held _ (project s a.0) (flat_block f a.0) k.0 x rest (i.block a.0 block_below).1 has_head q) e)
 
-    served_go : served_on l.waiting a ≡ Go o
+    served_go : served_on l.waiting a ≡ Ok o
     served_go = ap (λ (y : Waiting). served_on y a) w ∙ rw (eq-eqb (block_of o.word).0 a.0 b)
 
   kind_goes : (y : DownKind) → x.kind ≡ y → refused_in (deliver_kind capacity ins y s.shape.c x t).answer ≡ false
@@ -163,10 +162,10 @@ module _ (ins : Insertion) (s : Store) (f : List ℕ) (i : Consistent s f) (live
   kind_goes Purge q = purge_goes (search_of l s.shape.c a)
   kind_goes Grant q =
       let o = grant_served (ap is_order q) in
-      ap (λ (r : Ready). refused_in (grant_to ins r s.shape.c x t).answer) (served_go o.0 o.1 o.2) ∙ words_goes o.0 o.1 o.2 q (search_of l s.shape.c a) refl
+      ap (λ (r : Result Operation Refusal). refused_in (grant_to ins r s.shape.c x t).answer) (served_go o.0 o.1 o.2) ∙ words_goes o.0 o.1 o.2 q (search_of l s.shape.c a) refl
   kind_goes BareGrant q =
       let o = grant_served (ap is_order q) in
-      ap (λ (r : Ready). refused_in (bare_to r s.shape.c x t).answer) (served_go o.0 o.1 o.2) ∙ bare_goes o.0 o.1 o.2 q (search_of l s.shape.c a) refl
+      ap (λ (r : Result Operation Refusal). refused_in (bare_to r s.shape.c x t).answer) (served_go o.0 o.1 o.2) ∙ bare_goes o.0 o.1 o.2 q (search_of l s.shape.c a) refl
 
   pub deliver_lane_goes : refused_in (deliver_lane capacity ins s.shape.c l).answer ≡ false
   unfolding deliver_lane

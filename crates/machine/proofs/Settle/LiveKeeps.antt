@@ -13,10 +13,9 @@ use Rattle.lanes.specs.UseOrder.{Insertion, place_at}
 use Rattle.answers.specs.declared.Answer.TheVariants.{Opened}
 use Rattle.store.specs.declared.Store.{Store}
 use Rattle.store.specs.declared.Outcome.{Outcome}
-use Rattle.store.specs.declared.Lookup.TheVariants.{Of, Nothing}
 use Rattle.store.specs.Opening.{blank_lane, fresh_of, open_of}
 use Rattle.store.specs.Stores.{no_lane, lane_at}
-use Rattle.machine.specs.declared.LaneStep.{LaneStep}
+use Rattle.machine.specs.Machine.Parts.{LaneStep}
 use Rattle.machine.specs.Machine.Change.{commit_lane}
 use Rattle.machine.specs.Machine.Begin.{begin_of}
 use Rattle.machine.specs.Machine.Deliver.{deliver_of}
@@ -41,6 +40,7 @@ use Rattle.machine.proofs.Settle.LiveServe.{serve_live}
 use Rattle.machine.proofs.Settle.LiveReturn.{return_live}
 use Rattle.machine.proofs.Rules.Rules.{lane_rule, begin_rule, deliver_rule}
 use Rattle.machine.proofs.Rules.RulesSettle.{step_rule, repeat_rule}
+use Rattle.std.specs.Prelude.{Some, None, Ok}
 
 -- nothing is under way in the lanes of an opening
 blank_live : (c : ℕ) → LaneLive c blank_lane
@@ -61,10 +61,10 @@ fresh_live shape =
     record {
       lane = each_lane (LaneLive shape.c) shape (blank_live shape.c) (record { ejects = omega arith; room = refl });
       one = λ a _. each_lane (λ (l : Lane). owed (seen shape.c (block_no a) l) ≤ 1) shape (blank_owed shape.c (block_no a)) (past_owed shape.c (block_no a));
-      awaits = λ a v e. let q : Nothing ≡ Of v = sym (blank_service a) ∙ e in clash (cc);
+      awaits = λ a v e. let q : None ≡ Some v = sym (blank_service a) ∙ e in clash (cc);
     }
 
-pub open_live : (shape : Shape) → (open_of shape).answer ≡ Opened → Live (open_of shape).store
+pub open_live : (shape : Shape) → (open_of shape).answer ≡ Ok Opened → Live (open_of shape).store
 open_live shape e = rw (opened_fresh shape e).2 (fresh_live shape)
 
 -- a live lane that owes no more, put back

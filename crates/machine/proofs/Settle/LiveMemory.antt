@@ -13,9 +13,9 @@ use Rattle.words.specs.declared.LaneNo.{LaneNo}
 use Rattle.words.specs.declared.BlockNo.{BlockNo}
 use Rattle.words.specs.Units.{block_of}
 use Rattle.words.proofs.Folds.{below?, any_never, by_cond, pick}
-use Rattle.queues.specs.declared.ReturnMessage.{ReturnMessage}
-use Rattle.queues.specs.declared.DownQueue.{DownQueue}
-use Rattle.queues.specs.Queues.{capacity, full_at, head_return, take_return}
+use Rattle.queues.specs.Messages.{ReturnMessage}
+use Rattle.queues.specs.Queues.{DownQueue}
+use Rattle.queues.specs.Queues.{capacity, full_at, head_return, after_take}
 use Rattle.lanes.specs.declared.Lane.{Lane}
 use Rattle.lanes.specs.declared.Operation.{Operation}
 use Rattle.lanes.specs.Lanes.{with_returns}
@@ -29,7 +29,7 @@ use Rattle.store.specs.declared.Outcome.{Outcome}
 use Rattle.store.specs.Control.{lowered, answer_of}
 use Rattle.store.specs.Stores.{no_lane, lane_at, block_at}
 use Rattle.store.specs.LaneSets.{nobody, only, goes_to}
-use Rattle.machine.specs.declared.Move.{Move}
+use Rattle.machine.specs.Machine.Parts.{Move}
 use Rattle.machine.specs.Machine.Change.{some_full, commit_move}
 use Rattle.machine.specs.Machine.Serve.{ordered, close, serve_move, serve_of}
 use Rattle.machine.specs.Machine.Return.{taken_by, is_answer, counted_move, return_move, return_of}
@@ -50,6 +50,7 @@ use Rattle.machine.proofs.Settle.LiveAwaited.{Awaited, owed_awaited}
 use Rattle.machine.proofs.Settle.LiveShort.{order_room, own_room, service_room}
 use Rattle.machine.proofs.Rules.Rules.{ServeReady, served, serve_is, returned, return_is}
 use Rattle.machine.proofs.Rules.RulesMemory.{serve_move_rule}
+use Rattle.std.specs.Prelude.{Option, Some}
 
 -- a message to one lane goes to no other
 only_lane : (d : LaneNo) (j : ℕ) → goes_to (only d) j ≡ true → j ≡ d.0
@@ -103,7 +104,7 @@ module _ (s : Store) (f : List ℕ) (i : Consistent s f) (live : Live s) (k : La
     b = block_at s a.0
 
     abbrev rest : List ReturnMessage
-    rest = keep_if (return_about a) (queued_returns (take_return l.returns).queue)
+    rest = keep_if (return_about a) (queued_returns (after_take l.returns))
 
     block_below : a.0 < s.shape.m
     block_below = ((sound s i.sound).lane k.0 h).returns.inside 0 (omega (arith, filled))
@@ -120,7 +121,7 @@ module _ (s : Store) (f : List ℕ) (i : Consistent s f) (live : Live s) (k : La
     unfolding close
     answer_goes t u d w =
         rw (w.found, ne_eqb w.service.awaited 0 w.some)
-        (by_cond (λ (c : Counted). Goes (counted_move c l b s.control t u)) (eqb w.service.awaited 1) (Closes w.service) (Awaits (lowered w.service))
+        (by_cond (λ (c : Option Counted). Goes (counted_move c l b s.control t u)) (eqb w.service.awaited 1) (Some (Closes w.service)) (Some (Awaits (lowered w.service)))
         (one_goes _ w.service.lane refl d refl (service_room s f i live a.0 block_below w.service w.found))
         (nothing_goes _ refl d refl))
 
@@ -128,7 +129,7 @@ module _ (s : Store) (f : List ℕ) (i : Consistent s f) (live : Live s) (k : La
     unfolding return_move
     return_move_goes =
         pick Goes (is_answer x.kind) _ _
-        (λ e. answer_goes (with_returns (take_return l.returns).queue l) (taken_by x.kind x.words k b) refl (answer_awaited e))
+        (λ e. answer_goes (with_returns (after_take l.returns) l) (taken_by x.kind x.words k b) refl (answer_awaited e))
         (λ _. nothing_goes _ refl refl refl)
 
     pub returned_goes : refused_of (returned s k).answer ≡ false

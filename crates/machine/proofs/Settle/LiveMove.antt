@@ -12,15 +12,14 @@ use Rattle.words.specs.declared.LaneNo.{LaneNo}
 use Rattle.words.specs.declared.BlockNo.{BlockNo}
 use Rattle.words.proofs.Folds.{by_cond, pick}
 use Rattle.queues.specs.Queues.{capacity}
-use Rattle.queues.specs.declared.DownMessage.{DownMessage}
+use Rattle.queues.specs.Messages.{DownMessage}
 use Rattle.store.specs.declared.Store.{Store}
 use Rattle.store.specs.declared.Outcome.{Outcome}
 use Rattle.store.specs.declared.Service.{Service}
-use Rattle.store.specs.declared.Lookup.TheVariants.{Of}
 use Rattle.store.specs.Control.{service_of}
 use Rattle.store.specs.Stores.{lane_at}
 use Rattle.store.specs.LaneSets.{goes_to}
-use Rattle.machine.specs.declared.Move.{Move}
+use Rattle.machine.specs.Machine.Parts.{Move}
 use Rattle.machine.specs.Machine.Change.{some_full, commit_move, moved_store}
 use Rattle.machine.specs.Machine.Settle.{is_order}
 use Rattle.machine.proofs.Laws.Sets.{same?}
@@ -35,6 +34,7 @@ use Rattle.machine.proofs.Store.Consistent.{Consistent}
 use Rattle.machine.proofs.Store.ConsistentMove.{Shows}
 use Rattle.machine.proofs.Settle.Live.{LaneLive, Live}
 use Rattle.machine.proofs.Settle.LiveLane.{posted_live}
+use Rattle.std.specs.Prelude.{Some}
 
 -- what a message to some lanes adds to what they owe: at most one, and a grant nothing
 pub send_most : (to : List Bool) (m : DownMessage) (g : ℕ → Seen) (j : ℕ) → owed (g j) ≡ 0 → owed (send_all to m g j) ≤ 1
@@ -50,7 +50,7 @@ send_grant to m g j e = by_cond (λ (l : Seen). owed l ≡ owed (g j)) (goes_to 
 pub record ShowsLive (s : Store) (k : LaneNo) (x : BlockNo) (v : Move) : Type 0 where
   pub lane : LaneLive s.shape.c v.lane
   pub one : (j : ℕ) → owed (send_all v.to v.message (upd (project s x.0).lane k.0 (seen s.shape.c x v.lane)) j) ≤ 1
-  pub awaits : (u : Service) → service_of v.control x ≡ Of u → u.awaited ≢ 0
+  pub awaits : (u : Service) → service_of v.control x ≡ Some u → u.awaited ≢ 0
 
 module _ (s : Store) (f : List ℕ) (i : Consistent s f) (live : Live s) (k : LaneNo) (h : k.0 < 8) (x : BlockNo) (v : Move) (w : Shows s f k x v) (y : ShowsLive s k x v) where
   -- each lane after it
@@ -66,7 +66,7 @@ module _ (s : Store) (f : List ℕ) (i : Consistent s f) (live : Live s) (k : La
   moved : Moves s k x v → Live (moved_store s k x v)
   moved g = record { lane = lane_moved; one = λ a b j. go a b j (same? a x.0); awaits = λ a u e. awaits a u e (same? a.0 x.0) }
     where
-      awaits : (a : BlockNo) (u : Service) → service_of v.control a ≡ Of u → (a.0 ≡ x.0) ⊎ (a.0 ≢ x.0) → u.awaited ≢ 0
+      awaits : (a : BlockNo) (u : Service) → service_of v.control a ≡ Some u → (a.0 ≡ x.0) ⊎ (a.0 ≢ x.0) → u.awaited ≢ 0
       awaits a u e (inl q) = y.awaits u (ap (service_of v.control) (sym (same_block a x q)) ∙ e)
       awaits a u e (inr n) = live.awaits a u (sym (w.control a.0 n) ∙ e)
 

@@ -15,15 +15,14 @@ use Rattle.words.proofs.Folds.{below?}
 use Rattle.queues.specs.Queues.{capacity}
 use Rattle.lanes.specs.UseOrder.{Insertion}
 use Rattle.answers.specs.declared.Answer.{Answer}
-use Rattle.answers.specs.declared.Answer.TheVariants.{Opened, Done, Wait, Step, Refused}
+use Rattle.answers.specs.declared.Answer.TheVariants.{Opened, Done, Wait, Step}
 use Rattle.answers.specs.declared.Refusal.TheVariants.{NothingPending}
 use Rattle.answers.specs.Refusals.{refused_of}
 use Rattle.store.specs.declared.Store.{Store}
 use Rattle.store.specs.declared.Outcome.{Outcome}
 use Rattle.store.specs.Opening.{open_of}
 use Rattle.store.specs.Stores.{lane_at}
-use Rattle.machine.specs.declared.LaneStep.{LaneStep}
-use Rattle.machine.specs.declared.Settled.{Settled}
+use Rattle.machine.specs.Machine.Parts.{LaneStep}
 use Rattle.machine.specs.Machine.Corruption.{corrupt_of}
 use Rattle.machine.specs.Machine.Change.{refused_in, commit_lane}
 use Rattle.machine.specs.Machine.Begin.{begin_of}
@@ -43,18 +42,21 @@ use Rattle.machine.proofs.Settle.LiveMemory.{returned_goes, served_goes}
 use Rattle.machine.proofs.Settle.Lively.{Lively, open_lively, call_lively, run_lively}
 use Rattle.machine.proofs.Settle.LiveSettle.{settle_goes}
 use Rattle.machine.proofs.Rules.Rules.{other_than_12, begin_checks, serve_checks, return_checks, deliver_checks, served, returned, answer_goes}
+use Rattle.std.specs.Prelude.{Result, Ok, Err}
+use Rattle.answers.specs.declared.Refusal.{Refusal}
+use Rattle.machine.specs.declared.SettleCounts.{SettleCounts}
 
 -- the answer isn't 12
 abbrev NotFull : Outcome → Type 0
 NotFull r = refusal_number r.answer ≢ 12
 
 -- no refusal
-goes_not_full : (a : Answer) → refused_of a ≡ false → refusal_number a ≢ 12
-goes_not_full Opened e q = absurd (omega arith)
-goes_not_full (Done x) e q = absurd (omega arith)
-goes_not_full Wait e q = absurd (omega arith)
-goes_not_full Step e q = absurd (omega arith)
-goes_not_full (Refused r) e q = clash (cc)
+goes_not_full : (a : Result Answer Refusal) → refused_of a ≡ false → refusal_number a ≢ 12
+goes_not_full (Ok Opened) e q = absurd (omega arith)
+goes_not_full (Ok (Done x)) e q = absurd (omega arith)
+goes_not_full (Ok Wait) e q = absurd (omega arith)
+goes_not_full (Ok Step) e q = absurd (omega arith)
+goes_not_full (Err r) e q = clash (cc)
 
 -- a lane's part that isn't refused, put back
 lane_not_full : (s : Store) (k : LaneNo) (r : LaneStep) → refused_in r.answer ≡ false → NotFull (commit_lane s k r)
@@ -87,7 +89,7 @@ module _ (s : Store) (l : Lively s) where
   call_not_full ins (Serve k) = serve_not_full k
   call_not_full ins (Return k) = return_not_full k
   call_not_full ins (Deliver k) = deliver_not_full ins k
-  call_not_full ins Settle = λ q. let e = ap (λ (a : Settled). refused_by (SettledWith a (settle_of ins s).completions)) (settle_goes ins s l).answer in absurd (omega arith)
+  call_not_full ins Settle = λ q. let e = ap (λ (a : Result SettleCounts Refusal). refused_by (SettledWith a (settle_of ins s).completions)) (settle_goes ins s l).answer in absurd (omega arith)
 
   -- the queues of every lane; past the n lanes they are empty
   lively_short : (k : ℕ) → ShortQueues s.shape (lane_at s k)

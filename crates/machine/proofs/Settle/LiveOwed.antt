@@ -10,15 +10,15 @@ use Rattle.words.specs.declared.BlockNo.{BlockNo}
 use Rattle.words.specs.declared.Op.{Op}
 use Rattle.words.specs.Units.{block_of}
 use Rattle.words.proofs.Folds.{by_cond}
-use Rattle.queues.specs.declared.ReturnMessage.{ReturnMessage}
-use Rattle.queues.specs.declared.DownMessage.{DownMessage}
+use Rattle.queues.specs.Messages.{ReturnMessage}
+use Rattle.queues.specs.Messages.{DownMessage}
 use Rattle.queues.specs.declared.DownKind.{DownKind}
 use Rattle.queues.specs.declared.DownKind.TheVariants.{Update, Purge, Grant, BareGrant}
 use Rattle.queues.specs.Queues.{head_down}
 use Rattle.lanes.specs.declared.Lane.{Lane}
 use Rattle.lanes.specs.declared.Operation.{Operation}
 use Rattle.lanes.specs.declared.Waiting.{Waiting}
-use Rattle.machine.specs.declared.LaneStep.{LaneStep}
+use Rattle.machine.specs.Machine.Parts.{LaneStep}
 use Rattle.machine.specs.Machine.Return.{is_answer}
 use Rattle.machine.specs.Machine.Settle.{is_order}
 use Rattle.machine.proofs.Laws.Sets.{same?}

@@ -14,8 +14,8 @@ use Rattle.words.specs.declared.BlockNo.{BlockNo}
 use Rattle.words.specs.Folds.{count_to, sum_to}
 use Rattle.words.specs.Units.{block_of}
 use Rattle.words.proofs.Folds.{by_cond}
-use Rattle.queues.specs.declared.ReturnMessage.{ReturnMessage}
-use Rattle.queues.specs.declared.DownMessage.{DownMessage}
+use Rattle.queues.specs.Messages.{ReturnMessage}
+use Rattle.queues.specs.Messages.{DownMessage}
 use Rattle.queues.specs.Queues.{messages, no_return, no_down}
 use Rattle.lanes.specs.declared.Lane.{Lane}
 use Rattle.lanes.specs.declared.Operation.{Operation}
@@ -24,8 +24,7 @@ use Rattle.lanes.specs.declared.Waiting.TheVariants.{Idle, Unserved, Served}
 use Rattle.lanes.specs.Waits.{unserved_of}
 use Rattle.store.specs.declared.Store.{Store}
 use Rattle.store.specs.declared.Service.{Service}
-use Rattle.store.specs.declared.Lookup.TheVariants.{Of}
-use Rattle.store.specs.Control.{slot_at, slot_of, service_of, open_services}
+use Rattle.store.specs.Control.{slot_at, slot_of, service_of, open_services, is_busy, service_in}
 use Rattle.store.specs.Stores.{lane_at}
 use Rattle.store.proofs.Services.{found, busy_found, never}
 use Rattle.machine.specs.Machine.Return.{is_answer}
@@ -40,6 +39,7 @@ use Rattle.machine.proofs.Projection.Queued.{queued_returns, queued_downs}
 use Rattle.machine.proofs.Store.Consistent.{Consistent}
 use Rattle.machine.proofs.Settle.Live.{eject_count, Live}
 use Rattle.machine.proofs.Settle.LiveAwaited.{owed_awaited}
+use Rattle.std.specs.Prelude.{Some}
 
 -- messages of a kind, by their blocks
 module _ {A : Type 0} (block : A → ℕ) (p : A → Bool) where
@@ -189,14 +189,14 @@ owed_all l = answer_count (queued_returns l.returns) + order_count (queued_downs
 
 module _ (s : Store) (f : List ℕ) (i : Consistent s f) (live : Live s) where
   abbrev service_at : ℕ → Service
-  service_at j = (slot_at s.control j).service
+  service_at j = (service_in (slot_at s.control j))
 
   -- what the invariant says of the service of block a
-  pub fits : (a : ℕ) (h : a < s.shape.m) (v : Service) → service_of s.control (block_no a) ≡ Of v → ServiceFits (i.block a h).0 (project s a).lane v
+  pub fits : (a : ℕ) (h : a < s.shape.m) (v : Service) → service_of s.control (block_no a) ≡ Some v → ServiceFits (i.block a h).0 (project s a).lane v
   fits a h v e = subst (ServedWell (i.block a h).0 (project s a).lane) e (i.block a h).1.service
 
   -- the service in slot j: its block is one of the store's, and its lane waits for it
-  module _ (j : ℕ) (l : j < 8) (b : (slot_at s.control j).busy ≡ true) where
+  module _ (j : ℕ) (l : j < 8) (b : is_busy (slot_at s.control j) ≡ true) where
     slot_block : (service_at j).block.0 < s.shape.m
     slot_block = ((sound s i.sound).control.services j l b).block
 
@@ -207,7 +207,7 @@ module _ (s : Store) (f : List ℕ) (i : Consistent s f) (live : Live s) where
         ap served_count g.waits
 
   -- LANES: two services of one lane are one
-  one_lane : (j d : ℕ) → j < 8 → d < 8 → (slot_at s.control j).busy ≡ true → (slot_at s.control d).busy ≡ true → (service_at j).lane.0 ≡ (service_at d).lane.0 → j ≡ d
+  one_lane : (j d : ℕ) → j < 8 → d < 8 → is_busy (slot_at s.control j) ≡ true → is_busy (slot_at s.control d) ≡ true → (service_at j).lane.0 ≡ (service_at d).lane.0 → j ≡ d
   one_lane j d l m b c e =
       let p = slot_served j l b in
       let q = slot_served d m c in
@@ -224,10 +224,10 @@ module _ (s : Store) (f : List ℕ) (i : Consistent s f) (live : Live s) where
 
     -- the services of other lanes
     abbrev others : ℕ → Bool
-    others j = (slot_at s.control j).busy && not (eqb (service_at j).lane.0 k)
+    others j = is_busy (slot_at s.control j) && not (eqb (service_at j).lane.0 k)
 
-    other_busy : (j : ℕ) → others j ≡ true → (slot_at s.control j).busy ≡ true
-    other_busy j e = (and_both (slot_at s.control j).busy (not (eqb (service_at j).lane.0 k)) e).0
+    other_busy : (j : ℕ) → others j ≡ true → is_busy (slot_at s.control j) ≡ true
+    other_busy j e = (and_both (is_busy (slot_at s.control j)) (not (eqb (service_at j).lane.0 k)) e).0
 
     -- the other lanes that may have a service: none that waits unserved
     abbrev lanes : ℕ → Bool
@@ -237,7 +237,7 @@ module _ (s : Store) (f : List ℕ) (i : Consistent s f) (live : Live s) where
     other_lane j l e =
         let p = slot_served j l (other_busy j e) in
         let u = served_on_lem (lane_at s (service_at j).lane.0).waiting (service_at j).block (λ z. absurd (omega arith)) in
-        rw ((and_both (slot_at s.control j).busy (not (eqb (service_at j).lane.0 k)) e).1, u.1)
+        rw ((and_both (is_busy (slot_at s.control j)) (not (eqb (service_at j).lane.0 k)) e).1, u.1)
 
     -- the services of other lanes are no more than these
     others_lanes : count_to others 8 ≤ count_to lanes s.shape.n
@@ -283,8 +283,8 @@ module _ (s : Store) (f : List ℕ) (i : Consistent s f) (live : Live s) where
     unfolding open_services
     others_open =
         let a = count_sum others 8 in
-        let b = count_sum (λ j. (slot_at s.control j).busy) 8 in
-        let c = sum_up (λ j. cond (others j) 1 0) (λ j. cond (slot_at s.control j).busy 1 0) 8 (λ j _. fewer (slot_at s.control j).busy (not (eqb (service_at j).lane.0 k))) in
+        let b = count_sum (λ j. is_busy (slot_at s.control j)) 8 in
+        let c = sum_up (λ j. cond (others j) 1 0) (λ j. cond (is_busy (slot_at s.control j)) 1 0) 8 (λ j _. fewer (is_busy (slot_at s.control j)) (not (eqb (service_at j).lane.0 k))) in
         omega arith
 
     -- what the lane owes a block has its service in a slot, and that is of another lane

@@ -6,20 +6,19 @@ use mathlib.Core.List.{List}
 use native.Mathlib.Omega.{arith}
 use Rattle.words.specs.declared.LaneNo.{LaneNo}
 use Rattle.words.specs.declared.BlockNo.{BlockNo}
-use Rattle.queues.specs.declared.ReturnMessage.{ReturnMessage}
-use Rattle.queues.specs.Queues.{head_return, take_return}
+use Rattle.queues.specs.Messages.{ReturnMessage}
+use Rattle.queues.specs.Queues.{head_return, after_take}
 use Rattle.lanes.specs.declared.Lane.{Lane}
 use Rattle.lanes.specs.Lanes.{with_returns}
 use Rattle.store.specs.declared.Store.{Store}
 use Rattle.store.specs.declared.Block.{Block}
 use Rattle.store.specs.declared.Service.{Service}
 use Rattle.store.specs.declared.Control.{Control}
-use Rattle.store.specs.declared.Lookup.TheVariants.{Of, Nothing}
 use Rattle.store.specs.declared.Outcome.{Outcome}
 use Rattle.store.specs.Control.{service_of, lowered, with_updated, without_service}
 use Rattle.store.specs.Stores.{lane_at, block_at}
 use Rattle.store.specs.LaneSets.{nobody, only}
-use Rattle.machine.specs.declared.Move.{Move}
+use Rattle.machine.specs.Machine.Parts.{Move}
 use Rattle.machine.specs.Machine.Change.{no_message, commit_move}
 use Rattle.machine.specs.Machine.Serve.{grant_of, close}
 use Rattle.machine.specs.Machine.Return.{taken_by, send_nothing, return_move, return_of}
@@ -43,9 +42,10 @@ use Rattle.machine.proofs.Settle.LiveMove.{send_grant, ShowsLive, commit_live}
 use Rattle.machine.proofs.Rules.Rules.{return_rule}
 use Rattle.machine.proofs.Rules.RulesMemory.{Awaited, return_move_rule}
 use Rattle.machine.proofs.Store.ConsistentMove.{Shows}
+use Rattle.std.specs.Prelude.{Some, None}
 
 -- a service that awaits more than one answer still awaits one
-lowered_awaits : (v w : Service) → v.awaited ≢ 0 → v.awaited ≢ 1 → Of (lowered v) ≡ Of w → w.awaited ≢ 0
+lowered_awaits : (v w : Service) → v.awaited ≢ 0 → v.awaited ≢ 1 → Some (lowered v) ≡ Some w → w.awaited ≢ 0
 lowered_awaits v w n o e z =
     let p : lowered v ≡ w = cc in
     let d = ap (λ (y : Service). y.awaited) p in
@@ -66,14 +66,14 @@ module _ (s : Store) (f : List ℕ) (i : Consistent s f) (live : Live s) (k : La
   b = block_at s a.0
 
   abbrev t : Lane
-  t = with_returns (take_return l.returns).queue l
+  t = with_returns (after_take l.returns) l
 
   abbrev u : Block
   u = taken_by x.kind x.words k b
 
   -- the messages about the block that are left
   abbrev rest : List ReturnMessage
-  rest = keep_if (return_about a) (queued_returns (take_return l.returns).queue)
+  rest = keep_if (return_about a) (queued_returns (after_take l.returns))
 
   -- the lane without its head
   taken_live : LaneLive s.shape.c t
@@ -95,7 +95,7 @@ module _ (s : Store) (f : List ℕ) (i : Consistent s f) (live : Live s) (k : La
       upd_cases (λ (j : ℕ) (y : Seen). owed y ≤ 1) (project s a.0).lane k.0 (seen s.shape.c a t) (omega arith) (λ j _. live.one a.0 m j)
 
   -- nothing is sent, with the control y after it; or the service closes
-  quiet_live : (y : Control) → ((v : Service) → service_of y a ≡ Of v → v.awaited ≢ 0) → ShowsLive s k a (send_nothing t u y)
+  quiet_live : (y : Control) → ((v : Service) → service_of y a ≡ Some v → v.awaited ≢ 0) → ShowsLive s k a (send_nothing t u y)
   quiet_live y c = record {
     lane = taken_live;
     one = λ j. let p = ap (λ (g : ℕ → Seen). owed (g j)) (send_none nobody no_message lanes nobody_none) in let q = one_owed j in omega arith;
@@ -107,7 +107,7 @@ module _ (s : Store) (f : List ℕ) (i : Consistent s f) (live : Live s) (k : La
   close_live v w = record {
     lane = taken_live;
     one = λ j. let p = send_grant (only v.lane) (grant_of u v) lanes j (grant_no_order u v) in let q = one_owed j in omega arith;
-    awaits = λ z e. let q : Nothing ≡ Of z = sym (gone s f i k h filled v w) ∙ e in clash (cc);
+    awaits = λ z e. let q : None ≡ Some z = sym (gone s f i k h filled v w) ∙ e in clash (cc);
   }
 
   pub head_live : Live (commit_move s k a (return_move k x l b s.control)).store

@@ -8,8 +8,8 @@ use native.Mathlib.Omega.{arith}
 use Rattle.words.specs.declared.LaneNo.{LaneNo}
 use Rattle.words.specs.declared.BlockNo.{BlockNo}
 use Rattle.words.specs.Units.{block_of}
-use Rattle.queues.specs.declared.DownMessage.{DownMessage}
-use Rattle.queues.specs.Messages.{bare_down}
+use Rattle.queues.specs.Messages.{DownMessage}
+use Rattle.queues.specs.Messages.{bare_message}
 use Rattle.lanes.specs.declared.Lane.{Lane}
 use Rattle.lanes.specs.declared.Operation.{Operation}
 use Rattle.lanes.specs.declared.Waiting.TheVariants.{Unserved, Served}
@@ -22,7 +22,7 @@ use Rattle.store.specs.declared.Outcome.{Outcome}
 use Rattle.store.specs.Control.{busy_for, with_service, awaited_of}
 use Rattle.store.specs.Stores.{lane_at, block_at}
 use Rattle.store.specs.LaneSets.{only, count_of}
-use Rattle.machine.specs.declared.Move.{Move}
+use Rattle.machine.specs.Machine.Parts.{Move}
 use Rattle.machine.specs.Machine.Change.{commit_move}
 use Rattle.machine.specs.Machine.Serve.{order_of, ordered, grant_of, close, service_for, serve_move, serve_of}
 use Rattle.machine.proofs.Bounds.Sound.{sound}
@@ -40,6 +40,7 @@ use Rattle.machine.proofs.Settle.Live.{has_room, LaneLive, Live}
 use Rattle.machine.proofs.Settle.LiveMove.{send_most, ShowsLive, commit_live}
 use Rattle.machine.proofs.Rules.Rules.{serve_rule}
 use Rattle.machine.proofs.Rules.RulesMemory.{serve_move_rule}
+use Rattle.std.specs.Prelude.{Ok}
 
 module _ (s : Store) (f : List ℕ) (i : Consistent s f) (live : Live s) (k : LaneNo) (h : k.0 < s.shape.n) (o : Operation) (e : (lane_at s k.0).waiting ≡ Unserved o)
     (free : busy_for s.shape.limit s.control (block_of o.word) ≡ false) (clear : (lane_at s k.0).returns.len ≡ 0) where
@@ -83,8 +84,8 @@ module _ (s : Store) (f : List ℕ) (i : Consistent s f) (live : Live s) (k : La
       (upd_cases (λ (j : ℕ) (l : Seen). owed l ≡ 0) (project s x.0).lane k.0 (seen s.shape.c x t) (same_owed ∙ none_owed k.0) (λ j _. none_owed j) j)
 
   -- the service is open, or closes at once
-  opens : count_of to ≢ 0 → ShowsLive s k x (record { answer = Step; lane = t; block = b; control = with_service v s.control; to = to; message = bare_down (order_of o.command) x })
-  opens some = record { lane = served_live; one = one_owed to (bare_down (order_of o.command) x); awaits = λ u r z. let q : v ≡ u = cc (own s f i k h o e free clear, r) in some (ap (λ (y : Service). y.awaited) q ∙ z) }
+  opens : count_of to ≢ 0 → ShowsLive s k x (record { answer = Ok Step; lane = t; block = b; control = with_service v s.control; to = to; message = bare_message (order_of o.command) x })
+  opens some = record { lane = served_live; one = one_owed to (bare_message (order_of o.command) x); awaits = λ u r z. let q : v ≡ u = cc (own s f i k h o e free clear, r) in some (ap (λ (y : Service). y.awaited) q ∙ z) }
 
   closes : ShowsLive s k x (close v t b s.control)
   unfolding close

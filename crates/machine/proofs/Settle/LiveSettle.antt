@@ -13,7 +13,6 @@ use Rattle.answers.specs.Refusals.{refused_of}
 use Rattle.store.specs.declared.Store.{Store}
 use Rattle.store.specs.Opening.{open_of}
 use Rattle.store.specs.Quiet.{quiet_of}
-use Rattle.machine.specs.declared.Settled.TheVariants.{Steps}
 use Rattle.machine.specs.Machine.Corruption.{corrupt_of}
 use Rattle.machine.specs.Machine.Settle.{bound_of, Progress, advance, ended, repeat_step, Settlement, unless_refused, reached, settle_of}
 use Rattle.machine.specs.Machine.Calls.{Call, Settle, call_of, run}
@@ -27,18 +26,20 @@ use Rattle.machine.proofs.Settle.Lively.{Lively, open_lively, step_lively, run_l
 use Rattle.machine.proofs.Settle.LiveStep.{step_goes}
 use Rattle.machine.proofs.Rules.RulesSettle.{repeat_rule}
 use Rattle.machine.proofs.List.Joined.{run_more}
+use Rattle.std.specs.Prelude.{Result, Ok, Err}
+use Rattle.answers.specs.declared.Refusal.{Refusal}
 
 -- an answer that is no refusal
-unless_goes : (a : Answer) (s : Store) (r : Settlement) → refused_of a ≡ false → unless_refused a s r ≡ r
-unless_goes Opened s r e = refl
-unless_goes (Done x) s r e = refl
-unless_goes Wait s r e = refl
-unless_goes Step s r e = refl
-unless_goes (Answer.Refused n) s r e = clash (cc)
+unless_goes : (a : Result Answer Refusal) (s : Store) (r : Settlement) → refused_of a ≡ false → unless_refused a s r ≡ r
+unless_goes (Ok Opened) s r e = refl
+unless_goes (Ok (Done x)) s r e = refl
+unless_goes (Ok Wait) s r e = refl
+unless_goes (Ok Step) s r e = refl
+unless_goes (Err n) s r e = clash (cc)
 
 -- a settle of which no step is refused
 settle_steps : (ins : Insertion) (s : Store) → corrupt_of s ≡ false → refused_of (last_of ins s).answer ≡ false → quiet_of (last_of ins s).store ≡ true →
-    settle_of ins s ≡ record { answer = Steps (counts_of (last_of ins s)); completions = (last_of ins s).completions; store = (last_of ins s).store }
+    settle_of ins s ≡ record { answer = Ok (counts_of (last_of ins s)); completions = (last_of ins s).completions; store = (last_of ins s).store }
 unfolding settle_of
 settle_steps ins s e h q = rw e (unless_goes (last_of ins s).answer s (reached s (last_of ins s)) h ∙ rw q)
 
@@ -66,12 +67,12 @@ settle_goes ins s l =
 pub always_settles : AlwaysSettles
 always_settles ins shape calls e = settle_goes ins (run ins (open_of shape).store calls).store (run_lively ins (open_of shape).store calls (open_lively shape e))
 
-settled_quiet : (ins : Insertion) (shape : Shape) (calls : List Call) → (open_of shape).answer ≡ Opened → quiet_of (run ins (open_of shape).store (calls ++ (Settle ∷ []))).store ≡ true
+settled_quiet : (ins : Insertion) (shape : Shape) (calls : List Call) → (open_of shape).answer ≡ Ok Opened → quiet_of (run ins (open_of shape).store (calls ++ (Settle ∷ []))).store ≡ true
 unfolding run call_of
 settled_quiet ins shape calls e = ap quiet_of (run_more ins (open_of shape).store calls (Settle ∷ [])) ∙ (always_settles ins shape calls e).quiet
 
 -- after any list of calls and a settle, every operation begun has completed
-pub all_complete : (ins : Insertion) (shape : Shape) (calls : List Call) → (open_of shape).answer ≡ Opened →
+pub all_complete : (ins : Insertion) (shape : Shape) (calls : List Call) → (open_of shape).answer ≡ Ok Opened →
     (b : Begun) → Memᴰ b (begun (run ins (open_of shape).store (calls ++ (Settle ∷ []))).history) →
     Memᴰ b (operations (run ins (open_of shape).store (calls ++ (Settle ∷ []))).history)
 all_complete ins shape calls e = ((order_of_memory ins shape (calls ++ (Settle ∷ [])) e).when_quiet (settled_quiet ins shape calls e)).all_completed

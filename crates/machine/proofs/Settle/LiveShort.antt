@@ -18,7 +18,6 @@ use Rattle.lanes.specs.declared.Waiting.TheVariants.{Idle, Unserved, Served}
 use Rattle.lanes.specs.Waits.{unserved_of}
 use Rattle.store.specs.declared.Store.{Store}
 use Rattle.store.specs.declared.Service.{Service}
-use Rattle.store.specs.declared.Lookup.TheVariants.{Of}
 use Rattle.store.specs.Control.{service_of}
 use Rattle.store.specs.Stores.{lane_at}
 use Rattle.store.proofs.Services.{found}
@@ -32,6 +31,7 @@ use Rattle.machine.proofs.Store.Consistent.{Consistent}
 use Rattle.machine.proofs.Store.ConsistentLane.{lane_sized}
 use Rattle.machine.proofs.Settle.Live.{eject_count, Live}
 use Rattle.machine.proofs.Settle.LiveOwing.{unserved_none, fits, served_on_lem, owed_all, owed_fewer, owed_two_fewer, owed_limit, grants_none, grants_about, grants_one, queue_length, returns_split, downs_split}
+use Rattle.std.specs.Prelude.{Some}
 
 -- the smaller is at most the first
 pub smaller_first : (a b : ℕ) → smaller a b ≤ a
@@ -134,7 +134,7 @@ module _ (s : Store) (f : List ℕ) (i : Consistent s f) (live : Live s) (k : �
       omega arith
 
 module _ (s : Store) (f : List ℕ) (i : Consistent s f) (live : Live s) where
-  pub service_room : (a : ℕ) → a < s.shape.m → (v : Service) → service_of s.control (block_no a) ≡ Of v → (lane_at s v.lane.0).downs.len < capacity
+  pub service_room : (a : ℕ) → a < s.shape.m → (v : Service) → service_of s.control (block_no a) ≡ Some v → (lane_at s v.lane.0).downs.len < capacity
   unfolding seen
   service_room a h v e =
       let z = sound s i.sound in

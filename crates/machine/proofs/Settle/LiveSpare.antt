@@ -15,8 +15,8 @@ use Rattle.words.specs.declared.Shape.{Shape}
 use Rattle.words.specs.Units.{block_of, limited}
 use Rattle.words.specs.Folds.{up_to}
 use Rattle.words.proofs.Folds.{by_cond}
-use Rattle.queues.specs.declared.ReturnMessage.{ReturnMessage}
-use Rattle.queues.specs.declared.DownMessage.{DownMessage}
+use Rattle.queues.specs.Messages.{ReturnMessage}
+use Rattle.queues.specs.Messages.{DownMessage}
 use Rattle.queues.specs.Queues.{capacity, head_return}
 use Rattle.lanes.specs.declared.Lane.{Lane}
 use Rattle.lanes.specs.declared.Operation.{Operation}
@@ -28,8 +28,8 @@ use Rattle.store.specs.declared.Outcome.{Outcome}
 use Rattle.store.specs.Opening.{bad_shape, bad_limit, blank_lane, fresh_of, open_of}
 use Rattle.store.specs.Stores.{no_lane, lane_at, block_at}
 use Rattle.store.specs.LaneSets.{only, goes_to}
-use Rattle.machine.specs.declared.LaneStep.{LaneStep}
-use Rattle.machine.specs.declared.Move.{Move}
+use Rattle.machine.specs.Machine.Parts.{LaneStep}
+use Rattle.machine.specs.Machine.Parts.{Move}
 use Rattle.machine.specs.Machine.Change.{commit_lane, post_to, post_all, commit_move, moved_store}
 use Rattle.machine.specs.Machine.Begin.{begin_of}
 use Rattle.machine.specs.Machine.Serve.{close, serve_move, serve_of}

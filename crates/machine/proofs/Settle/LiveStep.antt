@@ -18,10 +18,9 @@ use Rattle.lanes.specs.UseOrder.{Insertion}
 use Rattle.answers.specs.Refusals.{refused_of}
 use Rattle.store.specs.declared.Store.{Store}
 use Rattle.store.specs.declared.Outcome.{Outcome}
-use Rattle.store.specs.declared.Lookup.TheVariants.{Nothing}
 use Rattle.store.specs.Stores.{lane_at}
 use Rattle.store.specs.Quiet.{active_of, quiet_of}
-use Rattle.store.specs.Control.{slot_at, slot_of, service_of, open_services, busy_for}
+use Rattle.store.specs.Control.{slot_at, slot_of, service_of, open_services, busy_for, is_busy, service_in}
 use Rattle.store.proofs.Services.{never, busy_found, for_none, none_found}
 use Rattle.machine.specs.Machine.Settle.{lane, settle_step}
 use Rattle.machine.proofs.Laws.Sums.{count_zero}
@@ -36,6 +35,7 @@ use Rattle.machine.proofs.Settle.LiveAwaited.{awaited_owed}
 use Rattle.machine.proofs.Settle.LiveDeliver.{deliver_goes}
 use Rattle.machine.proofs.Settle.LiveMemory.{return_goes, serve_goes}
 use Rattle.machine.proofs.Rules.RulesSettle.{NoDowns, NoReturns, step_rule}
+use Rattle.std.specs.Prelude.{None}
 
 -- a lane whose operation memory has not taken
 unserved_some : (w : Waiting) → unserved_of w ≡ true → (o : Operation) × (w ≡ Unserved o)
@@ -66,21 +66,21 @@ module _ (s : Store) (f : List ℕ) (i : Consistent s f) (live : Live s) (spare 
       unfolding owed seen
       none_owed a j = rw (all_returns j, all_downs j)
 
-      idle : (j : ℕ) → j < 8 → (slot_at s.control j).busy ≡ false
-      idle j h = never (slot_at s.control j).busy (λ b.
-          let v = (slot_at s.control j).service in
+      idle : (j : ℕ) → j < 8 → is_busy (slot_at s.control j) ≡ false
+      idle j h = never (is_busy (slot_at s.control j)) (λ b.
+          let v = (service_in (slot_at s.control j)) in
           let g = (sound s i.sound).control in
           let e = busy_found s.control j g.distinct h b in
           live.awaits v.block v e (awaited_owed s f i v.block.0 v e (g.services j h b).block (λ k _. none_owed v.block.0 k)))
 
       none_open : open_services s.control ≡ 0
       unfolding open_services
-      none_open = count_zero (λ j. (slot_at s.control j).busy) 8 idle
+      none_open = count_zero (λ j. is_busy (slot_at s.control j)) 8 idle
 
       none_for : (a : BlockNo) → slot_of s.control a ≡ 8
       none_for a = for_none s.control a (λ j h. rw (idle j h))
 
-      none_serves : (a : BlockNo) → service_of s.control a ≡ Nothing
+      none_serves : (a : BlockNo) → service_of s.control a ≡ None
       none_serves a = let e = none_for a in none_found s.control a (omega arith)
 
       free : (a : BlockNo) → busy_for s.shape.limit s.control a ≡ false

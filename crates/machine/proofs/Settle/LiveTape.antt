@@ -15,7 +15,7 @@ use Rattle.tape_records.specs.declared.Record.{Record}
 use Rattle.tape_records.specs.Records.{parse_of}
 use Rattle.lanes.specs.UseOrder.{LoadsOldest}
 use Rattle.answers.specs.declared.Answer.{Answer}
-use Rattle.answers.specs.declared.Answer.TheVariants.{Opened, Done, Wait, Step, Refused}
+use Rattle.answers.specs.declared.Answer.TheVariants.{Opened, Done, Wait, Step}
 use Rattle.answers.specs.declared.Refusal.{Refusal}
 use Rattle.answers.specs.declared.Refusal.TheVariants.{Truncated, UnknownKind, NotOpen, AlreadyOpen, InvalidShape, NoSuchLane, NoSuchWord, LaneBusy, NothingPending, ControlBusy, ReturnsPending, QueueFull, TapeTooLong, Corrupt, BufferTooShort, Unexpected, PlacesExhausted, InvalidLimit}
 use Rattle.answers.specs.Refusals.{number_of}
@@ -30,6 +30,7 @@ use Rattle.machine.specs.Claims.NeverFull.{refusal_number, TapesNeverFull}
 use Rattle.machine.proofs.Settle.Lively.{Lively, fresh_lively, call_lively}
 use Rattle.machine.proofs.Settle.LiveNever.{call_not_full}
 use Rattle.machine.proofs.Rules.Rules.{OtherThan12, other_than_12}
+use Rattle.std.specs.Prelude.{Result, Ok, Err}
 
 -- no opening was read yet, or the store is one that an opening and calls give
 abbrev Read : Store → Type 0
@@ -68,15 +69,15 @@ record_not_full s (Record.Return k) r = when_not_full s _ r (λ l. record { answ
 record_not_full s (Record.Deliver k) r = when_not_full s _ r (λ l. record { answer = call_not_full s l LoadsOldest (Deliver k); store = inr (call_lively LoadsOldest s (Deliver k) l) })
 
 -- the answers to a tape's records
-replay_not_full : (more : ℕ) (s : Store) (tape : List ℕ) → Read s → (a : Answer) → Memᴰ a (replay_from more s tape) → refusal_number a ≢ 12
+replay_not_full : (more : ℕ) (s : Store) (tape : List ℕ) → Read s → (a : Result Answer Refusal) → Memᴰ a (replay_from more s tape) → refusal_number a ≢ 12
 unfolding replay_from
 replay_not_full zero s tape r a m = absurd (Memᴰ.not-nil m)
 replay_not_full (suc more) s tape r a m =
     let g = record_not_full s (parse_of tape).rec r in
-    pick (λ (xs : List Answer). Memᴰ a xs → refusal_number a ≢ 12) (eqb (length tape) 0) _ _ (λ _ n. absurd (Memᴰ.not-nil n))
+    pick (λ (xs : List (Result Answer Refusal)). Memᴰ a xs → refusal_number a ≢ 12) (eqb (length tape) 0) _ _ (λ _ n. absurd (Memᴰ.not-nil n))
     (λ _ n. first (record_of s (parse_of tape).rec) g.answer (Memᴰ.cases_cons n) (replay_not_full more (record_of s (parse_of tape).rec).store (drop (parse_of tape).size tape) g.store a)) m
   where
-    first : (x : Outcome) {xs : List Answer} → refusal_number x.answer ≢ 12 → (a ≡ x.answer) ⊎ Memᴰ a xs → (Memᴰ a xs → refusal_number a ≢ 12) → refusal_number a ≢ 12
+    first : (x : Outcome) {xs : List (Result Answer Refusal)} → refusal_number x.answer ≢ 12 → (a ≡ x.answer) ⊎ Memᴰ a xs → (Memᴰ a xs → refusal_number a ≢ 12) → refusal_number a ≢ 12
     first x h (inl q) rest = λ z. h (ap refusal_number (sym q) ∙ z)
     first x h (inr n) rest = rest n
 
@@ -108,13 +109,13 @@ reads_back PlacesExhausted = refl
 reads_back InvalidLimit = refl
 
 -- so a text of another number is another text; and what isn't refused begins with another letter
-text_not_full : (a : Answer) → refusal_number a ≢ 12 → answer_text a ≢ refused_text QueueFull
+text_not_full : (a : Result Answer Refusal) → refusal_number a ≢ 12 → answer_text a ≢ refused_text QueueFull
 unfolding answer_text
-text_not_full Opened n e = let q = ap (λ (xs : List ℕ). get_or xs 0 0) e in absurd (omega arith)
-text_not_full (Done x) n e = let q = ap (λ (xs : List ℕ). get_or xs 0 0) e in absurd (omega arith)
-text_not_full Wait n e = let q = ap (λ (xs : List ℕ). get_or xs 0 0) e in absurd (omega arith)
-text_not_full Step n e = let q = ap (λ (xs : List ℕ). get_or xs 0 0) e in absurd (omega arith)
-text_not_full (Refused r) n e = n (sym (reads_back r) ∙ ap (λ (xs : List ℕ). digits (drop 8 xs)) e ∙ reads_back QueueFull)
+text_not_full (Ok Opened) n e = let q = ap (λ (xs : List ℕ). get_or xs 0 0) e in absurd (omega arith)
+text_not_full (Ok (Done x)) n e = let q = ap (λ (xs : List ℕ). get_or xs 0 0) e in absurd (omega arith)
+text_not_full (Ok Wait) n e = let q = ap (λ (xs : List ℕ). get_or xs 0 0) e in absurd (omega arith)
+text_not_full (Ok Step) n e = let q = ap (λ (xs : List ℕ). get_or xs 0 0) e in absurd (omega arith)
+text_not_full (Err r) n e = n (sym (reads_back r) ∙ ap (λ (xs : List ℕ). digits (drop 8 xs)) e ∙ reads_back QueueFull)
 
 blank_read : Read blank_store
 unfolding fresh_of

@@ -17,6 +17,7 @@ use Rattle.machine.proofs.Store.OrderOfMemory.{call_consistent}
 use Rattle.machine.proofs.Settle.Live.{Live}
 use Rattle.machine.proofs.Settle.LiveSpare.{Spare, open_spare, step_spare, call_spare}
 use Rattle.machine.proofs.Settle.LiveKeeps.{open_live, settle_step_live, call_live}
+use Rattle.std.specs.Prelude.{Ok}
 
 pub record Lively (s : Store) : Type 0 where
   pub flat : List ℕ
@@ -25,13 +26,13 @@ pub record Lively (s : Store) : Type 0 where
   pub spare : Spare s
 
 -- an opening
-pub open_lively : (shape : Shape) → (open_of shape).answer ≡ Opened → Lively (open_of shape).store
+pub open_lively : (shape : Shape) → (open_of shape).answer ≡ Ok Opened → Lively (open_of shape).store
 open_lively shape e = record { flat = _; consistent = open_consistent shape e; live = open_live shape e; spare = open_spare shape }
 
 -- .. as the store that an opening in range makes
 pub fresh_lively : (shape : Shape) → bad_shape shape ≡ false → bad_limit shape ≡ false → Lively (fresh_of shape)
 unfolding open_of
-fresh_lively shape e f = let a : (open_of shape).answer ≡ Opened = rw (e, f) in let l = open_lively shape a in rw (e, f) at l
+fresh_lively shape e f = let a : (open_of shape).answer ≡ Ok Opened = rw (e, f) in let l = open_lively shape a in rw (e, f) at l
 
 -- every call keeps it
 pub call_lively : (ins : Insertion) (s : Store) (x : Call) → Lively s → Lively (call_of ins s x).store

@@ -17,8 +17,8 @@ use Rattle.store.specs.declared.Store.{Store}
 use Rattle.store.specs.declared.Outcome.{Outcome}
 use Rattle.store.specs.Control.{service_of, awaited_of}
 use Rattle.store.specs.Stores.{lane_at}
-use Rattle.machine.specs.declared.LaneStep.{LaneStep}
-use Rattle.machine.specs.declared.Move.{Move}
+use Rattle.machine.specs.Machine.Parts.{LaneStep}
+use Rattle.machine.specs.Machine.Parts.{Move}
 use Rattle.machine.specs.Machine.Corruption.{corrupt_of}
 use Rattle.machine.specs.Machine.Change.{commit_lane, commit_move}
 use Rattle.machine.specs.Machine.Serve.{serve_of}

@@ -9,7 +9,7 @@ use Rattle.words.specs.declared.BlockNo.{BlockNo}
 use Rattle.words.specs.declared.WordNo.{WordNo}
 use Rattle.words.specs.declared.Op.{Op}
 use Rattle.words.specs.Units.{block_of}
-use Rattle.queues.specs.declared.DownMessage.{DownMessage}
+use Rattle.queues.specs.Messages.{DownMessage}
 use Rattle.queues.specs.declared.DownKind.{DownKind}
 use Rattle.queues.specs.declared.DownKind.TheVariants.{Update, Purge, Grant, BareGrant}
 use Rattle.queues.specs.Queues.{capacity, head_down}
@@ -17,7 +17,7 @@ use Rattle.lanes.specs.declared.Lane.{Lane}
 use Rattle.lanes.specs.UseOrder.{Insertion}
 use Rattle.store.specs.declared.Store.{Store}
 use Rattle.store.specs.Stores.{lane_at}
-use Rattle.machine.specs.declared.LaneStep.{LaneStep}
+use Rattle.machine.specs.Machine.Parts.{LaneStep}
 use Rattle.machine.specs.Machine.Change.{lane_store, commit_lane}
 use Rattle.machine.specs.Machine.Deliver.{deliver_lane, deliver_of}
 use Rattle.machine.specs.Claims.Flat.{flat_value, flat_after, flat_block}

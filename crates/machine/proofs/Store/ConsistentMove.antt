@@ -11,7 +11,7 @@ use Rattle.words.specs.declared.LaneNo.{LaneNo}
 use Rattle.words.specs.declared.BlockNo.{BlockNo}
 use Rattle.words.proofs.Folds.{pick}
 use Rattle.queues.specs.Queues.{capacity}
-use Rattle.queues.specs.declared.DownMessage.{DownMessage}
+use Rattle.queues.specs.Messages.{DownMessage}
 use Rattle.lanes.specs.declared.Lane.{Lane}
 use Rattle.answers.specs.declared.Answer.TheVariants.{Step}
 use Rattle.answers.specs.declared.Refusal.TheVariants.{QueueFull}
@@ -19,7 +19,7 @@ use Rattle.store.specs.declared.Store.{Store}
 use Rattle.store.specs.Control.{service_of}
 use Rattle.store.specs.Stores.{lane_at}
 use Rattle.store.specs.LaneSets.{goes_to}
-use Rattle.machine.specs.declared.Move.{Move}
+use Rattle.machine.specs.Machine.Parts.{Move}
 use Rattle.machine.specs.Machine.Change.{some_full, posted, commit_move, moved_store}
 use Rattle.machine.specs.Claims.Flat.{flat_block}
 use Rattle.machine.specs.Machine.Sized.{LaneSized}
@@ -28,11 +28,12 @@ use Rattle.machine.proofs.Protocol.BlockState.{Status, seen, block_no, project}
 use Rattle.machine.proofs.Protocol.Invariant.{Inv}
 use Rattle.machine.proofs.Projection.Project.{Moves, lane_sent, project_there}
 use Rattle.machine.proofs.Store.Consistent.{Consistent, pending_of, StaysConsistent, refused_consistent, pending_same}
+use Rattle.std.specs.Prelude.{Ok}
 
 -- what memory's part of a call changes: of its lane neither lines nor what it waits for; of its lane and the control nothing that
 -- another block sees; and its block keeps the invariant
 pub record Shows (s : Store) (f : List ℕ) (k : LaneNo) (x : BlockNo) (v : Move) : Type 0 where
-  pub answer : v.answer ≡ Step
+  pub answer : v.answer ≡ Ok Step
   pub below : x.0 < 64
   pub to : length v.to ≡ 8
   pub lane : LaneSized v.lane

@@ -16,7 +16,6 @@ use Rattle.lanes.specs.declared.Lane.{Lane}
 use Rattle.lanes.specs.declared.Waiting.TheVariants.{Idle}
 use Rattle.answers.specs.declared.Answer.TheVariants.{Opened}
 use Rattle.store.specs.declared.Block.{Block}
-use Rattle.store.specs.declared.Lookup.TheVariants.{Nothing}
 use Rattle.store.specs.Control.{free, is_for, service_of}
 use Rattle.store.specs.Opening.{bad_shape, bad_limit, blank_line, blank_lane, blank_block, blank_control, fresh_of, open_of}
 use Rattle.store.proofs.Services.{for_none, none_found}
@@ -34,6 +33,7 @@ use Rattle.machine.proofs.Protocol.BlockQuiet.{Blank, blank_inv}
 use Rattle.machine.proofs.Laws.Lines.{invalid_holds}
 use Rattle.machine.proofs.Projection.Searches.{Unique, search_none}
 use Rattle.machine.proofs.Store.Consistent.{Consistent, pending_of, pending_in}
+use Rattle.std.specs.Prelude.{None, Ok}
 
 -- what holds of the blank lane and of none holds of each lane of an opening
 pub each_lane : (P : Lane → Type 0) (shape : Shape) → P blank_lane → P no_lane → (k : ℕ) → P (lane_at (fresh_of shape) k)
@@ -101,7 +101,7 @@ no_flag k = go (below? k 8)
     go (inr h) = let p : length (replicate 8 false) ≤ k = h in get_or-eq_default (replicate 8 false) false p
 
 -- no block has a service
-pub blank_service : (a : BlockNo) → service_of blank_control a ≡ Nothing
+pub blank_service : (a : BlockNo) → service_of blank_control a ≡ None
 blank_service a =
     let e = for_none blank_control a (λ i h. ap (is_for a) (get_or-replicate 8 i free free h)) in
     none_found blank_control a (omega arith)
@@ -129,14 +129,14 @@ fresh_consistent shape e f =
     }
 
 -- an opening that isn't refused
-pub opened_fresh : (shape : Shape) → (open_of shape).answer ≡ Opened → (bad_shape shape ≡ false) × (bad_limit shape ≡ false) × ((open_of shape).store ≡ fresh_of shape)
+pub opened_fresh : (shape : Shape) → (open_of shape).answer ≡ Ok Opened → (bad_shape shape ≡ false) × (bad_limit shape ≡ false) × ((open_of shape).store ≡ fresh_of shape)
 unfolding open_of
 opened_fresh shape e = on (bad_shape shape) (λ b. clash (cc (rw b at e))) (λ b. on (bad_limit shape) (λ l. clash (cc (rw (b, l) at e))) (λ l. (b, l, rw (b, l))))
 
-pub open_consistent : (shape : Shape) → (open_of shape).answer ≡ Opened → Consistent (open_of shape).store (flat_of shape.m)
+pub open_consistent : (shape : Shape) → (open_of shape).answer ≡ Ok Opened → Consistent (open_of shape).store (flat_of shape.m)
 open_consistent shape e = let p = opened_fresh shape e in rw p.2 (fresh_consistent shape p.0 p.1)
 
-pub open_shape : (shape : Shape) → (open_of shape).answer ≡ Opened → (open_of shape).store.shape ≡ shape
+pub open_shape : (shape : Shape) → (open_of shape).answer ≡ Ok Opened → (open_of shape).store.shape ≡ shape
 unfolding fresh_of
 open_shape shape e = let p = opened_fresh shape e in rw p.2 refl
 
@@ -153,5 +153,5 @@ fresh_rests : (shape : Shape) (k : ℕ) → pending_in (fresh_of shape) k ≡ Re
 unfolding pending_in
 fresh_rests shape k = rests_either (ltb k (fresh_of shape).shape.n) (lane_at (fresh_of shape) k) (each_lane (λ (l : Lane). l.waiting ≡ Idle) shape blank_idle refl k)
 
-pub open_rests : (shape : Shape) → (open_of shape).answer ≡ Opened → pending_in (open_of shape).store ≡ none_pending
+pub open_rests : (shape : Shape) → (open_of shape).answer ≡ Ok Opened → pending_in (open_of shape).store ≡ none_pending
 open_rests shape e = let p = opened_fresh shape e in rw p.2 (fun_ext (fresh_rests shape))

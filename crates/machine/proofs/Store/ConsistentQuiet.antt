@@ -13,8 +13,6 @@ use native.Mathlib.Nat.{eq-or-lt_of_le}
 use Rattle.words.specs.Lines.{holds_of}
 use Rattle.words.specs.Folds.{up_to, any_to}
 use Rattle.words.proofs.Folds.{below?, any_true, any_never, pick}
-use Rattle.lanes.specs.declared.Found.{Found}
-use Rattle.lanes.specs.declared.Found.TheVariants.{At, Nothing}
 use Rattle.lanes.specs.Search.{search_of}
 use Rattle.store.specs.declared.Store.{Store}
 use Rattle.store.specs.Stores.{lane_at, block_at}
@@ -34,6 +32,8 @@ use Rattle.machine.proofs.Projection.Searches.{found_holds, search_at}
 use Rattle.machine.proofs.Projection.SeenBegin.{held_line}
 use Rattle.machine.proofs.Store.Consistent.{Consistent, pending_in}
 use Rattle.machine.proofs.Rules.RulesQuiet.{lane_still}
+use Rattle.std.specs.Prelude.{Option, Some, None}
+use Rattle.words.specs.declared.LineNo.{LineNo}
 
 -- a loop keeps what each turn keeps
 loop_keeps : {A : Type 0} (P : A → Type 0) (g : ℕ → A → A) (n : ℕ) (a : A) → ((k : ℕ) → k < n → (x : A) → P x → P (g k x)) → P a → P (up_to g n a)
@@ -106,19 +106,19 @@ module _ (s : Store) (f : List ℕ) (i : Consistent s f) (quiet : quiet_of s ≡
     held_copy : (k : ℕ) → held (status k) ≡ true → has_copy s k a ≡ true
     held_copy k e = go (search_of (lane_at s k) s.shape.c (block_no a)) refl
       where
-        go : (r : Found) → search_of (lane_at s k) s.shape.c (block_no a) ≡ r → has_copy s k a ≡ true
-        go (At j) q = let p = found_holds s.shape.c (lane_at s k) (block_no a) j q in any_true (λ t. holds_of (line_in s k t) (block_no a)) s.shape.c j.0 p.1 p.0
-        go Nothing q = let z : false ≡ true = rw q at e in clash (cc)
+        go : (r : Option LineNo) → search_of (lane_at s k) s.shape.c (block_no a) ≡ r → has_copy s k a ≡ true
+        go (Some j) q = let p = found_holds s.shape.c (lane_at s k) (block_no a) j q in any_true (λ t. holds_of (line_in s k t) (block_no a)) s.shape.c j.0 p.1 p.0
+        go None q = let z : false ≡ true = rw q at e in clash (cc)
 
     invalid_copy : (k : ℕ) → status k ≡ Invalid → has_copy s k a ≡ false
     invalid_copy k e = any_never (λ t. holds_of (line_in s k t) (block_no a)) s.shape.c (λ t h. on (holds_of (line_in s k t) (block_no a)) (λ q. clash (cc (found t h q))) (λ q. q))
       where
         found : (t : ℕ) → t < s.shape.c → holds_of (line_in s k t) (block_no a) ≡ true → held Invalid ≡ true
-        found t h q = sym (ap held e) ∙ ap held (ap (λ (r : Found). status_at r (lane_at s k).lines) (search_at s.shape.c (lane_at s k) (i.unique k) (block_no a) t h q)) ∙ held_line (line_in s k t).private
+        found t h q = sym (ap held e) ∙ ap held (ap (λ (r : Option LineNo). status_at r (lane_at s k).lines) (search_at s.shape.c (lane_at s k) (i.unique k) (block_no a) t h q)) ∙ held_line (line_in s k t).private
 
     -- a line that holds the block is the one found, with its status
     line_status : (k t : ℕ) → t < s.shape.c → holds_of (line_in s k t) (block_no a) ≡ true → status k ≡ cond (line_in s k t).private Modified Shared
-    line_status k t h q = ap (λ (r : Found). status_at r (lane_at s k).lines) (search_at s.shape.c (lane_at s k) (i.unique k) (block_no a) t h q)
+    line_status k t h q = ap (λ (r : Option LineNo). status_at r (lane_at s k).lines) (search_at s.shape.c (lane_at s k) (i.unique k) (block_no a) t h q)
 
     words_are : (k : ℕ) → (seen s.shape.c (block_no a) (lane_at s k)).words ≡ words_at (search_of (lane_at s k) s.shape.c (block_no a)) (lane_at s k).lines
     unfolding seen
@@ -128,7 +128,7 @@ module _ (s : Store) (f : List ℕ) (i : Consistent s f) (quiet : quiet_of s ≡
     line_words : (k t : ℕ) → t < s.shape.c → holds_of (line_in s k t) (block_no a) ≡ true → (line_in s k t).words ≡ flat_block f a
     line_words k t h q =
         let e = search_at s.shape.c (lane_at s k) (i.unique k) (block_no a) t h q in
-        sym (words_are k ∙ ap (λ (r : Found). words_at r (lane_at s k).lines) e) ∙ (inv.bears k).line (ap held (line_is k ∙ line_status k t h q) ∙ held_line (line_in s k t).private)
+        sym (words_are k ∙ ap (λ (r : Option LineNo). words_at r (lane_at s k).lines) e) ∙ (inv.bears k).line (ap held (line_is k ∙ line_status k t h q) ∙ held_line (line_in s k t).private)
 
     -- 1
     present_copy : (k : ℕ) → k < s.shape.n → present_in s a k ≡ true → has_copy s k a ≡ true
@@ -150,9 +150,9 @@ module _ (s : Store) (f : List ℕ) (i : Consistent s f) (quiet : quiet_of s ≡
     dirty_owns : (k : ℕ) → status k ≡ Modified → (t : ℕ) × (t < s.shape.c) × (owns s k t a ≡ true)
     dirty_owns k e = go (search_of (lane_at s k) s.shape.c (block_no a)) refl
       where
-        go : (r : Found) → search_of (lane_at s k) s.shape.c (block_no a) ≡ r → (t : ℕ) × (t < s.shape.c) × (owns s k t a ≡ true)
-        go Nothing q = clash (cc (ap dirty (rw q at e)))
-        go (At j) q =
+        go : (r : Option LineNo) → search_of (lane_at s k) s.shape.c (block_no a) ≡ r → (t : ℕ) × (t < s.shape.c) × (owns s k t a ≡ true)
+        go None q = clash (cc (ap dirty (rw q at e)))
+        go (Some j) q =
             let p = found_holds s.shape.c (lane_at s k) (block_no a) j q in
             (j.0, p.0, rw p.1 (private (line_in s k j.0).private refl))
           where

@@ -8,8 +8,8 @@ use borrow.Author.Tests.{eq-eqb, ne_eqb}
 use native.Mathlib.Omega.{arith}
 use Rattle.words.specs.declared.LaneNo.{LaneNo}
 use Rattle.words.specs.declared.BlockNo.{BlockNo}
-use Rattle.queues.specs.declared.ReturnMessage.{ReturnMessage}
-use Rattle.queues.specs.Queues.{head_return, take_return}
+use Rattle.queues.specs.Messages.{ReturnMessage}
+use Rattle.queues.specs.Queues.{head_return, after_take}
 use Rattle.queues.proofs.Shifts.{length_shifted}
 use Rattle.lanes.specs.declared.Lane.{Lane}
 use Rattle.lanes.specs.Lanes.{with_returns}
@@ -18,12 +18,11 @@ use Rattle.store.specs.declared.Store.{Store}
 use Rattle.store.specs.declared.Block.{Block}
 use Rattle.store.specs.declared.Service.{Service}
 use Rattle.store.specs.declared.Control.{Control}
-use Rattle.store.specs.declared.Lookup.TheVariants.{Of, Nothing}
 use Rattle.store.specs.Control.{service_of, lowered, with_updated, without_service}
 use Rattle.store.proofs.Services.{updated_own, updated_other, closed_own, closed_other}
 use Rattle.store.specs.Stores.{lane_at, block_at}
 use Rattle.store.specs.LaneSets.{nobody}
-use Rattle.machine.specs.declared.Move.{Move}
+use Rattle.machine.specs.Machine.Parts.{Move}
 use Rattle.machine.specs.Machine.Change.{no_message, commit_move}
 use Rattle.machine.specs.Machine.Serve.{close}
 use Rattle.machine.specs.Machine.Return.{taken_by, is_answer, send_nothing, return_move, return_of}
@@ -45,6 +44,7 @@ use Rattle.machine.proofs.Store.ConsistentMove.{Shows, commit_consistent}
 use Rattle.machine.proofs.Store.ConsistentServe.{send_none, grant_block, only_length}
 use Rattle.machine.proofs.Rules.Rules.{return_rule}
 use Rattle.machine.proofs.Rules.RulesMemory.{Awaited, return_move_rule}
+use Rattle.std.specs.Prelude.{Some, None}
 
 module _ (s : Store) (f : List ℕ) (i : Consistent s f) (k : LaneNo) (h : k.0 < s.shape.n) (filled : (lane_at s k.0).returns.len ≢ 0) where
   abbrev l : Lane
@@ -61,14 +61,14 @@ module _ (s : Store) (f : List ℕ) (i : Consistent s f) (k : LaneNo) (h : k.0 <
   b = block_at s a.0
 
   abbrev t : Lane
-  t = with_returns (take_return l.returns).queue l
+  t = with_returns (after_take l.returns) l
 
   abbrev u : Block
   u = taken_by x.kind x.words k b
 
   -- the messages about the block that are left
   abbrev rest : List ReturnMessage
-  rest = keep_if (return_about a) (queued_returns (take_return l.returns).queue)
+  rest = keep_if (return_about a) (queued_returns (after_take l.returns))
 
   lane_below : k.0 < 8
   lane_below = let p = (sound s i.sound).n_high in omega arith
@@ -88,12 +88,12 @@ module _ (s : Store) (f : List ℕ) (i : Consistent s f) (k : LaneNo) (h : k.0 <
   t_sized : LaneSized t
   t_sized = record { lines = l_sized.lines; order = l_sized.order; returns = rw (ne_eqb _ _ filled) (length_shifted l.returns.at ∙ l_sized.returns); downs = l_sized.downs }
 
-  pub taken : queued_returns l.returns ≡ x ∷ queued_returns (take_return l.returns).queue
+  pub taken : queued_returns l.returns ≡ x ∷ queued_returns (after_take l.returns)
   taken = take_returns l.returns l_sized.returns filled ((sound s i.sound).lane k.0 h).returns.short
 
   pub has_head : (seen s.shape.c a l).returns ≡ x ∷ rest
   unfolding seen
-  has_head = ap (keep_if (return_about a)) taken ∙ keep_head (return_about a) x (queued_returns (take_return l.returns).queue) (eq-eqb a.0 a.0 refl)
+  has_head = ap (keep_if (return_about a)) taken ∙ keep_head (return_about a) x (queued_returns (after_take l.returns)) (eq-eqb a.0 a.0 refl)
 
   seen_here : seen s.shape.c a t ≡ take_seen rest (seen s.shape.c a l)
   unfolding seen
@@ -102,7 +102,7 @@ module _ (s : Store) (f : List ℕ) (i : Consistent s f) (k : LaneNo) (h : k.0 <
   seen_there : (d : ℕ) → d ≢ a.0 → seen s.shape.c (block_no d) t ≡ seen s.shape.c (block_no d) l
   unfolding seen
   seen_there d n =
-      let e = ap (keep_if (return_about (block_no d))) taken ∙ keep_tail (return_about (block_no d)) x (queued_returns (take_return l.returns).queue) (ne_eqb a.0 d (λ q. n (sym q))) in
+      let e = ap (keep_if (return_about (block_no d))) taken ∙ keep_tail (return_about (block_no d)) x (queued_returns (after_take l.returns)) (ne_eqb a.0 d (λ q. n (sym q))) in
       ap (λ (r : List ReturnMessage). with_returned r) (sym e)
     where
       with_returned : List ReturnMessage → Seen
@@ -130,12 +130,12 @@ module _ (s : Store) (f : List ℕ) (i : Consistent s f) (k : LaneNo) (h : k.0 <
       }
 
   -- the block has no service once it is closed
-  pub gone : (v : Service) → Awaited s.control a v → service_of (without_service v s.control) a ≡ Nothing
+  pub gone : (v : Service) → Awaited s.control a v → service_of (without_service v s.control) a ≡ None
   gone v z = ap (service_of (without_service v s.control)) (sym z.block) ∙ closed_own s.control v v z.at (sound s i.sound).control.distinct
 
   -- the last answer
   pub close_shows : (v : Service) → Awaited s.control a v →
-      ((w : (ℕ → Status)) × Inv w (return_state k x rest (Of (lowered v)) (project s a.0)) (flat_block f a.0)) → v.awaited ≡ 1 → Shows s f k a (close v t u (without_service v s.control))
+      ((w : (ℕ → Status)) × Inv w (return_state k x rest (Some (lowered v)) (project s a.0)) (flat_block f a.0)) → v.awaited ≡ 1 → Shows s f k a (close v t u (without_service v s.control))
   unfolding close
   close_shows v z p one =
       record {
@@ -148,7 +148,7 @@ module _ (s : Store) (f : List ℕ) (i : Consistent s f) (k : LaneNo) (h : k.0 <
         pending = refl;
         unseen = seen_there;
         control = λ c n. closed_other s.control v v z.at (block_no c) (λ e. n (sym e ∙ ap (λ (y : BlockNo). y.0) z.block));
-        here = λ g. rw (project_here s k a _ g, seen_here, gone v z) (close_keeps p.0 (return_state k x rest (Of (lowered v)) (project s a.0)) (flat_block f a.0) (lowered v) p.1 refl (omega arith));
+        here = λ g. rw (project_here s k a _ g, seen_here, gone v z) (close_keeps p.0 (return_state k x rest (Some (lowered v)) (project s a.0)) (flat_block f a.0) (lowered v) p.1 refl (omega arith));
       }
 
   -- a message that is no answer
@@ -158,13 +158,13 @@ module _ (s : Store) (f : List ℕ) (i : Consistent s f) (k : LaneNo) (h : k.0 <
 
   -- an answer to the service v: the invariant once it is counted
   module _ (e : is_answer x.kind ≡ true) (v : Service) (w : Awaited s.control a v) where
-    counted : (z : (ℕ → Status)) × Inv z (return_state k x rest (Of (lowered v)) (project s a.0)) (flat_block f a.0)
+    counted : (z : (ℕ → Status)) × Inv z (return_state k x rest (Some (lowered v)) (project s a.0)) (flat_block f a.0)
     counted = answer_returns before.0 (project s a.0) (flat_block f a.0) k x rest v before.1 lane_below has_head e w.found w.some
 
     pub last_shows : v.awaited ≡ 1 → Shows s f k a (close v t u (without_service v s.control))
     last_shows one = close_shows v w counted one
 
-    pub own : service_of (with_updated (lowered v) s.control) a ≡ Of (lowered v)
+    pub own : service_of (with_updated (lowered v) s.control) a ≡ Some (lowered v)
     own = ap (service_of (with_updated (lowered v) s.control)) (sym w.block) ∙ updated_own s.control (lowered v) v w.at
 
     pub more_shows : Shows s f k a (send_nothing t u (with_updated (lowered v) s.control))

@@ -12,8 +12,8 @@ use Rattle.words.specs.declared.BlockNo.{BlockNo}
 use Rattle.words.specs.Folds.{count_to}
 use Rattle.words.specs.Units.{block_of}
 use Rattle.words.proofs.Folds.{below?, by_cond}
-use Rattle.queues.specs.declared.DownMessage.{DownMessage}
-use Rattle.queues.specs.Messages.{bare_down}
+use Rattle.queues.specs.Messages.{DownMessage}
+use Rattle.queues.specs.Messages.{bare_message}
 use Rattle.lanes.specs.declared.Lane.{Lane}
 use Rattle.lanes.specs.declared.Operation.{Operation}
 use Rattle.lanes.specs.declared.Waiting.TheVariants.{Unserved, Served}
@@ -22,7 +22,6 @@ use Rattle.answers.specs.declared.Answer.TheVariants.{Step}
 use Rattle.store.specs.declared.Store.{Store}
 use Rattle.store.specs.declared.Block.{Block}
 use Rattle.store.specs.declared.Service.{Service}
-use Rattle.store.specs.declared.Lookup.TheVariants.{Of, Nothing}
 use Rattle.store.specs.Control.{slot_of, service_of, busy_for, with_service}
 use Rattle.store.proofs.Services.{Vacant, not_busy_for, opened_own, opened_other}
 use Rattle.store.specs.Stores.{lane_at, block_at}
@@ -45,6 +44,7 @@ use Rattle.machine.proofs.Store.Consistent.{Consistent, StaysConsistent, refused
 use Rattle.machine.proofs.Store.ConsistentMove.{Shows, commit_consistent}
 use Rattle.machine.proofs.Rules.Rules.{serve_rule}
 use Rattle.machine.proofs.Rules.RulesMemory.{serve_move_rule}
+use Rattle.std.specs.Prelude.{Some, None, Ok}
 
 -- none below n passes a test that counts none
 count_none : (p : ℕ → Bool) (n : ℕ) → count_to p n ≡ 0 → (j : ℕ) → j < n → p j ≡ false
@@ -125,13 +125,13 @@ module _ (s : Store) (f : List ℕ) (i : Consistent s f) (k : LaneNo) (h : k.0 <
   none : slot_of s.control x ≡ 8
   none = (not_busy_for s.shape.limit s.control x free).0
 
-  no_service : service_of s.control x ≡ Nothing
+  no_service : service_of s.control x ≡ None
   no_service = served_none s x free
 
   room : Vacant s.control
   room = served_room s x i.sound free
 
-  pub own : service_of (with_service v s.control) x ≡ Of v
+  pub own : service_of (with_service v s.control) x ≡ Some v
   own = opened_own s.control v i.sized.slots room none
 
   -- the service is open, be it that it awaits none
@@ -140,7 +140,7 @@ module _ (s : Store) (f : List ℕ) (i : Consistent s f) (k : LaneNo) (h : k.0 <
       let p = i.block x.0 block_below in
       (p.0, serve_opens p.0 (project s x.0) (flat_block f x.0) k o p.1 lane_below waits returned no_service)
 
-  pub open_shows : Shows s f k x (record { answer = Step; lane = t; block = b; control = with_service v s.control; to = to; message = bare_down (order_of o.command) x })
+  pub open_shows : Shows s f k x (record { answer = Ok Step; lane = t; block = b; control = with_service v s.control; to = to; message = bare_message (order_of o.command) x })
   open_shows =
       record {
         answer = refl;
@@ -161,9 +161,9 @@ module _ (s : Store) (f : List ℕ) (i : Consistent s f) (k : LaneNo) (h : k.0 <
 
   closed : count_of to ≡ 0 →
       (u : (ℕ → Status)) ×
-      Inv u (record { lane = send_all (only k) (grant_of b v) served; block = closed_block o.command b k; service = Nothing }) (flat_block f x.0)
+      Inv u (record { lane = send_all (only k) (grant_of b v) served; block = closed_block o.command b k; service = None }) (flat_block f x.0)
   closed none =
-      rw (← send_none to (bare_down (order_of o.command) x) served (goes_none to to_length none))
+      rw (← send_none to (bare_message (order_of o.command) x) served (goes_none to to_length none))
       (close_keeps opened.0 (serve_state k o (project s x.0)) (flat_block f x.0) v opened.1 refl none)
 
   pub close_shows : count_of to ≡ 0 → Shows s f k x (close v t b s.control)

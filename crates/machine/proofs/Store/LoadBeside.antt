@@ -23,7 +23,6 @@ use Rattle.lanes.specs.declared.Lane.{Lane}
 use Rattle.lanes.specs.declared.Operation.{Operation}
 use Rattle.lanes.specs.declared.Waiting.{Waiting}
 use Rattle.lanes.specs.declared.Waiting.TheVariants.{Idle, Unserved, Served}
-use Rattle.lanes.specs.declared.Found.TheVariants.{At, Nothing}
 use Rattle.lanes.specs.Search.{line_at, search_of}
 use Rattle.lanes.specs.UseOrder.{Insertion, used_of}
 use Rattle.lanes.specs.Lanes.{with_lines, with_order}
@@ -50,6 +49,7 @@ use Rattle.machine.proofs.List.Joined.{history_more, history_length, index_by, w
 use Rattle.machine.proofs.Store.Consistent.{pending_of}
 use Rattle.machine.proofs.Store.ConsistentLane.{pending_here}
 use Rattle.machine.proofs.Store.OrderOfMemory.{reaches, told, order_of_memory}
+use Rattle.std.specs.Prelude.{Some, None, Ok}
 
 -- a load leaves its line as it is, and so the lane but for the use order
 load_line : (x : Line) (w : WordNo) → (perform_of x Load w).line ≡ x
@@ -64,11 +64,11 @@ module _ (s : Store) (k : LaneNo) (w : WordNo) (sound : corrupt_of s ≡ false) 
   l = lane_at s k.0
 
   -- what the lane takes, and what it doesn't
-  admits_hit : (i : LineNo) → search_of l s.shape.c (block_of w) ≡ At i → admits_of s.shape.c Load w l ≡ true
+  admits_hit : (i : LineNo) → search_of l s.shape.c (block_of w) ≡ Some i → admits_of s.shape.c Load w l ≡ true
   unfolding admits_of
   admits_hit i e = rw (admits_of, busy, e)
 
-  admits_no_miss : search_of l s.shape.c (block_of w) ≡ Nothing → admits_of s.shape.c Load w l ≡ false
+  admits_no_miss : search_of l s.shape.c (block_of w) ≡ None → admits_of s.shape.c Load w l ≡ false
   unfolding admits_of
   admits_no_miss e = rw (admits_of, busy, e)
 
@@ -84,10 +84,10 @@ module _ (s : Store) (k : LaneNo) (w : WordNo) (sound : corrupt_of s ≡ false) 
   not_taken op e = begin_is s k op w sound h inside ∙ rw e refl
 
   -- the lane's part of a load that hits
-  load_part : (i : LineNo) → search_of l s.shape.c (block_of w) ≡ At i →
-      begin_lane capacity s.shape.c Load w l ≡ record { answer = Value (get_or (line_at l i).words (place_of w) 0); lane = with_order (used_of s.shape.c i l.order) l }
+  load_part : (i : LineNo) → search_of l s.shape.c (block_of w) ≡ Some i →
+      begin_lane capacity s.shape.c Load w l ≡ record { answer = Ok (Value (get_or (line_at l i).words (place_of w) 0)); lane = with_order (used_of s.shape.c i l.order) l }
   unfolding begin_lane hit complete_with
-  load_part i e = rw (begin_lane, e) (λ j. record { answer = Value (get_or (line_at l i).words (place_of w) 0); lane = load_lane (used_of s.shape.c i l.order) i w l j })
+  load_part i e = rw (begin_lane, e) (λ j. record { answer = Ok (Value (get_or (line_at l i).words (place_of w) 0)); lane = load_lane (used_of s.shape.c i l.order) i w l j })
 
   pub beside : BesideWait s k w
   unfolding commit_lane
@@ -108,12 +108,12 @@ waits_for k (Unserved o) e = (o, refl, λ i. (refl, refl))
 waits_for k (Served o) e = (o, refl, λ i. (refl, refl))
 
 -- a begin that is answered with a completion, and what comes behind it
-first_done : (i : ℕ) (last : LastWaits) (k : LaneNo) (op : Op) (w : WordNo) (x : Completion) (r : Reply) (es : List Entry) → r ≡ Answers (Done x) →
+first_done : (i : ℕ) (last : LastWaits) (k : LaneNo) (op : Op) (w : WordNo) (x : Completion) (r : Reply) (es : List Entry) → r ≡ Answers (Ok (Done x)) →
     operations_of (attribute i last (record { call = Begin k op w; reply = r } ∷ es)) ≡ begun_at i k op w ∷ operations_of (attribute (suc i) (waits_after i last (Begin k op w) false) es)
 unfolding attribute operations_of origin_of
 first_done i last k op w x r es e = rw e refl
 
-module _ (ins : Insertion) (shape : Shape) (calls : List Call) (k : LaneNo) (w : WordNo) (more : List Call) (opened : (open_of shape).answer ≡ Opened) where
+module _ (ins : Insertion) (shape : Shape) (calls : List Call) (k : LaneNo) (w : WordNo) (more : List Call) (opened : (open_of shape).answer ≡ Ok Opened) where
   abbrev now : Store
   now = (run ins (open_of shape).store calls).store
 
@@ -127,9 +127,9 @@ module _ (ins : Insertion) (shape : Shape) (calls : List Call) (k : LaneNo) (w :
   index_is : index ≡ length calls
   index_is = let a = index_length 0 before in let b = history_length ins (open_of shape).store calls in omega arith
 
-  module _ (busy : idle_of (lane_at now k.0).waiting ≡ false) (x : Completion) (done : (begin_of now k Load w).answer ≡ Done x) where
+  module _ (busy : idle_of (lane_at now k.0).waiting ≡ false) (x : Completion) (done : (begin_of now k Load w).answer ≡ Ok (Done x)) where
     lane_there : k.0 < now.shape.n
-    lane_there = begin_rule (λ (r : Outcome). r.answer ≡ Done x → k.0 < now.shape.n) now k Load w (λ y e. clash (cc)) (λ r _. r.lane) done
+    lane_there = begin_rule (λ (r : Outcome). r.answer ≡ Ok (Done x) → k.0 < now.shape.n) now k Load w (λ y e. clash (cc)) (λ r _. r.lane) done
 
     abbrev after : List Begun
     after = operations_of (attribute (suc index) (waits_after index (waits_by 0 no_waits before) (Begin k Load w) false) (run ins (call_of ins now (Begin k Load w)).store more).history)

@@ -23,6 +23,7 @@ use Rattle.machine.proofs.Store.ConsistentOpen.{open_consistent, open_shape, ope
 use Rattle.machine.proofs.Store.ConsistentBegin.{begin_consistent}
 use Rattle.machine.proofs.Store.ConsistentSettle.{serve_leads, return_leads, deliver_leads, settle_leads}
 use Rattle.machine.proofs.Store.ConsistentQuiet.{quiet_rests, quiet_shows, quiet_flags}
+use Rattle.std.specs.Prelude.{Ok}
 
 -- every call keeps a store consistent and pays what it owes
 pub call_consistent : (ins : Insertion) (s : Store) (f : List ℕ) (c : Call) → Consistent s f → Keeps ins Consistent pending_in s f c
@@ -46,17 +47,17 @@ reached_keeps ins shape s f x i =
     let r = call_consistent ins s f x i.consistent in
     (r.0, record { same = call_shape ins s x ∙ i.same; consistent = r.1 }, r.2)
 
-pub reached_open : (shape : Shape) → (open_of shape).answer ≡ Opened → Reached shape (open_of shape).store (flat_of shape.m)
+pub reached_open : (shape : Shape) → (open_of shape).answer ≡ Ok Opened → Reached shape (open_of shape).store (flat_of shape.m)
 reached_open shape e = record { same = open_shape shape e; consistent = open_consistent shape e }
 
 -- what a list of calls from an opening reaches, and that it paid what it owes
-pub reaches : (ins : Insertion) (shape : Shape) (calls : List Call) → (open_of shape).answer ≡ Opened →
+pub reaches : (ins : Insertion) (shape : Shape) (calls : List Call) → (open_of shape).answer ≡ Ok Opened →
     (g : List ℕ) × Reached shape (run ins (open_of shape).store calls).store g ×
     Paid (pending_in (open_of shape).store) (flat_of shape.m) (run ins (open_of shape).store calls).history (pending_in (run ins (open_of shape).store calls).store) g
 reaches ins shape calls e = run_pays ins (Reached shape) pending_in (reached_keeps ins shape) (open_of shape).store (flat_of shape.m) calls (reached_open shape e)
 
 -- .. so the outer induction tells of it
-pub told : (ins : Insertion) (shape : Shape) (calls : List Call) (e : (open_of shape).answer ≡ Opened) →
+pub told : (ins : Insertion) (shape : Shape) (calls : List Call) (e : (open_of shape).answer ≡ Ok Opened) →
     Told shape.m (run ins (open_of shape).store calls).history (pending_in (run ins (open_of shape).store calls).store) (reaches ins shape calls e).0
 told ins shape calls e = let r = reaches ins shape calls e in outer shape.m _ (pending_in (run ins (open_of shape).store calls).store) r.0 (rw (open_rests shape e) at r.2)
 

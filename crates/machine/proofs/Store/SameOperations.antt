@@ -30,6 +30,7 @@ use Rattle.machine.proofs.Bounds.ShapeKeeps.{call_shape}
 use Rattle.machine.proofs.List.SameFlat.{Inside, flat_same}
 use Rattle.machine.proofs.Store.ConsistentOpen.{open_shape}
 use Rattle.machine.proofs.Store.OrderOfMemory.{order_of_memory}
+use Rattle.std.specs.Prelude.{Ok}
 
 -- a begin that isn't refused is of a word of the store
 begin_inside : (s : Store) (k : LaneNo) (op : Op) (w : WordNo) → refused_of (begin_of s k op w).answer ≡ false → w.0 < 4 * s.shape.m
@@ -71,7 +72,7 @@ operation_of (x ∷ xs) b n =
     first (Of a) e p = (x, Memᴰ.head refl, e ∙ ap Of (sym (Memᴰ.eq_of_singleton p)))
 
 -- so its word is one of the store
-module _ (ins : Insertion) (shape : Shape) (calls : List Call) (e : (open_of shape).answer ≡ Opened) where
+module _ (ins : Insertion) (shape : Shape) (calls : List Call) (e : (open_of shape).answer ≡ Ok Opened) where
   coherent : Coherent shape (history_of ins shape calls) (run ins (open_of shape).store calls).store
   coherent = order_of_memory ins shape calls e
 

@@ -14,7 +14,6 @@ use Rattle.lanes.specs.declared.Operation.{Operation}
 use Rattle.lanes.specs.declared.Waiting.TheVariants.{Unserved, Served}
 use Rattle.lanes.specs.Lanes.{with_waiting}
 use Rattle.store.specs.declared.Store.{Store}
-use Rattle.store.specs.declared.Lookup.TheVariants.{Nothing}
 use Rattle.store.specs.Control.{service_of, busy_for}
 use Rattle.store.proofs.Services.{none_found, Vacant, vacant, not_busy_for}
 use Rattle.store.specs.declared.Block.{Block}
@@ -23,6 +22,7 @@ use Rattle.machine.specs.Machine.Corruption.{corrupt_of}
 use Rattle.machine.specs.Machine.Serve.{sends_of, ordered}
 use Rattle.machine.specs.Machine.Sized.{Sized, LaneSized}
 use Rattle.machine.proofs.Bounds.Sound.{sound}
+use Rattle.std.specs.Prelude.{None}
 
 pub ordered_length : (b : Block) (k : LaneNo) (x : Command) → length b.present ≡ 8 → length (ordered b k x) ≡ 8
 unfolding ordered
@@ -49,5 +49,5 @@ pub served_room : (s : Store) (a : BlockNo) → corrupt_of s ≡ false → busy_
 served_room s a e free = let p = (not_busy_for s.shape.limit s.control a free).1 in let q = (sound s e).limit_high in vacant s.control (omega arith)
 
 -- .. and the block has no service
-pub served_none : (s : Store) (a : BlockNo) → busy_for s.shape.limit s.control a ≡ false → service_of s.control a ≡ Nothing
+pub served_none : (s : Store) (a : BlockNo) → busy_for s.shape.limit s.control a ≡ false → service_of s.control a ≡ None
 served_none s a free = let e = (not_busy_for s.shape.limit s.control a free).0 in none_found s.control a (omega arith)

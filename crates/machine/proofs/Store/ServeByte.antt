@@ -14,8 +14,8 @@ use Rattle.words.specs.declared.BlockNo.{BlockNo}
 use Rattle.words.specs.Units.{block_of}
 use Rattle.words.proofs.Folds.{pick}
 use Rattle.queues.specs.Queues.{capacity}
-use Rattle.queues.specs.declared.DownQueue.{DownQueue}
-use Rattle.queues.specs.Messages.{bare_down}
+use Rattle.queues.specs.Queues.{DownQueue}
+use Rattle.queues.specs.Messages.{bare_message}
 use Rattle.lanes.specs.declared.Lane.{Lane}
 use Rattle.lanes.specs.declared.Command.{Command}
 use Rattle.lanes.specs.declared.Operation.{Operation}
@@ -31,7 +31,7 @@ use Rattle.store.specs.Control.{with_service}
 use Rattle.store.proofs.Services.{not_busy_for, opened_own}
 use Rattle.store.specs.Stores.{lane_at, block_at}
 use Rattle.store.specs.LaneSets.{nobody, only, goes_to, count_of}
-use Rattle.machine.specs.declared.Move.{Move}
+use Rattle.machine.specs.Machine.Parts.{Move}
 use Rattle.machine.specs.Machine.Change.{some_full, moved_store}
 use Rattle.machine.specs.Machine.Serve.{ordered, order_of, grant_of, close, service_for, serve_move}
 use Rattle.machine.specs.Machine.Settle.{is_order}
@@ -50,6 +50,7 @@ use Rattle.machine.proofs.Projection.Queued.{queued_downs, push_downs}
 use Rattle.machine.proofs.Projection.Project.{Moves, goes_below, lane_sent, was, was_sized, was_room}
 use Rattle.machine.proofs.Store.ServeBounds.{ordered_length, served_lane, served_entry, served_to, served_sized, served_room, served_none}
 use Rattle.machine.proofs.Store.ConsistentServe.{goes_none, grant_block, only_length}
+use Rattle.std.specs.Prelude.{Ok}
 
 -- ---- the byte of a serve's orders says what `ordered` says
 module _ (b : Block) (k : LaneNo) (x : Command) where
@@ -161,7 +162,7 @@ module _ (s : Store) (k : LaneNo) (o : Operation) (z : Sized s) (r : ServeReady 
 
   -- orders go out
   abbrev sending : Move
-  sending = record { answer = Step; lane = t; block = b; control = with_service v s.control; to = to; message = bare_down (order_of o.command) a }
+  sending = record { answer = Ok Step; lane = t; block = b; control = with_service v s.control; to = to; message = bare_message (order_of o.command) a }
 
   sends : count_of to ≢ 0 → some_full capacity to (set s.lanes k.0 t) ≡ false → GoesByByte s (moved_store s k a sending) k a x
   sends some space = record {

@@ -3,7 +3,7 @@
 -- policy (02, W3; the program's is LoadsOldest).
 -- The supply contract's sentence: a lane reads the last word stored, in every order in which the lanes' messages reach the
 -- controller, and the places of the completions run 1, 2, 3 without a gap. This file only states it; proofs/Theorems.antt has the theorem. Assumes nothing.
-use Rattle.std.specs.Prelude.{ℕ, ◌<◌, ◌≡◌, true, length}
+use Rattle.std.specs.Prelude.{ℕ, ◌<◌, ◌≡◌, true, length, Ok}
 use mathlib.Core.List.{List, [], ◌∷◌, map, Memᴰ}
 use Rattle.words.specs.declared.Shape.{Shape}
 use Rattle.lanes.specs.UseOrder.{Insertion}
@@ -74,5 +74,5 @@ pub record Coherent (shape : Shape) (h : List Entry) (s : Store) : Type 0 where
 -- demand 3
 abbrev pub Demand3 : Type 0
 Demand3 =
-    (ins : Insertion) (shape : Shape) (calls : List Call) → (open_of shape).answer ≡ Opened →
+    (ins : Insertion) (shape : Shape) (calls : List Call) → (open_of shape).answer ≡ Ok Opened →
     Coherent shape (run ins (open_of shape).store calls).history (run ins (open_of shape).store calls).store

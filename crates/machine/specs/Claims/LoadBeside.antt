@@ -1,6 +1,6 @@
 -- 02, W5: a load beside a waiting operation (the field's term is hit under miss). What begin does on a lane that waits, on every store that 14 passes; and
 -- where such a load stands in the order of completion, in every list of calls from an opening. This file only states it; proofs/Theorems.antt has the theorems. Assumes nothing.
-use Rattle.std.specs.Prelude.{◌+◌, ◌*◌, ◌<◌, ◌≡◌, true, false, length, get_or}
+use Rattle.std.specs.Prelude.{◌+◌, ◌*◌, ◌<◌, ◌≡◌, true, false, length, get_or, Some, None, Ok}
 use mathlib.Core.List.{List, ◌∷◌, ◌++◌, Memᴰ}
 use Rattle.words.specs.declared.LaneNo.{LaneNo}
 use Rattle.words.specs.declared.LineNo.{LineNo}
@@ -12,7 +12,6 @@ use Rattle.words.specs.Units.{block_of, place_of}
 use Rattle.words.specs.Operations.{is_load}
 use Rattle.lanes.specs.declared.Waiting.{Waiting}
 use Rattle.lanes.specs.declared.Waiting.TheVariants.{Idle, Unserved, Served}
-use Rattle.lanes.specs.declared.Found.TheVariants.{At, Nothing}
 use Rattle.lanes.specs.Search.{line_at, search_of}
 use Rattle.lanes.specs.UseOrder.{Insertion, used_of}
 use Rattle.lanes.specs.Lanes.{with_order}
@@ -39,17 +38,17 @@ abbrev pub loaded : Store → LaneNo → LineNo → WordNo → Outcome
 loaded s k i w =
     let l = lane_at s k.0 in
     record {
-      answer = Done (completion_of k (get_or (line_at l i).words (place_of w) 0) (s.completions + 1));
+      answer = Ok (Done (completion_of k (get_or (line_at l i).words (place_of w) 0) (s.completions + 1)));
       store = with_completions (with_lane s k.0 (with_order (used_of s.shape.c i l.order) l)) (s.completions + 1);
     }
 
 -- begin on lane k, which waits, of a word that the store has
 pub record BesideWait (s : Store) (k : LaneNo) (w : WordNo) : Type 0 where
   -- a load that hits completes in that call; 17 is given to it as to any begin
-  pub hits : (i : LineNo) → search_of (lane_at s k.0) s.shape.c (block_of w) ≡ At i → exhausted_of s ≡ false → begin_of s k Load w ≡ loaded s k i w
-  pub exhausted : (i : LineNo) → search_of (lane_at s k.0) s.shape.c (block_of w) ≡ At i → exhausted_of s ≡ true → begin_of s k Load w ≡ refuse PlacesExhausted s
+  pub hits : (i : LineNo) → search_of (lane_at s k.0) s.shape.c (block_of w) ≡ Some i → exhausted_of s ≡ false → begin_of s k Load w ≡ loaded s k i w
+  pub exhausted : (i : LineNo) → search_of (lane_at s k.0) s.shape.c (block_of w) ≡ Some i → exhausted_of s ≡ true → begin_of s k Load w ≡ refuse PlacesExhausted s
   -- if it misses, 8 is given as before
-  pub misses : search_of (lane_at s k.0) s.shape.c (block_of w) ≡ Nothing → begin_of s k Load w ≡ refuse LaneBusy s
+  pub misses : search_of (lane_at s k.0) s.shape.c (block_of w) ≡ None → begin_of s k Load w ≡ refuse LaneBusy s
   -- .. and to every other operation, whatever line it would hit
   pub others : (op : Op) → is_load op ≡ false → begin_of s k op w ≡ refuse LaneBusy s
 
@@ -81,6 +80,6 @@ pub record StandsAhead (ins : Insertion) (shape : Shape) (calls : List Call) (k 
 -- the second claim: of every list of calls from an opening that isn't refused, in which a lane that waits loads and is answered with a completion
 abbrev pub LoadStandsAhead : Type 0
 LoadStandsAhead =
-    (ins : Insertion) (shape : Shape) (calls : List Call) (k : LaneNo) (w : WordNo) (more : List Call) → (open_of shape).answer ≡ Opened →
+    (ins : Insertion) (shape : Shape) (calls : List Call) (k : LaneNo) (w : WordNo) (more : List Call) → (open_of shape).answer ≡ Ok Opened →
     idle_of (lane_at (run ins (open_of shape).store calls).store k.0).waiting ≡ false →
-    (x : Completion) → (begin_of (run ins (open_of shape).store calls).store k Load w).answer ≡ Done x → StandsAhead ins shape calls k w more
+    (x : Completion) → (begin_of (run ins (open_of shape).store calls).store k Load w).answer ≡ Ok (Done x) → StandsAhead ins shape calls k w more

@@ -1,45 +1,44 @@
 -- 02, W7: from an opening a queue is never full. No call is refused by 12, no line of a tape says so, and each queue keeps to a figure. 12 remains for
 -- stores that did not come from an opening. This file only states it; proofs/Theorems.antt has the theorems. Assumes nothing.
-use Rattle.std.specs.Prelude.{ℕ, ◌+◌, ◌-◌, ◌≤◌, ◌≡◌, cond, ◌≢◌, leb}
+use Rattle.std.specs.Prelude.{ℕ, ◌+◌, ◌-◌, ◌≤◌, ◌≡◌, cond, ◌≢◌, leb, Result, Ok, Err}
 use mathlib.Core.List.{List, Memᴰ}
 use Rattle.words.specs.declared.Shape.{Shape}
 use Rattle.lanes.specs.declared.Lane.{Lane}
 use Rattle.lanes.specs.UseOrder.{Insertion}
 use Rattle.answers.specs.declared.Answer.{Answer}
-use Rattle.answers.specs.declared.Answer.TheVariants.{Opened, Done, Wait, Step, Refused}
+use Rattle.answers.specs.declared.Answer.TheVariants.{Opened, Done, Wait, Step}
 use Rattle.answers.specs.declared.Refusal.TheVariants.{QueueFull}
 use Rattle.answers.specs.Refusals.{number_of}
 use Rattle.store.specs.Opening.{open_of}
 use Rattle.store.specs.Stores.{lane_at}
-use Rattle.machine.specs.declared.Settled.{Settled}
-use Rattle.machine.specs.declared.Settled.TheVariants.{Steps}
 use Rattle.machine.specs.Machine.Calls.{Call, Reply, Answers, SettledWith, Entry, run, history_of}
 use Rattle.machine.specs.Machine.Tape.{replay_of}
 use Rattle.machine.specs.Machine.Text.{refused_text, answer_text}
+use Rattle.answers.specs.declared.Refusal.{Refusal}
 
 -- the number that an answer is refused by; 0, which is no refusal's, where it isn't
-abbrev pub refusal_number : Answer → ℕ
-refusal_number Opened = 0
-refusal_number (Done x) = 0
-refusal_number Wait = 0
-refusal_number Step = 0
-refusal_number (Refused r) = number_of r
+abbrev pub refusal_number : Result Answer Refusal → ℕ
+refusal_number (Ok Opened) = 0
+refusal_number (Ok (Done x)) = 0
+refusal_number (Ok Wait) = 0
+refusal_number (Ok Step) = 0
+refusal_number (Err r) = number_of r
 
 -- .. and the reply of a call, settle's included
 abbrev pub refused_by : Reply → ℕ
 refused_by (Answers a) = refusal_number a
-refused_by (SettledWith (Steps counts) cs) = 0
-refused_by (SettledWith (Settled.Refused r) cs) = number_of r
+refused_by (SettledWith (Ok counts) cs) = 0
+refused_by (SettledWith (Err r) cs) = number_of r
 
 -- "it never occurs after any list of calls from an opening": no call of the list is answered with 12
 abbrev pub NeverFull : Type 0
 NeverFull =
-    (ins : Insertion) (shape : Shape) (calls : List Call) → (open_of shape).answer ≡ Opened →
+    (ins : Insertion) (shape : Shape) (calls : List Call) → (open_of shape).answer ≡ Ok Opened →
     (e : Entry) → Memᴰ e (history_of ins shape calls) → refused_by e.reply ≢ 12
 
 -- .. so no line of a tape is `refused 12`
 abbrev pub TapesNeverFull : Type 0
-TapesNeverFull = (tape : List ℕ) (a : Answer) → Memᴰ a (replay_of tape) → answer_text a ≢ refused_text QueueFull
+TapesNeverFull = (tape : List ℕ) (a : Result Answer Refusal) → Memᴰ a (replay_of tape) → answer_text a ≢ refused_text QueueFull
 
 -- the smaller of two numbers
 abbrev pub smaller : ℕ → ℕ → ℕ
@@ -58,5 +57,5 @@ pub record ShortQueues (shape : Shape) (l : Lane) : Type 0 where
 -- .. of every lane, after any list of calls from any opening that isn't refused
 abbrev pub QueuesStayShort : Type 0
 QueuesStayShort =
-    (ins : Insertion) (shape : Shape) (calls : List Call) → (open_of shape).answer ≡ Opened →
+    (ins : Insertion) (shape : Shape) (calls : List Call) → (open_of shape).answer ≡ Ok Opened →
     (k : ℕ) → ShortQueues shape (lane_at (run ins (open_of shape).store calls).store k)

@@ -1,10 +1,9 @@
 -- 02, W2: what a picture is to a reader who does not look at how its bytes are made. Its records are those of the valid lines, sorted by block, then by lane,
 -- then by line, and each valid line has exactly one; that leaves no order free, so two pictures of one store are the same file. This file only
 -- states it; proofs/Theorems.antt has the theorems. Assumes nothing.
-use Rattle.std.specs.Prelude.{ℕ, ◌+◌, ◌<◌, ◌≡◌, ◌⊎◌, true, ◌&&◌, cond, eqb, take}
+use Rattle.std.specs.Prelude.{ℕ, ◌+◌, ◌<◌, ◌≡◌, ◌⊎◌, true, ◌&&◌, cond, eqb, take, Ok}
 use mathlib.Core.List.{List, [], ◌∷◌, flat_map, Memᴰ}
 use Rattle.store.specs.declared.Store.{Store}
-use Rattle.machine.specs.declared.Filled.TheVariants.{Length}
 use Rattle.machine.specs.Claims.Flags.{line_in}
 use Rattle.machine.specs.Machine.Picture.{record_bytes, picture_of}
 
@@ -53,7 +52,7 @@ pub record InOrder (s : Store) (bytes : List ℕ) : Type 0 where
 
 -- Picture, where it isn't refused: the bytes that it writes are so
 abbrev pub PictureInOrder : Type 0
-PictureInOrder = (s : Store) (b : List ℕ) (l : ℕ) → (picture_of s b).answer ≡ Length l → InOrder s (take l (picture_of s b).buffer)
+PictureInOrder = (s : Store) (b : List ℕ) (l : ℕ) → (picture_of s b).answer ≡ Ok l → InOrder s (take l (picture_of s b).buffer)
 
 -- No free order is left: of each store only one list of bytes is so
 abbrev pub OneOrder : Type 0
@@ -62,5 +61,5 @@ OneOrder = (s : Store) (p q : List ℕ) → InOrder s p → InOrder s q → p �
 -- Two pictures of one store are the same file: one length and the same bytes, whatever the lent buffers had
 abbrev pub SamePictures : Type 0
 SamePictures =
-    (s : Store) (b d : List ℕ) (l r : ℕ) → (picture_of s b).answer ≡ Length l → (picture_of s d).answer ≡ Length r →
+    (s : Store) (b d : List ℕ) (l r : ℕ) → (picture_of s b).answer ≡ Ok l → (picture_of s d).answer ≡ Ok r →
     (l ≡ r) × (take l (picture_of s b).buffer ≡ take r (picture_of s d).buffer)

@@ -1,6 +1,6 @@
 -- 02, W3: "Two lists from openings, one under each rule, that complete the same operations in the same order get the same values", and the same
 -- places. This file only states it; proofs/Theorems.antt has the theorem. Assumes nothing.
-use Rattle.std.specs.Prelude.{◌≡◌, List, map}
+use Rattle.std.specs.Prelude.{◌≡◌, List, map, Ok}
 use Rattle.words.specs.declared.Shape.{Shape}
 use Rattle.words.specs.declared.WordNo.{WordNo}
 use Rattle.words.specs.declared.Op.{Op}
@@ -31,6 +31,6 @@ pub record ShowsSame (h g : List Entry) : Type 0 where
 -- the claim: of any two openings, whatever their lanes, lines and blocks, and of any two lists, each under either policy
 abbrev pub SameValues : Type 0
 SameValues =
-    (ins ins' : Insertion) (shape shape' : Shape) (calls calls' : List Call) → (open_of shape).answer ≡ Opened → (open_of shape').answer ≡ Opened →
+    (ins ins' : Insertion) (shape shape' : Shape) (calls calls' : List Call) → (open_of shape).answer ≡ Ok Opened → (open_of shape').answer ≡ Ok Opened →
     asked_in (history_of ins shape calls) ≡ asked_in (history_of ins' shape' calls') →
     ShowsSame (history_of ins shape calls) (history_of ins' shape' calls')

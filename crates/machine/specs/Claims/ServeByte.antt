@@ -1,17 +1,16 @@
 -- 02, W4: what a serve does by the byte that it works out before it queues an order (`orders_byte`, LaneBytes.antt). This file only states it;
 -- proofs/Theorems.antt has the theorem. Assumes nothing.
-use Rattle.std.specs.Prelude.{ℕ, ◌<◌, ◌≡◌, ◌≢◌, Bool, true, false, List, [], ◌∷◌, ◌++◌}
+use Rattle.std.specs.Prelude.{ℕ, ◌<◌, ◌≡◌, ◌≢◌, Bool, true, false, List, [], ◌∷◌, ◌++◌, Some, None}
 use Rattle.words.specs.declared.LaneNo.{LaneNo}
 use Rattle.words.specs.declared.BlockNo.{BlockNo}
 use Rattle.words.specs.Units.{block_of}
-use Rattle.queues.specs.declared.DownMessage.{DownMessage}
+use Rattle.queues.specs.Messages.{DownMessage}
 use Rattle.queues.specs.Queues.{messages}
 use Rattle.lanes.specs.declared.Operation.{Operation}
 use Rattle.lanes.specs.declared.Waiting.TheVariants.{Unserved}
 use Rattle.answers.specs.Refusals.{refused_of}
 use Rattle.store.specs.declared.Store.{Store}
 use Rattle.store.specs.declared.Service.{Service}
-use Rattle.store.specs.declared.Lookup.TheVariants.{Of, Nothing}
 use Rattle.store.specs.Control.{service_of}
 use Rattle.store.specs.Stores.{lane_at, block_at}
 use Rattle.machine.specs.Machine.Sized.{Sized}
@@ -44,9 +43,9 @@ pub record GoesByByte (s t : Store) (k : LaneNo) (a : BlockNo) (x : ℕ) : Type 
   -- the other down queues stay, all but lane k's
   pub others : (j : ℕ) → j < 8 → bit_of x j ≡ false → j ≢ k.0 → downs_at t j ≡ downs_at s j
   -- with orders: the block's service awaits as many answers as bits are set, and lane k's queue stays too
-  pub awaits : bits_in x ≢ 0 → (v : Service) × (service_of t.control a ≡ Of v) × (v.lane ≡ k) × (v.awaited ≡ bits_in x) × (downs_at t k.0 ≡ downs_at s k.0)
+  pub awaits : bits_in x ≢ 0 → (v : Service) × (service_of t.control a ≡ Some v) × (v.lane ≡ k) × (v.awaited ≡ bits_in x) × (downs_at t k.0 ≡ downs_at s k.0)
   -- with none: the service closed in that step, and lane k has the grant
-  pub closed : bits_in x ≡ 0 → (service_of t.control a ≡ Nothing) × (g : GainsGrant s t k.0) × (g.message.block ≡ a)
+  pub closed : bits_in x ≡ 0 → (service_of t.control a ≡ None) × (g : GainsGrant s t k.0) × (g.message.block ≡ a)
 
 -- the claim, of every store whose arrays have their declared lengths, as every store of the program has, and each serve that isn't refused
 abbrev pub ServeByByte : Type 0

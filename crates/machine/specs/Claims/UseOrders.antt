@@ -1,17 +1,16 @@
 -- What completions make of a lane's use order, in places: 01, "Parts of a store"; 02, W3, "goes in as the oldest", "becomes newest". This file only states it;
 -- proofs/Theorems.antt has the theorem. Assumes nothing.
-use Rattle.std.specs.Prelude.{ℕ, ◌+◌, ◌-◌, ◌<◌, ◌≤◌, ◌≡◌, true, false, ◌||◌, List, length}
+use Rattle.std.specs.Prelude.{ℕ, ◌+◌, ◌-◌, ◌<◌, ◌≤◌, ◌≡◌, true, false, ◌||◌, List, length, Some}
 use Rattle.words.specs.declared.LineNo.{LineNo}
 use Rattle.words.specs.declared.WordNo.{WordNo}
 use Rattle.words.specs.declared.Op.{Op}
 use Rattle.words.specs.Operations.{is_load}
-use Rattle.queues.specs.declared.DownMessage.{DownMessage}
+use Rattle.queues.specs.Messages.{DownMessage}
 use Rattle.lanes.specs.declared.Lane.{Lane}
 use Rattle.lanes.specs.declared.Operation.{Operation}
-use Rattle.lanes.specs.declared.Found.TheVariants.{At}
 use Rattle.lanes.specs.Search.{line_at}
 use Rattle.lanes.specs.UseOrder.{Insertion, Newest, LoadsOldest, place_at}
-use Rattle.machine.specs.declared.LaneStep.{LaneStep}
+use Rattle.machine.specs.Machine.Parts.{LaneStep}
 use Rattle.machine.specs.Machine.Corruption.{bad_order}
 use Rattle.machine.specs.Machine.Begin.{hit}
 use Rattle.machine.specs.Machine.Deliver.{fill_at, bare_at}
@@ -44,12 +43,12 @@ MadeNewest c j l r = BecomesNewest c j l.order r.lane.order
 pub record Completes (c j : ℕ) (l : Lane) : Type 0 where
   -- by a hit, and by a bare grant: it becomes the newest
   pub by_hit : (op : Op) (w : WordNo) → (is_load op || (line_at l (line_named l j)).private) ≡ true → MadeNewest c j l (hit c (line_named l j) op w l)
-  pub by_bare_grant : (o : Operation) → MadeNewest c j l (bare_at (At (line_named l j)) c o l)
+  pub by_bare_grant : (o : Operation) → MadeNewest c j l (bare_at (Some (line_named l j)) c o l)
   -- filled for a load: the oldest, and under 01's rule the newest
-  pub filled_for_load : (x : DownMessage) (o : Operation) → is_load o.op ≡ true → MadeOldest j l (fill_at LoadsOldest (At (line_named l j)) c x o l)
-  pub as_before_w3 : (x : DownMessage) (o : Operation) → MadeNewest c j l (fill_at Newest (At (line_named l j)) c x o l)
+  pub filled_for_load : (x : DownMessage) (o : Operation) → is_load o.op ≡ true → MadeOldest j l (fill_at LoadsOldest (Some (line_named l j)) c x o l)
+  pub as_before_w3 : (x : DownMessage) (o : Operation) → MadeNewest c j l (fill_at Newest (Some (line_named l j)) c x o l)
   -- filled for another operation: the newest, under either rule
-  pub filled_for_other : (ins : Insertion) (x : DownMessage) (o : Operation) → is_load o.op ≡ false → MadeNewest c j l (fill_at ins (At (line_named l j)) c x o l)
+  pub filled_for_other : (ins : Insertion) (x : DownMessage) (o : Operation) → is_load o.op ≡ false → MadeNewest c j l (fill_at ins (Some (line_named l j)) c x o l)
 
 -- the claim, of every lane whose use order 14 passes, and each of its lines
 abbrev pub UseOrders : Type 0

@@ -1,5 +1,5 @@
 -- The calls of demand 3 and what a list of them gives, under an insertion policy (02, W3). Assumes nothing.
-use Rattle.std.specs.Prelude.{Bool, true, false, List, [], ◌∷◌}
+use Rattle.std.specs.Prelude.{Bool, true, false, List, [], ◌∷◌, Result, Ok, Err}
 use Rattle.words.specs.declared.Shape.{Shape}
 use Rattle.words.specs.declared.LaneNo.{LaneNo}
 use Rattle.words.specs.declared.WordNo.{WordNo}
@@ -13,13 +13,13 @@ use Rattle.answers.specs.Completions.{done_in}
 use Rattle.store.specs.declared.Store.{Store}
 use Rattle.store.specs.declared.Outcome.{Outcome}
 use Rattle.store.specs.Opening.{open_of}
-use Rattle.machine.specs.declared.Settled.{Settled}
-use Rattle.machine.specs.declared.Settled.TheVariants.{Steps}
 use Rattle.machine.specs.Machine.Begin.{begin_of}
 use Rattle.machine.specs.Machine.Serve.{serve_of}
 use Rattle.machine.specs.Machine.Return.{return_of}
 use Rattle.machine.specs.Machine.Deliver.{deliver_of}
 use Rattle.machine.specs.Machine.Settle.{Settlement, settle_of}
+use Rattle.answers.specs.declared.Refusal.{Refusal}
+use Rattle.machine.specs.declared.SettleCounts.{SettleCounts}
 
 -- load, store, exchange and add are begin calls, with their operation; lane and word are any numbers
 pub data Call : Type 0 where
@@ -31,8 +31,8 @@ pub data Call : Type 0 where
 
 -- what a call is answered with
 pub data Reply : Type 0 where
-  Answers : Answer → Reply
-  SettledWith : Settled → List Completion → Reply
+  Answers : Result Answer Refusal → Reply
+  SettledWith : Result SettleCounts Refusal → List Completion → Reply
 
 -- an answer, and the store after it
 pub record Called : Type 0 where
@@ -79,20 +79,20 @@ history_of ins shape calls = (run ins (open_of shape).store calls).history
 -- a call gives the completions in its answer, settle in the order it lists them; a refused call gives none
 abbrev pub completions_of : Reply → List Completion
 completions_of (Answers a) = done_in a
-completions_of (SettledWith (Steps counts) cs) = cs
-completions_of (SettledWith (Settled.Refused r) cs) = []
+completions_of (SettledWith (Ok counts) cs) = cs
+completions_of (SettledWith (Err r) cs) = []
 
 -- the call was answered with a wait
 abbrev pub is_wait : Reply → Bool
-is_wait (Answers Opened) = false
-is_wait (Answers (Done x)) = false
-is_wait (Answers Wait) = true
-is_wait (Answers Step) = false
-is_wait (Answers (Answer.Refused r)) = false
+is_wait (Answers (Ok Opened)) = false
+is_wait (Answers (Ok (Done x))) = false
+is_wait (Answers (Ok Wait)) = true
+is_wait (Answers (Ok Step)) = false
+is_wait (Answers (Err r)) = false
 is_wait (SettledWith a cs) = false
 
 -- the call was refused
 abbrev pub is_refused : Reply → Bool
 is_refused (Answers a) = refused_of a
-is_refused (SettledWith (Steps counts) cs) = false
-is_refused (SettledWith (Settled.Refused r) cs) = true
+is_refused (SettledWith (Ok counts) cs) = false
+is_refused (SettledWith (Err r) cs) = true

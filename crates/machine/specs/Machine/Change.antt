@@ -1,17 +1,17 @@
 -- What every call shares: a refusal leaves the store as it was; what a call changes is put back in one place (a lane's part by
 -- commit_lane, memory's part by commit_move). How many places a queue has is an argument of what joins one. Assumes nothing.
-use Rattle.std.specs.Prelude.{ℕ, ◌+◌, Bool, false, true, cond, ◌&&◌, List, leb, get_or, set}
+use Rattle.std.specs.Prelude.{ℕ, ◌+◌, Bool, false, true, cond, ◌&&◌, List, leb, get_or, set, Result, Ok, Err}
 use Rattle.words.specs.declared.LaneNo.{LaneNo}
 use Rattle.words.specs.declared.BlockNo.{BlockNo}
 use Rattle.words.specs.Folds.{up_to, any_to}
 use Rattle.words.specs.Units.{zeros}
-use Rattle.queues.specs.declared.DownMessage.{DownMessage}
+use Rattle.queues.specs.Messages.{DownMessage}
 use Rattle.queues.specs.declared.DownKind.TheVariants.{Update}
-use Rattle.queues.specs.Queues.{capacity, full_at, push_down}
+use Rattle.queues.specs.Queues.{capacity, full_at, after_push}
 use Rattle.lanes.specs.declared.Lane.{Lane}
 use Rattle.lanes.specs.Lanes.{with_downs}
 use Rattle.answers.specs.declared.Answer.{Answer}
-use Rattle.answers.specs.declared.Answer.TheVariants.{Done, Wait, Step, Refused}
+use Rattle.answers.specs.declared.Answer.TheVariants.{Done, Wait, Step}
 use Rattle.answers.specs.declared.Refusal.{Refusal}
 use Rattle.answers.specs.declared.Refusal.TheVariants.{NoSuchLane, QueueFull, Corrupt}
 use Rattle.answers.specs.Refusals.{refused_of}
@@ -24,13 +24,14 @@ use Rattle.store.specs.Stores.{no_lane, with_completions, with_control, with_lan
 use Rattle.store.specs.LaneSets.{LaneSet, nobody, goes_to}
 use Rattle.machine.specs.declared.LaneAnswer.{LaneAnswer}
 use Rattle.machine.specs.declared.LaneAnswer.TheVariants.{Value, Waits, Stepped}
-use Rattle.machine.specs.declared.LaneStep.{LaneStep}
-use Rattle.machine.specs.declared.Move.{Move}
+use Rattle.machine.specs.Machine.Parts.{LaneStep}
+use Rattle.machine.specs.Machine.Parts.{Move}
+use Rattle.machine.specs.declared.LanePart.{LanePart}
 use Rattle.machine.specs.Machine.Corruption.{corrupt_of}
 
 -- A refusal gives its number alone; the store is the same as before the call
 abbrev pub refuse : Refusal → Store → Outcome
-refuse r s = record { answer = Refused r; store = s }
+refuse r s = record { answer = Err r; store = s }
 
 -- 14, then 6: the first checks of every call on a lane
 abbrev pub guarded : Store → LaneNo → Outcome → Outcome
@@ -38,29 +39,34 @@ guarded s k r = cond (corrupt_of s) (refuse Corrupt s) (cond (leb s.shape.n k.0)
 
 -- a refusal of a lane's part
 abbrev pub refuse_lane : Refusal → Lane → LaneStep
-refuse_lane r l = record { answer = LaneAnswer.Refused r; lane = l }
+refuse_lane r l = record { answer = Err r; lane = l }
+
+-- the step that the code's part of a lane stands for
+abbrev pub step_of : Lane → Result LanePart Refusal → LaneStep
+step_of l (Ok p) = record { answer = Ok p.answer; lane = p.lane }
+step_of l (Err r) = refuse_lane r l
 
 -- whether a lane's part is refused
-abbrev pub refused_in : LaneAnswer → Bool
-refused_in (Value v) = false
-refused_in Waits = false
-refused_in Stepped = false
-refused_in (LaneAnswer.Refused r) = true
+abbrev pub refused_in : Result LaneAnswer Refusal → Bool
+refused_in (Ok (Value v)) = false
+refused_in (Ok Waits) = false
+refused_in (Ok Stepped) = false
+refused_in (Err r) = true
 
 -- completions so far once a lane's part is counted: a completion is one more
-abbrev pub counted : LaneAnswer → ℕ → ℕ
-counted (Value v) done = done + 1
-counted Waits done = done
-counted Stepped done = done
-counted (LaneAnswer.Refused r) done = done
+abbrev pub counted : Result LaneAnswer Refusal → ℕ → ℕ
+counted (Ok (Value v)) done = done + 1
+counted (Ok Waits) done = done
+counted (Ok Stepped) done = done
+counted (Err r) done = done
 
 -- the answer of a call on lane k, by what its part came to and that count: a completion's place is the count with itself in it. No other part
 -- of a call makes a completion
-abbrev pub answer_to : LaneNo → ℕ → LaneAnswer → Answer
-answer_to k done (Value v) = Done (completion_of k v done)
-answer_to k done Waits = Wait
-answer_to k done Stepped = Step
-answer_to k done (LaneAnswer.Refused r) = Refused r
+abbrev pub answer_to : LaneNo → ℕ → Result LaneAnswer Refusal → Result Answer Refusal
+answer_to k done (Ok (Value v)) = Ok (Done (completion_of k v done))
+answer_to k done (Ok Waits) = Ok Wait
+answer_to k done (Ok Stepped) = Ok Step
+answer_to k done (Err r) = Err r
 
 -- lane k and the count of completions, after the lane's part of a call
 abbrev pub lane_store : Store → LaneNo → LaneStep → Store
@@ -82,7 +88,7 @@ some_full places to ls = any_to (λ j. goes_to to j && full_at places (get_or ls
 
 -- the message joins the down queue of a lane
 abbrev pub posted : ℕ → DownMessage → Lane → Lane
-posted places x l = with_downs (push_down places l.downs x).queue l
+posted places x l = with_downs (after_push places l.downs x) l
 
 -- .. of lane j if it goes there
 unfoldable pub post_to : ℕ → LaneSet → DownMessage → ℕ → List Lane → List Lane
@@ -94,7 +100,7 @@ post_all places to x ls = up_to (post_to places to x) 8 ls
 
 -- a refusal of memory's part
 abbrev pub refuse_move : Refusal → Lane → Block → Control → Move
-refuse_move r l b x = record { answer = Refused r; lane = l; block = b; control = x; to = nobody; message = no_message }
+refuse_move r l b x = record { answer = Err r; lane = l; block = b; control = x; to = nobody; message = no_message }
 
 -- lane k, block a, the control and the queues of those that a message goes to, after memory's part of a call
 abbrev pub moved_store : Store → LaneNo → BlockNo → Move → Store

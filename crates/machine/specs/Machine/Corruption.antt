@@ -8,8 +8,8 @@ use Rattle.words.specs.declared.Shape.{Shape}
 use Rattle.words.specs.Units.{block_of}
 use Rattle.words.specs.Lines.{no_line}
 use Rattle.words.specs.Folds.{any_to, any_of}
-use Rattle.queues.specs.declared.ReturnQueue.{ReturnQueue}
-use Rattle.queues.specs.declared.DownQueue.{DownQueue}
+use Rattle.queues.specs.Queues.{ReturnQueue}
+use Rattle.queues.specs.Queues.{DownQueue}
 use Rattle.queues.specs.Queues.{capacity, no_return, no_down}
 use Rattle.lanes.specs.declared.Lane.{Lane}
 use Rattle.lanes.specs.declared.Waiting.{Waiting}
@@ -19,7 +19,7 @@ use Rattle.store.specs.declared.Store.{Store}
 use Rattle.store.specs.declared.Block.{Block}
 use Rattle.store.specs.declared.Control.{Control}
 use Rattle.store.specs.declared.Service.{Service}
-use Rattle.store.specs.Control.{slot_count, slot_at, is_for, open_services}
+use Rattle.store.specs.Control.{slot_count, slot_at, is_for, open_services, is_busy, service_in}
 use Rattle.store.specs.Opening.{bad_shape, bad_limit}
 use Rattle.store.specs.Stores.{lane_at, block_at}
 use Rattle.machine.specs.Machine.Begun.{overrun_of}
@@ -86,7 +86,7 @@ bad_service n m v = leb n v.lane.0 || (bad_block m v.block || leb n v.awaited)
 -- .. in slot i, or an earlier slot has a service of its block
 abbrev pub bad_slot : ℕ → ℕ → Control → ℕ → Bool
 bad_slot n m x i =
-    (slot_at x i).busy && (bad_service n m (slot_at x i).service || any_to (λ j. is_for (slot_at x i).service.block (slot_at x j)) i)
+    is_busy (slot_at x i) && (bad_service n m (service_in (slot_at x i)) || any_to (λ j. is_for (service_in (slot_at x i)).block (slot_at x j)) i)
 
 -- 02, W6: services exceed L, two have one block; each of them as above
 unfoldable pub bad_control : Shape → Control → Bool

@@ -1,12 +1,17 @@
 -- 02, W4: a set of lanes in one byte (a bit mask), and memory's part of a call with it. Assumes nothing.
-use Rattle.std.specs.Prelude.{ℕ, ◌/◌, ◌%◌, ◌^◌, Bool, cond, [], ◌∷◌, eqb}
+use Rattle.std.specs.Prelude.{ℕ, ◌/◌, ◌%◌, ◌^◌, Bool, cond, [], ◌∷◌, Result, Ok, Err, eqb}
 use Rattle.words.specs.declared.LaneNo.{LaneNo}
 use Rattle.words.specs.Folds.{count_to, sum_to}
 use Rattle.lanes.specs.declared.Command.{Command}
+use Rattle.lanes.specs.declared.Lane.{Lane}
+use Rattle.answers.specs.declared.Answer.TheVariants.{Step}
+use Rattle.answers.specs.declared.Refusal.{Refusal}
 use Rattle.store.specs.declared.Block.{Block}
+use Rattle.store.specs.declared.Control.{Control}
 use Rattle.store.specs.LaneSets.{LaneSet, goes_to}
-use Rattle.machine.specs.declared.Move.{Move}
-use Rattle.machine.specs.declared.ByteMove.{ByteMove}
+use Rattle.machine.specs.Machine.Parts.{Move}
+use Rattle.machine.specs.declared.MemoryPart.{MemoryPart}
+use Rattle.machine.specs.Machine.Change.{refuse_move}
 use Rattle.machine.specs.Machine.Serve.{ordered}
 
 -- bit j of a number, which has the value 2 to the power j
@@ -29,6 +34,7 @@ orders_byte b k x = byte_of (ordered b k x)
 abbrev pub lanes_of : ℕ → LaneSet
 lanes_of x = bit_of x 0 ∷ bit_of x 1 ∷ bit_of x 2 ∷ bit_of x 3 ∷ bit_of x 4 ∷ bit_of x 5 ∷ bit_of x 6 ∷ bit_of x 7 ∷ []
 
--- the part of a call that a ByteMove stands for
-abbrev pub move_of : ByteMove → Move
-move_of v = record { answer = v.answer; lane = v.lane; block = v.block; control = v.control; to = lanes_of v.to; message = v.message }
+-- the move that the code's part of memory stands for: lane, block and control are those before it
+abbrev pub move_of : Lane → Block → Control → Result MemoryPart Refusal → Move
+move_of l b x (Ok v) = record { answer = Ok Step; lane = v.lane; block = v.block; control = v.control; to = lanes_of v.to; message = v.message }
+move_of l b x (Err r) = refuse_move r l b x

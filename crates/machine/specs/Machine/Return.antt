@@ -1,10 +1,10 @@
 -- 01, "Return k"; 02, W6: an answer belongs to the service of its block. Assumes nothing.
-use Rattle.std.specs.Prelude.{ℕ, Bool, true, false, cond, List}
+use Rattle.std.specs.Prelude.{ℕ, Bool, true, false, cond, List, Option, Some, None, Ok}
 use Rattle.words.specs.declared.LaneNo.{LaneNo}
-use Rattle.queues.specs.declared.ReturnMessage.{ReturnMessage}
+use Rattle.queues.specs.Messages.{ReturnMessage}
 use Rattle.queues.specs.declared.ReturnKind.{ReturnKind}
 use Rattle.queues.specs.declared.ReturnKind.TheVariants.{Eject, WriteEject, Updated, Purged, PurgedWords, Gone}
-use Rattle.queues.specs.Queues.{empty_at, head_return, take_return}
+use Rattle.queues.specs.Queues.{empty_at, head_return, after_take}
 use Rattle.lanes.specs.declared.Lane.{Lane}
 use Rattle.lanes.specs.Lanes.{with_returns}
 use Rattle.answers.specs.declared.Answer.TheVariants.{Step}
@@ -13,13 +13,13 @@ use Rattle.store.specs.declared.Store.{Store}
 use Rattle.store.specs.declared.Block.{Block}
 use Rattle.store.specs.declared.Control.{Control}
 use Rattle.store.specs.declared.Counted.{Counted}
-use Rattle.store.specs.declared.Counted.TheVariants.{Awaits, Closes, NotAwaited}
+use Rattle.store.specs.declared.Counted.TheVariants.{Awaits, Closes}
 use Rattle.store.specs.declared.Outcome.{Outcome}
 use Rattle.store.specs.Control.{with_updated, without_service, answer_of}
 use Rattle.store.specs.Stores.{lane_at, block_at}
 use Rattle.store.specs.Blocks.{with_contents, with_present, with_modified}
 use Rattle.store.specs.LaneSets.{nobody, without}
-use Rattle.machine.specs.declared.Move.{Move}
+use Rattle.machine.specs.Machine.Parts.{Move}
 use Rattle.machine.specs.Machine.Change.{refuse, refuse_move, guarded, commit_move, no_message}
 use Rattle.machine.specs.Machine.Serve.{close}
 
@@ -52,19 +52,19 @@ is_answer Gone = true
 
 -- memory's part where nothing is sent: lane, block and control after it
 abbrev pub send_nothing : Lane → Block → Control → Move
-send_nothing l b x = record { answer = Step; lane = l; block = b; control = x; to = nobody; message = no_message }
+send_nothing l b x = record { answer = Ok Step; lane = l; block = b; control = x; to = nobody; message = no_message }
 
 -- Each answer lowers the awaited count, and at 0 the service closes; 16 for an answer that is not awaited. l and b are lane and block
 -- before the message is taken, t and u after it
-abbrev pub counted_move : Counted → Lane → Block → Control → Lane → Block → Move
-counted_move NotAwaited l b x t u = refuse_move Unexpected l b x
-counted_move (Awaits v) l b x t u = send_nothing t u (with_updated v x)
-counted_move (Closes v) l b x t u = close v t u (without_service v x)
+abbrev pub counted_move : Option Counted → Lane → Block → Control → Lane → Block → Move
+counted_move None l b x t u = refuse_move Unexpected l b x
+counted_move (Some (Awaits v)) l b x t u = send_nothing t u (with_updated v x)
+counted_move (Some (Closes v)) l b x t u = close v t u (without_service v x)
 
 -- Memory takes the head of k's return queue
 unfoldable pub return_move : LaneNo → ReturnMessage → Lane → Block → Control → Move
 return_move k x l b y =
-    let t = with_returns (take_return l.returns).queue l in
+    let t = with_returns (after_take l.returns) l in
     let u = taken_by x.kind x.words k b in
     cond (is_answer x.kind) (counted_move (answer_of y x.block) l b y t u) (send_nothing t u y)
 

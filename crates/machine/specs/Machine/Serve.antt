@@ -1,11 +1,11 @@
 -- 01, "Serve k" and "Close"; 02, W6: a service for each block, at most L in all. Assumes nothing.
-use Rattle.std.specs.Prelude.{ℕ, Bool, true, false, cond, ltb, eqb}
+use Rattle.std.specs.Prelude.{ℕ, Bool, true, false, cond, ltb, eqb, Result, Ok, Err}
 use Rattle.words.specs.declared.LaneNo.{LaneNo}
 use Rattle.words.specs.Units.{block_of}
-use Rattle.queues.specs.declared.DownMessage.{DownMessage}
+use Rattle.queues.specs.Messages.{DownMessage}
 use Rattle.queues.specs.declared.DownKind.{DownKind}
 use Rattle.queues.specs.declared.DownKind.TheVariants.{Update, Purge, Grant, BareGrant}
-use Rattle.queues.specs.Messages.{bare_down, words_down}
+use Rattle.queues.specs.Messages.{bare_message, words_message}
 use Rattle.lanes.specs.declared.Lane.{Lane}
 use Rattle.lanes.specs.declared.Operation.{Operation}
 use Rattle.lanes.specs.declared.Command.{Command}
@@ -24,10 +24,9 @@ use Rattle.store.specs.Control.{busy_for, with_service}
 use Rattle.store.specs.Stores.{lane_at, block_at}
 use Rattle.store.specs.Blocks.{with_present, with_modified}
 use Rattle.store.specs.LaneSets.{nobody, only, goes_to, LaneSet, including, without, count_of}
-use Rattle.machine.specs.declared.Ready.{Ready}
-use Rattle.machine.specs.declared.Ready.TheVariants.{Go, No}
-use Rattle.machine.specs.declared.Move.{Move}
+use Rattle.machine.specs.Machine.Parts.{Move}
 use Rattle.machine.specs.Machine.Change.{refuse, guarded, commit_move}
+use Rattle.answers.specs.declared.Refusal.{Refusal}
 
 -- READ shared sends orders if MODIFIED is set, else nothing; READ exclusive and EXCLUDE send orders
 abbrev pub sends_of : Command → Bool → Bool
@@ -63,21 +62,21 @@ closed_block Exclude b k = exclusively b k
 
 -- The grant (bare, or with main memory's words)
 abbrev pub grant_of : Block → Service → DownMessage
-grant_of b v = cond v.bare (bare_down BareGrant v.block) (words_down Grant v.block b.words)
+grant_of b v = cond v.bare (bare_message BareGrant v.block) (words_message Grant v.block b.words)
 
 -- Close: the flags, the grant to the service's lane; x is the control without the service
 unfoldable pub close : Service → Lane → Block → Control → Move
 close v l b x =
-    record { answer = Step; lane = l; block = closed_block v.command b v.lane; control = x; to = only v.lane; message = grant_of b v }
+    record { answer = Ok Step; lane = l; block = closed_block v.command b v.lane; control = x; to = only v.lane; message = grant_of b v }
 
 -- 9, 10, 11
-abbrev pub ready_with : Waiting → Lane → ℕ → Control → Ready
-ready_with Idle l limit x = No NothingPending
-ready_with (Served o) l limit x = No NothingPending
+abbrev pub ready_with : Waiting → Lane → ℕ → Control → Result Operation Refusal
+ready_with Idle l limit x = Err NothingPending
+ready_with (Served o) l limit x = Err NothingPending
 ready_with (Unserved o) l limit x =
-    cond (busy_for limit x (block_of o.word)) (No ControlBusy) (cond (ltb 0 l.returns.len) (No ReturnsPending) (Go o))
+    cond (busy_for limit x (block_of o.word)) (Err ControlBusy) (cond (ltb 0 l.returns.len) (Err ReturnsPending) (Ok o))
 
-unfoldable pub ready_of : Lane → ℕ → Control → Ready
+unfoldable pub ready_of : Lane → ℕ → Control → Result Operation Refusal
 ready_of l limit x = ready_with l.waiting l limit x
 
 -- the service of lane k's operation
@@ -92,12 +91,12 @@ serve_move k o l b x =
     let v : Service = service_for k o b (count_of to) in
     let t = with_waiting (Served o) l in
     cond (eqb (count_of to) 0) (close v t b x)
-    (record { answer = Step; lane = t; block = b; control = with_service v x; to = to; message = bare_down (order_of o.command) (block_of o.word) })
+    (record { answer = Ok Step; lane = t; block = b; control = with_service v x; to = to; message = bare_message (order_of o.command) (block_of o.word) })
 
 -- 12 is left to the place where the message is sent
-abbrev pub serve_ready : Ready → Store → LaneNo → Outcome
-serve_ready (No r) s k = refuse r s
-serve_ready (Go o) s k =
+abbrev pub serve_ready : Result Operation Refusal → Store → LaneNo → Outcome
+serve_ready (Err r) s k = refuse r s
+serve_ready (Ok o) s k =
     commit_move s k (block_of o.word) (serve_move k o (lane_at s k.0) (block_at s (block_of o.word).0) s.control)
 
 -- 14, 6, 9, 10, 11, 12

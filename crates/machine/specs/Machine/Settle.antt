@@ -1,10 +1,10 @@
 -- 01, "Settle"; 02, W3: the insertion policy is an argument of its steps; W8: the orders that it sent itself. Assumes nothing.
-use Rattle.std.specs.Prelude.{ℕ, zero, suc, ◌+◌, ◌-◌, ◌*◌, Bool, true, false, not, cond, ◌||◌, ◌&&◌, List, [], ◌++◌, ltb, get_or}
+use Rattle.std.specs.Prelude.{ℕ, zero, suc, ◌+◌, ◌-◌, ◌*◌, Bool, true, false, not, cond, ◌||◌, ◌&&◌, List, [], ◌++◌, ltb, get_or, Result, Ok, Err}
 use Rattle.words.specs.declared.LaneNo.{LaneNo}
 use Rattle.words.specs.Folds.{count_to, sum_to, lowest_to}
 use Rattle.queues.specs.declared.DownKind.{DownKind}
 use Rattle.queues.specs.declared.DownKind.TheVariants.{Update, Purge, Grant, BareGrant}
-use Rattle.queues.specs.declared.DownQueue.{DownQueue}
+use Rattle.queues.specs.Queues.{DownQueue}
 use Rattle.queues.specs.Queues.{capacity, no_down}
 use Rattle.lanes.specs.UseOrder.{Insertion}
 use Rattle.lanes.specs.Waits.{unserved_of}
@@ -20,13 +20,12 @@ use Rattle.store.specs.declared.Outcome.{Outcome}
 use Rattle.store.specs.Control.{open_services}
 use Rattle.store.specs.Stores.{lane_at}
 use Rattle.store.specs.Quiet.{quiet_of}
-use Rattle.machine.specs.declared.Settled.{Settled}
-use Rattle.machine.specs.declared.Settled.TheVariants.{Steps}
 use Rattle.machine.specs.Machine.Corruption.{corrupt_of}
 use Rattle.machine.specs.Machine.Change.{refuse}
 use Rattle.machine.specs.Machine.Serve.{serve_of}
 use Rattle.machine.specs.Machine.Return.{return_of}
 use Rattle.machine.specs.Machine.Deliver.{deliver_of}
+use Rattle.machine.specs.declared.SettleCounts.{SettleCounts}
 
 -- the lane of number k
 abbrev pub lane : ℕ → LaneNo
@@ -90,7 +89,7 @@ pub record Progress : Type 0 where
   pub count : ℕ
   pub orders : ℕ
   pub completions : List Completion
-  pub answer : Answer
+  pub answer : Result Answer Refusal
   pub store : Store
 
 -- one step more
@@ -116,30 +115,30 @@ repeat_step ins (suc more) p = let r = repeat_step ins more (advance ins p) in c
 
 -- what settle gives: its counts or the refusal, the completions in order, the store after it
 pub record Settlement : Type 0 where
-  pub answer : Settled
+  pub answer : Result SettleCounts Refusal
   pub completions : List Completion
   pub store : Store
 
 -- a refused settle gives its number alone; the store is the same as before
 abbrev pub refuse_settle : Refusal → Store → Settlement
-refuse_settle r s = record { answer = Settled.Refused r; completions = []; store = s }
+refuse_settle r s = record { answer = Err r; completions = []; store = s }
 
 -- the store that was reached is quiet; the last case is never met where the arrays have their lengths (proofs/Theorems.antt, `settle_ends`)
 abbrev pub reached : Store → Progress → Settlement
 reached s p =
-    cond (quiet_of p.store) (record { answer = Steps (record { steps = p.count; orders = p.orders }); completions = p.completions; store = p.store })
+    cond (quiet_of p.store) (record { answer = Ok (record { steps = p.count; orders = p.orders }); completions = p.completions; store = p.store })
     (refuse_settle Unexpected s)
 
 -- Settle refused inside gives that step's number
-abbrev pub unless_refused : Answer → Store → Settlement → Settlement
-unless_refused Opened s r = r
-unless_refused (Done x) s r = r
-unless_refused Wait s r = r
-unless_refused Step s r = r
-unless_refused (Answer.Refused n) s r = refuse_settle n s
+abbrev pub unless_refused : Result Answer Refusal → Store → Settlement → Settlement
+unless_refused (Ok Opened) s r = r
+unless_refused (Ok (Done x)) s r = r
+unless_refused (Ok Wait) s r = r
+unless_refused (Ok Step) s r = r
+unless_refused (Err n) s r = refuse_settle n s
 
 -- 14, then the numbers of its steps
 unfoldable pub settle_of : Insertion → Store → Settlement
 settle_of ins s =
-    let p = repeat_step ins (suc (bound_of s)) (record { count = 0; orders = 0; completions = []; answer = Step; store = s }) in
+    let p = repeat_step ins (suc (bound_of s)) (record { count = 0; orders = 0; completions = []; answer = Ok Step; store = s }) in
     cond (corrupt_of s) (refuse_settle Corrupt s) (unless_refused p.answer s (reached s p))

@@ -1,5 +1,5 @@
 -- 01, "Tape and picture": what a record does, and a tape's replay. What a record is: crates/tape_records. Assumes nothing.
-use Rattle.std.specs.Prelude.{ℕ, zero, suc, Bool, not, cond, List, [], ◌∷◌, eqb, length, drop}
+use Rattle.std.specs.Prelude.{ℕ, zero, suc, Bool, not, cond, List, [], ◌∷◌, eqb, length, drop, Result, Ok}
 use Rattle.words.specs.declared.Shape.{Shape}
 use Rattle.tape_records.specs.declared.Record.{Record}
 use Rattle.tape_records.specs.Records.{parse_of}
@@ -15,6 +15,7 @@ use Rattle.machine.specs.Machine.Begin.{begin_of}
 use Rattle.machine.specs.Machine.Serve.{serve_of}
 use Rattle.machine.specs.Machine.Return.{return_of}
 use Rattle.machine.specs.Machine.Deliver.{deliver_of}
+use Rattle.answers.specs.declared.Refusal.{Refusal}
 
 -- an open that wasn't refused has been read; before it the store is the blank one, with n = 0
 abbrev pub is_open : Store → Bool
@@ -26,7 +27,7 @@ open_record s shape =
     cond (is_open s) (refuse AlreadyOpen s)
     (cond (bad_shape shape) (refuse InvalidShape s)
     (cond (bad_limit shape) (refuse InvalidLimit s)
-    (record { answer = Opened; store = fresh_of shape })))
+    (record { answer = Ok Opened; store = fresh_of shape })))
 
 -- kinds 01 to 07: 3 before an open that wasn't refused, then the call
 abbrev pub when_open : Store → Outcome → Outcome
@@ -43,7 +44,7 @@ record_of s (Record.Return k) = when_open s (return_of s k)
 record_of s (Record.Deliver k) = when_open s (deliver_of LoadsOldest s k)
 
 -- the answers to a tape's records one after the other, here at most the given number of them; one store serves all of them
-unfoldable pub replay_from : ℕ → Store → List ℕ → List Answer
+unfoldable pub replay_from : ℕ → Store → List ℕ → List (Result Answer Refusal)
 replay_from zero s tape = []
 replay_from (suc more) s tape =
     let p = parse_of tape in
@@ -52,5 +53,5 @@ replay_from (suc more) s tape =
     cond (eqb (length tape) 0) [] (r.answer ∷ rest)
 
 -- a whole tape, from the blank store; a record takes a byte or more, so its length is number enough
-unfoldable pub replay_of : List ℕ → List Answer
+unfoldable pub replay_of : List ℕ → List (Result Answer Refusal)
 replay_of tape = replay_from (length tape) blank_store tape

@@ -1,7 +1,7 @@
 -- 01, "Tape and picture": what `benchtape` prints. Assumes nothing.
-use Rattle.std.specs.Prelude.{ℕ, zero, suc, ◌+◌, ◌/◌, ◌%◌, cond, List, [], ◌∷◌, ◌++◌, ltb, length}
+use Rattle.std.specs.Prelude.{ℕ, zero, suc, ◌+◌, ◌/◌, ◌%◌, cond, List, [], ◌∷◌, ◌++◌, ltb, length, Result, Ok, Err}
 use Rattle.answers.specs.declared.Answer.{Answer}
-use Rattle.answers.specs.declared.Answer.TheVariants.{Opened, Done, Wait, Step, Refused}
+use Rattle.answers.specs.declared.Answer.TheVariants.{Opened, Done, Wait, Step}
 use Rattle.answers.specs.declared.Refusal.{Refusal}
 use Rattle.answers.specs.declared.Refusal.TheVariants.{TapeTooLong, BufferTooShort}
 use Rattle.answers.specs.Refusals.{number_of}
@@ -26,19 +26,19 @@ abbrev pub refused_text : Refusal → List ℕ
 refused_text r = 114 ∷ 101 ∷ 102 ∷ 117 ∷ 115 ∷ 101 ∷ 100 ∷ spaced (number_of r)
 
 -- `open`; or `done` with lane, value and, as a last number, place (02, W1); or `wait`; or `step`; or `refused` with the number
-unfoldable pub answer_text : Answer → List ℕ
-answer_text Opened = 111 ∷ 112 ∷ 101 ∷ 110 ∷ []
-answer_text (Done x) = 100 ∷ 111 ∷ 110 ∷ 101 ∷ (spaced x.lane.0 ++ (spaced x.value ++ spaced x.place))
-answer_text Wait = 119 ∷ 97 ∷ 105 ∷ 116 ∷ []
-answer_text Step = 115 ∷ 116 ∷ 101 ∷ 112 ∷ []
-answer_text (Refused r) = refused_text r
+unfoldable pub answer_text : Result Answer Refusal → List ℕ
+answer_text (Ok Opened) = 111 ∷ 112 ∷ 101 ∷ 110 ∷ []
+answer_text (Ok (Done x)) = 100 ∷ 111 ∷ 110 ∷ 101 ∷ (spaced x.lane.0 ++ (spaced x.value ++ spaced x.place))
+answer_text (Ok Wait) = 119 ∷ 97 ∷ 105 ∷ 116 ∷ []
+answer_text (Ok Step) = 115 ∷ 116 ∷ 101 ∷ 112 ∷ []
+answer_text (Err r) = refused_text r
 
 -- a record's line: its index, a space, the answer, a newline
-unfoldable pub line_text : ℕ → Answer → List ℕ
+unfoldable pub line_text : ℕ → Result Answer Refusal → List ℕ
 line_text index a = decimal index ++ (32 ∷ (answer_text a ++ (10 ∷ [])))
 
 -- the lines from an index on
-unfoldable pub lines_text : ℕ → List Answer → List ℕ
+unfoldable pub lines_text : ℕ → List (Result Answer Refusal) → List ℕ
 lines_text index [] = []
 lines_text index (a ∷ rest) = line_text index a ++ lines_text (suc index) rest
 

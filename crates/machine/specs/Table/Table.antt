@@ -1,6 +1,6 @@
 -- 01, "The contracts and the cases": the rows that are shown from the definitions, what each gives and what it must give; then a row or
 -- more for each of 01's races, for each store that it shuts out, and for other sentences of it. Assumes nothing.
-use Rattle.std.specs.Prelude.{ℕ, ◌+◌, ◌-◌, ◌*◌, Bool, true, false, cond, List, [], ◌∷◌, ◌++◌, map, length, replicate, drop}
+use Rattle.std.specs.Prelude.{ℕ, ◌+◌, ◌-◌, ◌*◌, Bool, true, false, cond, List, [], ◌∷◌, ◌++◌, map, length, replicate, drop, Result, Ok, Err}
 use Rattle.words.specs.declared.LineNo.{LineNo}
 use Rattle.words.specs.declared.WordNo.{WordNo}
 use Rattle.words.specs.declared.BlockNo.{BlockNo}
@@ -12,8 +12,8 @@ use Rattle.words.specs.Units.{shaped, limited, block_of}
 use Rattle.queues.specs.declared.DownKind.{DownKind}
 use Rattle.queues.specs.declared.DownKind.TheVariants.{Update, Purge, Grant, BareGrant}
 use Rattle.queues.specs.declared.ReturnKind.TheVariants.{Gone}
-use Rattle.queues.specs.Queues.{capacity, push_return}
-use Rattle.queues.specs.Messages.{bare_return, bare_down}
+use Rattle.queues.specs.Queues.{capacity, after_push}
+use Rattle.queues.specs.Messages.{bare_message}
 use Rattle.lanes.specs.declared.Command.{Command}
 use Rattle.lanes.specs.declared.Command.TheVariants.{ReadShared, ReadExclusive, Exclude}
 use Rattle.lanes.specs.declared.Operation.{Operation}
@@ -22,21 +22,18 @@ use Rattle.lanes.specs.declared.Waiting.TheVariants.{Idle, Unserved, Served}
 use Rattle.lanes.specs.UseOrder.{Insertion, Newest, LoadsOldest}
 use Rattle.lanes.specs.Lanes.{with_waiting, with_returns, with_downs, with_line, with_order}
 use Rattle.answers.specs.declared.Answer.{Answer}
-use Rattle.answers.specs.declared.Answer.TheVariants.{Opened, Done, Wait, Step, Refused}
+use Rattle.answers.specs.declared.Answer.TheVariants.{Opened, Done, Wait, Step}
 use Rattle.answers.specs.declared.Refusal.TheVariants.{QueueFull, Corrupt, BufferTooShort}
 use Rattle.answers.specs.declared.Completion.{Completion}
 use Rattle.answers.specs.Completions.{completion_of}
 use Rattle.answers.specs.Refusals.{number_of}
 use Rattle.store.specs.declared.Store.{Store}
 use Rattle.store.specs.declared.Control.{Control}
-use Rattle.store.specs.Control.{slot_count, slot_at, with_service}
+use Rattle.store.specs.Control.{slot_count, slot_at, with_service, is_busy, service_in}
 use Rattle.store.specs.Opening.{fresh_of, open_of, line}
 use Rattle.store.specs.Stores.{lane_at, block_at, with_completions, with_lane, with_control, with_block}
 use Rattle.store.specs.Quiet.{quiet_of}
 use Rattle.store.specs.Blocks.{with_present, with_modified}
-use Rattle.machine.specs.declared.Settled.{Settled}
-use Rattle.machine.specs.declared.Settled.TheVariants.{Steps}
-use Rattle.machine.specs.declared.Filled.TheVariants as Filled
 use Rattle.machine.specs.Machine.Change.{posted}
 use Rattle.machine.specs.Machine.LaneBytes.{bits_in, orders_byte, lanes_of}
 use Rattle.machine.specs.Machine.Settle.{lane, returns_in, downs_of, grants_in, orders_in, services_in, unserved_in, bound_of, exact_of}
@@ -51,6 +48,7 @@ use Rattle.machine.specs.Machine.Picture.{picture_of}
 use Rattle.machine.specs.Machine.Tape.{replay_of}
 use Rattle.machine.specs.Machine.Text.{refused_text, printed, text_most, print_of}
 use Rattle.store.specs.LaneSets.{LaneSet, nobody, including}
+use Rattle.answers.specs.declared.Refusal.{Refusal}
 
 -- an answer in 01's words: open; done with lane, value and place; wait; step; refused with the number; a settle with its count of steps, the orders that it sent, and its completions
 pub data Said : Type 0 where
@@ -79,17 +77,17 @@ pub record Row : Type 0 where
   pub wanted : Shown
 
 -- an answer, and the reply of a call
-abbrev pub word_of : Answer → Said
-word_of Opened = opens
-word_of (Done x) = done x.lane.0 x.value x.place
-word_of Wait = wait
-word_of Step = step
-word_of (Refused r) = refused (number_of r)
+abbrev pub word_of : Result Answer Refusal → Said
+word_of (Ok Opened) = opens
+word_of (Ok (Done x)) = done x.lane.0 x.value x.place
+word_of (Ok Wait) = wait
+word_of (Ok Step) = step
+word_of (Err r) = refused (number_of r)
 
 abbrev pub said : Reply → Said
 said (Reply.Answers a) = word_of a
-said (Reply.SettledWith (Steps counts) cs) = settled counts.steps counts.orders cs
-said (Reply.SettledWith (Settled.Refused r) cs) = refused (number_of r)
+said (Reply.SettledWith (Ok counts) cs) = settled counts.steps counts.orders cs
+said (Reply.SettledWith (Err r) cs) = refused (number_of r)
 
 -- an opening; a refused one has the blank store
 abbrev pub opening : ℕ → ℕ → ℕ → Shown
@@ -508,7 +506,7 @@ sentences =
     record { given = Bytes (printed (9 ∷ replicate 65536 0)); wanted = Bytes (114 ∷ 101 ∷ 102 ∷ 117 ∷ 115 ∷ 101 ∷ 100 ∷ 32 ∷ 49 ∷ 51 ∷ 10 ∷ []) } ∷
     -- room for 25 bytes of text for each byte of a tape; a buffer without it is as it was
     record { given = Number text_most; wanted = Number 1638400 } ∷
-    record { given = Fills (print_of [] (replicate 6 255)); wanted = Fills (record { answer = Filled.Refused BufferTooShort; buffer = replicate 6 255 }) } ∷
+    record { given = Fills (print_of [] (replicate 6 255)); wanted = Fills (record { answer = Err BufferTooShort; buffer = replicate 6 255 }) } ∷
     []
 
 -- stores that no opening gives: lane k with a GONE of block a more in its return queue, with a message more in its down queue, with
@@ -517,17 +515,17 @@ abbrev pub block : ℕ → BlockNo
 block a = record { 0 = a }
 
 unfoldable pub gone : ℕ → ℕ → Store → Store
-gone k a s = with_lane s k (with_returns (push_return capacity (lane_at s k).returns (bare_return Gone (block a))).queue (lane_at s k))
+gone k a s = with_lane s k (with_returns (after_push capacity (lane_at s k).returns (bare_message Gone (block a))) (lane_at s k))
 
 unfoldable pub sent : DownKind → ℕ → ℕ → Store → Store
-sent x k a s = with_lane s k (posted capacity (bare_down x (block a)) (lane_at s k))
+sent x k a s = with_lane s k (posted capacity (bare_message x (block a)) (lane_at s k))
 
 -- .. with a return queue of len GONEs of block a, with a down queue of len PURGEs of it
 unfoldable pub answering : ℕ → ℕ → ℕ → Store → Store
-answering len k a s = with_lane s k (with_returns (record { len = len; at = replicate 8 (bare_return Gone (block a)) }) (lane_at s k))
+answering len k a s = with_lane s k (with_returns (record { len = len; at = replicate 8 (bare_message Gone (block a)) }) (lane_at s k))
 
 unfoldable pub purging : ℕ → ℕ → ℕ → Store → Store
-purging len k a s = with_lane s k (with_downs (record { len = len; at = replicate 8 (bare_down Purge (block a)) }) (lane_at s k))
+purging len k a s = with_lane s k (with_downs (record { len = len; at = replicate 8 (bare_message Purge (block a)) }) (lane_at s k))
 
 unfoldable pub serving : ℕ → ℕ → ℕ → Store → Store
 serving k a awaited s =
@@ -622,15 +620,15 @@ pictures =
     record {
       given = pictured stored 20;
       wanted = Fills (record {
-        answer = Filled.Length 19;
+        answer = Ok 19;
         buffer = 16 ∷ 1 ∷ 0 ∷ 0 ∷ 0 ∷ 0 ∷ 0 ∷ 0 ∷ 0 ∷ 0 ∷ 0 ∷ 2 ∷ 1 ∷ 0 ∷ 0 ∷ 0 ∷ 0 ∷ 0 ∷ 0 ∷ 255 ∷ [];
       });
     } ∷
-    record { given = pictured stored 18; wanted = Fills (record { answer = Filled.Refused BufferTooShort; buffer = replicate 18 255 }) } ∷
-    record { given = pictured (fresh_of (shaped 9 1 1)) 20; wanted = Fills (record { answer = Filled.Refused Corrupt; buffer = replicate 20 255 }) } ∷
+    record { given = pictured stored 18; wanted = Fills (record { answer = Err BufferTooShort; buffer = replicate 18 255 }) } ∷
+    record { given = pictured (fresh_of (shaped 9 1 1)) 20; wanted = Fills (record { answer = Err Corrupt; buffer = replicate 20 255 }) } ∷
     record {
       given = pictured sharing 77;
-      wanted = Fills (record { answer = Filled.Length 76; buffer = recorded 0 0 5 ++ recorded 0 0 6 ++ recorded 1 0 7 ++ recorded 0 1 8 ++ (255 ∷ []) });
+      wanted = Fills (record { answer = Ok 76; buffer = recorded 0 0 5 ++ recorded 0 0 6 ++ recorded 1 0 7 ++ recorded 0 1 8 ++ (255 ∷ []) });
     } ∷
     []
 
@@ -749,7 +747,7 @@ places =
     sound (counting 4294967294 (waits 0 (Served (operation 0)) (opened 2 1 1))) ∷
     record {
       given = pictured (counting 4294967295 (unserved 0 (opened 2 1 1))) 20;
-      wanted = Fills (record { answer = Filled.Refused Corrupt; buffer = replicate 20 255 });
+      wanted = Fills (record { answer = Err Corrupt; buffer = replicate 20 255 });
     } ∷
     -- lanes n and above do not count: lane 2 of two has an operation
     sound (counting 4294967295 (unserved 2 (opened 2 1 1))) ∷
@@ -861,7 +859,7 @@ unserved_byte k t = waiting_byte t k (lane_at t k).waiting
 
 -- the answers that each service awaits, by slot
 unfoldable pub awaited_by : Control → List ℕ
-awaited_by x = gather_to (λ i. cond (slot_at x i).busy ((slot_at x i).service.awaited ∷ []) []) slot_count
+awaited_by x = gather_to (λ i. cond (is_busy (slot_at x i)) ((service_in (slot_at x i)).awaited ∷ []) []) slot_count
 
 -- how many orders, or grants, are on their way to each of four lanes
 unfoldable pub downs_each : Bool → Store → List ℕ
@@ -997,12 +995,12 @@ loads_beside =
     completes 2 1 1 (load 0 0 ∷ serve 0 ∷ deliver 0 ∷ add 0 0 5 ∷ load 0 0 ∷ serve 0 ∷ deliver 0 ∷ load 0 0 ∷ []) (0 ∷ 4 ∷ 3 ∷ 7 ∷ []) (0 ∷ 0 ∷ 0 ∷ 5 ∷ [])
 
 -- 02, W6: the limit of an opening that isn't refused, or its number
-abbrev pub limit_of : Answer → Store → Shown
-limit_of (Refused r) s = Number (number_of r)
-limit_of Opened s = Numbers (s.shape.limit ∷ [])
-limit_of (Done x) s = Numbers []
-limit_of Wait s = Numbers []
-limit_of Step s = Numbers []
+abbrev pub limit_of : Result Answer Refusal → Store → Shown
+limit_of (Err r) s = Number (number_of r)
+limit_of (Ok Opened) s = Numbers (s.shape.limit ∷ [])
+limit_of (Ok (Done x)) s = Numbers []
+limit_of (Ok Wait) s = Numbers []
+limit_of (Ok Step) s = Numbers []
 
 abbrev pub opening_with : ℕ → ℕ → ℕ → ℕ → Shown
 opening_with n c m limit = let r = open_of (limited n c m limit) in limit_of r.answer r.store

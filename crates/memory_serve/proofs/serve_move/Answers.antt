@@ -27,7 +27,7 @@ returns c =
       c.orders_byte-to.ensures,
       orders_lanes args.b args.k args.o.command flags,
       c.open-y.ensures,
-      c.bare_down-m.ensures,
+      c.bare_message-m.ensures,
       c.block-a.ensures,
       c.order_kind-d.ensures,
       c.with_waiting-t.ensures,

@@ -1,7 +1,6 @@
 -- `store_picture::valid_in` meets its contract. Assumes nothing.
 use mathlib.Core.Path.{◌≡◌}
 use Prim.Native.Nat.{◌-◌, ◌≤◌}
-use mathlib.Core.Path.{◌≡◌}
 use Rattle.store_picture.specs.Records.{valid_in}
 use Rattle.store_picture.proofs.valid_in.Given as goal
 

@@ -5,7 +5,7 @@ use mathlib.Core.Path.{◌≡◌}
 use lib.Dec.{ltb}
 use lib.ListN.{get_or}
 use Rattle.words.specs.Folds.{count_to}
-use Rattle.queues.specs.declared.DownQueue.{DownQueue}
+use Rattle.queues.specs.Queues.{DownQueue}
 use Rattle.queues.specs.Queues.{no_down}
 use Rattle.machine.specs.Machine.Settle.{is_order}
 use Rattle.test_bounds.proofs.downs.Given as goal
