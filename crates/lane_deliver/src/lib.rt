@@ -1,4 +1,4 @@
-// A lane's part of deliver. A lane is handed in by value and comes back in a LaneStep.
+// A lane's part of deliver. A lane is handed in by value and comes back in a LanePart; a refused part has the reason alone.
 // These functions are for the crates above and not for others: the bounds that some require are those of a store that is not
 // corrupt.
 #![tactic(auto)]
@@ -6,50 +6,42 @@
 ghost use Rattle.std.specs.Prelude.{◌≡◌, ◌≤◌};
 ghost use Rattle.lanes.specs.Search.{search_of, vacant_of};
 ghost use Rattle.lanes.specs.UseOrder.{LoadsOldest};
+ghost use Rattle.machine.specs.Machine.Change.{part_of};
 ghost use Rattle.machine.specs.Machine.Deliver.{reply, update_at, purged_of, purge_at, claimed, fill_at, grant_at, bare_at, served_on, grant_to, bare_to, deliver_kind, deliver_lane};
 ghost use Rattle.queues.specs.Queues.{capacity};
 
 use answers::Refusal;
-use lanes::{Found, Lane, Operation, Waiting};
-use machine::{LaneAnswer, LaneStep, Ready};
-use queues::{DownKind, DownMessage, ReturnKind, ReturnMessage};
+use lanes::{Lane, Operation, Waiting};
+use machine::{LaneAnswer, LanePart};
+use queues::{DownKind, DownMessage, Message, ReturnKind, ReturnMessage};
 use words::{BlockNo, Line, Op};
 
 // An answer to an order joins the return queue.
-fn reply(l: Lane, m: ReturnMessage) -> LaneStep
-    ensures { result ≡ reply capacity m l }
+fn reply(l: Lane, m: ReturnMessage) -> Result<LanePart, Refusal>
+    ensures { result ≡ part_of (reply capacity m l) }
 {
-    let returns = l.returns;
-    let p = returns.push(m);
-    if p.full {
-        return lane_begin::refuse(l, Refusal::QueueFull);
-    }
-    let q = p.queue;
-    let mut t = l;
-    t.returns = q;
-    LaneStep {
+    let returns = l.returns.push(m).ok_or(Refusal::QueueFull)?;
+    Ok(LanePart {
         answer: LaneAnswer::Stepped,
-        lane: t,
-    }
+        lane: Lane { returns, ..l },
+    })
 }
 
 // UPDATE.
-fn update(l: Lane, c: u8, a: BlockNo) -> LaneStep
+fn update(l: Lane, c: u8, a: BlockNo) -> Result<LanePart, Refusal>
     requires { c ≤ 8 }
-    ensures { result ≡ update_at capacity (search_of l c a) a l }
+    ensures { result ≡ part_of (update_at capacity (search_of l c a) a l) }
 {
-    let Found::At(i) = l.search(c, a) else {
-        let gone = queues::bare_return(ReturnKind::Gone, a);
-        return reply(l, gone);
+    let Some(i) = l.search(c, a) else {
+        return reply(l, Message::bare(ReturnKind::Gone, a));
     };
-    let j = i.0 as usize;
-    let mut x = l.lines[j];
-    x.private = false;
-    let words = x.words;
-    let m = queues::words_return(ReturnKind::Updated, a, words);
+    let x = l.lines[i.0 as usize];
     let mut t = l;
-    t.lines[j] = x;
-    reply(t, m)
+    t.lines[i.0 as usize] = Line {
+        private: false,
+        ..x
+    };
+    reply(t, Message::with_words(ReturnKind::Updated, a, x.words))
 }
 
 // What a line that is purged sends: main memory lacks the words of a PRIVATE line.
@@ -57,176 +49,124 @@ fn purged(a: BlockNo, x: Line) -> ReturnMessage
     ensures { result ≡ purged_of a x }
 {
     if x.private {
-        let words = x.words;
-        return queues::words_return(ReturnKind::PurgedWords, a, words);
+        Message::with_words(ReturnKind::PurgedWords, a, x.words)
+    } else {
+        Message::bare(ReturnKind::Purged, a)
     }
-    queues::bare_return(ReturnKind::Purged, a)
 }
 
 // PURGE.
-fn purge(l: Lane, c: u8, a: BlockNo) -> LaneStep
+fn purge(l: Lane, c: u8, a: BlockNo) -> Result<LanePart, Refusal>
     requires { c ≤ 8 }
-    ensures { result ≡ purge_at capacity (search_of l c a) a l }
+    ensures { result ≡ part_of (purge_at capacity (search_of l c a) a l) }
 {
-    let Found::At(i) = l.search(c, a) else {
-        let missing = queues::bare_return(ReturnKind::Gone, a);
+    let Some(i) = l.search(c, a) else {
+        let missing = Message::bare(ReturnKind::Gone, a);
         return reply(l, missing);
     };
-    let j = i.0 as usize;
-    let x = l.lines[j];
-    let m = purged(a, x);
-    let y = x.invalidated();
+    let x = l.lines[i.0 as usize];
     let mut t = l;
-    t.lines[j] = y;
-    reply(t, m)
+    t.lines[i.0 as usize] = x.invalidated();
+    reply(t, purged(a, x))
 }
 
 // A granted line: PRIVATE is set if the operation isn't load, and reset if it is.
 fn claim(x: Line, op: Op) -> Line
     ensures { result ≡ claimed op x }
 {
-    let mut y = x;
-    if op.is_load() {
-        y.private = false;
-        return y;
+    Line {
+        private: !op.is_load(),
+        ..x
     }
-    y.private = true;
-    y
 }
 
 // A grant's words come into the lowest-numbered line that is not valid, and the lane waits no more. Filled for a load, the line is the oldest then.
-fn fill(l: Lane, c: u8, m: DownMessage, o: Operation) -> LaneStep
+fn fill(l: Lane, c: u8, m: DownMessage, o: Operation) -> Result<LanePart, Refusal>
     requires { c ≤ 8 }
-    ensures { result ≡ fill_at LoadsOldest (vacant_of l c) c m o l }
+    ensures { result ≡ part_of (fill_at LoadsOldest (vacant_of l c) c m o l) }
 {
-    let Found::At(i) = l.vacant(c) else {
-        return lane_begin::refuse(l, Refusal::Unexpected);
-    };
-    let a = m.block;
-    let words = m.words;
+    let i = l.vacant(c).ok_or(Refusal::Unexpected)?;
     let x = Line {
         valid: true,
         private: false,
-        block: a,
-        words: words,
+        block: m.block,
+        words: m.words,
     };
-    let op = o.op;
-    let w = o.word;
-    let former = l.order;
-    let order = lanes::inserted(former, c, i, op);
-    let filled = claim(x, op);
+    let order = lanes::inserted(l.order, c, i, o.op);
+    let filled = claim(x, o.op);
     let t = l.with_waiting(Waiting::Idle);
-    lane_begin::complete_with(t, order, i, filled, op, w)
+    Ok(lane_begin::complete_with(t, order, i, filled, o.op, o.word))
 }
 
 // A grant with words, for operation o.
-fn grant(l: Lane, c: u8, m: DownMessage, o: Operation) -> LaneStep
+fn grant(l: Lane, c: u8, m: DownMessage, o: Operation) -> Result<LanePart, Refusal>
     requires { c ≤ 8 }
-    ensures { result ≡ grant_at LoadsOldest (search_of l c m.block) c m o l }
+    ensures { result ≡ part_of (grant_at LoadsOldest (search_of l c m.block) c m o l) }
 {
-    let a = m.block;
-    let Found::At(_) = l.search(c, a) else {
-        return fill(l, c, m, o);
-    };
-    lane_begin::refuse(l, Refusal::Unexpected)
+    match l.search(c, m.block) {
+        Some(_) => Err(Refusal::Unexpected),
+        None => fill(l, c, m, o),
+    }
 }
 
 // A bare grant of block a, for operation o, after which the lane waits no more.
-fn bare_grant(l: Lane, c: u8, a: BlockNo, o: Operation) -> LaneStep
+fn bare_grant(l: Lane, c: u8, a: BlockNo, o: Operation) -> Result<LanePart, Refusal>
     requires { c ≤ 8 }
-    ensures { result ≡ bare_at (search_of l c a) c o l }
+    ensures { result ≡ part_of (bare_at (search_of l c a) c o l) }
 {
-    let Found::At(i) = l.search(c, a) else {
-        return lane_begin::refuse(l, Refusal::Unexpected);
-    };
-    let j = i.0 as usize;
-    let held = l.lines[j];
-    let op = o.op;
-    let w = o.word;
-    let y = claim(held, op);
+    let i = l.search(c, a).ok_or(Refusal::Unexpected)?;
+    let held = l.lines[i.0 as usize];
+    let y = claim(held, o.op);
     let t = l.with_waiting(Waiting::Idle);
-    lane_begin::complete(t, c, i, y, op, w)
+    Ok(lane_begin::complete(t, c, i, y, o.op, o.word))
 }
 
 // The served operation on block a.
-fn served_on(x: Waiting, a: BlockNo) -> Ready
+fn served_on(x: Waiting, a: BlockNo) -> Result<Operation, Refusal>
     ensures { result ≡ served_on x a }
 {
     match x {
-        Waiting::Idle => Ready::No(Refusal::Unexpected),
-        Waiting::Unserved(_) => Ready::No(Refusal::Unexpected),
-        Waiting::Served(o) => {
-            let w = o.word;
-            let b = w.block();
-            if b.0 == a.0 {
-                return Ready::Go(o);
-            }
-            Ready::No(Refusal::Unexpected)
-        }
+        Waiting::Served(o) if o.word.block() == a => Ok(o),
+        _ => Err(Refusal::Unexpected),
     }
 }
 
 // A grant with words.
-fn grant_to(l: Lane, c: u8, m: DownMessage) -> LaneStep
+fn grant_to(l: Lane, c: u8, m: DownMessage) -> Result<LanePart, Refusal>
     requires { c ≤ 8 }
-    ensures { result ≡ grant_to LoadsOldest (served_on l.waiting m.block) c m l }
+    ensures { result ≡ part_of (grant_to LoadsOldest (served_on l.waiting m.block) c m l) }
 {
-    let waiting = l.waiting;
-    let a = m.block;
-    match served_on(waiting, a) {
-        Ready::Go(o) => grant(l, c, m, o),
-        Ready::No(x) => lane_begin::refuse(l, x),
-    }
+    let o = served_on(l.waiting, m.block)?;
+    grant(l, c, m, o)
 }
 
 // A bare grant.
-fn bare_to(l: Lane, c: u8, m: DownMessage) -> LaneStep
+fn bare_to(l: Lane, c: u8, m: DownMessage) -> Result<LanePart, Refusal>
     requires { c ≤ 8 }
-    ensures { result ≡ bare_to (served_on l.waiting m.block) c m l }
+    ensures { result ≡ part_of (bare_to (served_on l.waiting m.block) c m l) }
 {
-    let waiting = l.waiting;
-    let a = m.block;
-    match served_on(waiting, a) {
-        Ready::Go(o) => bare_grant(l, c, a, o),
-        Ready::No(x) => lane_begin::refuse(l, x),
-    }
+    let o = served_on(l.waiting, m.block)?;
+    bare_grant(l, c, m.block, o)
 }
 
 // What a message does in a lane that has taken it.
-fn receive(l: Lane, c: u8, m: DownMessage) -> LaneStep
+fn receive(l: Lane, c: u8, m: DownMessage) -> Result<LanePart, Refusal>
     requires { c ≤ 8 }
-    ensures { result ≡ deliver_kind capacity LoadsOldest m.kind c m l }
+    ensures { result ≡ part_of (deliver_kind capacity LoadsOldest m.kind c m l) }
 {
-    let kind = m.kind;
-    let a = m.block;
-    match kind {
-        DownKind::Update => update(l, c, a),
-        DownKind::Purge => purge(l, c, a),
+    match m.kind {
+        DownKind::Update => update(l, c, m.block),
+        DownKind::Purge => purge(l, c, m.block),
         DownKind::Grant => grant_to(l, c, m),
         DownKind::BareGrant => bare_to(l, c, m),
     }
 }
 
-// The lane's part of deliver. A refused message stays in its queue.
-pub fn deliver_lane(l: Lane, c: u8) -> LaneStep
+// The lane's part of deliver.
+pub fn deliver_lane(l: Lane, c: u8) -> Result<LanePart, Refusal>
     requires { c ≤ 8 }
-    ensures { result ≡ deliver_lane capacity LoadsOldest c l }
+    ensures { result ≡ part_of (deliver_lane capacity LoadsOldest c l) }
 {
-    let downs = l.downs;
-    if downs.len == 0 {
-        return lane_begin::refuse(l, Refusal::NothingPending);
-    }
-    let t = downs.take();
-    let q = t.queue;
-    let m = t.head;
-    let mut u = l;
-    u.downs = q;
-    let x = receive(u, c, m);
-    let answer = x.answer;
-    if lane_begin::refused(answer) {
-        let mut back = x;
-        back.lane = l;
-        return back;
-    }
-    x
+    let (m, downs) = l.downs.take().ok_or(Refusal::NothingPending)?;
+    receive(Lane { downs, ..l }, c, m)
 }

@@ -58,21 +58,35 @@ impl Control {
     fn find(self, a: BlockNo) -> Option<usize>
         ensures { result ≡ slot_number (slot_of self a) }
     {
-        self.slots.iter().position(|slot| is_for(*slot, a))
+        for i in 0..SLOTS {
+            if is_for(self.slots[i], a) {
+                return Some(i);
+            }
+        }
+        None
     }
 
     // The lowest free slot.
     fn vacant(self) -> Option<usize>
         ensures { result ≡ slot_number (free_slot self) }
     {
-        self.slots.iter().position(|slot| slot.is_none())
+        for i in 0..SLOTS {
+            if self.slots[i].is_none() {
+                return Some(i);
+            }
+        }
+        None
     }
 
     // How many services are under way.
     pub fn services(self) -> u8
         ensures { result ≡ open_services self }
     {
-        self.slots.iter().filter(|slot| slot.is_some()).count() as u8
+        let mut n: u8 = 0;
+        for i in 0..SLOTS {
+            n += self.slots[i].is_some() as u8;
+        }
+        n
     }
 
     // Whether a service is under way.

@@ -1,18 +1,16 @@
 // A refusal, and a store put back together after memory's part of a call: lane, block, control and the queues of those that a message goes to.
 // The lanes that a message goes to are the set bits of a byte, bit j for lane j: the look at full queues and the queueing walk the set bits, the lowest first.
-// The store is handed in by value and changed in a local. Functions with a requires are for the crates above and not for others.
+// The store is changed in a local, which is put back at the end. Functions with a requires are for the crates above and not for others.
 #![tactic(auto)]
 
 ghost use Rattle.std.specs.Prelude.{◌≡◌, ◌<◌};
-ghost use Rattle.machine.specs.Machine.LaneBytes.{move_of};
-ghost use Rattle.machine.specs.Machine.Change.{refuse, posted, commit_move};
+ghost use Rattle.machine.specs.Machine.LaneBytes.{move_with};
+ghost use Rattle.machine.specs.Machine.Change.{refuse, commit_move};
 ghost use Rattle.store_commit.specs.Bits.{lowest_bit, without_lowest};
 ghost use Rattle.queues.specs.Queues.{capacity};
 
 use answers::{Answer, Refusal};
-use lanes::Lane;
-use machine::ByteMove;
-use queues::{CAPACITY, DownMessage};
+use machine::MemoryPart;
 use store::{Outcome, Store};
 use words::{BlockNo, LaneNo};
 
@@ -20,7 +18,7 @@ use words::{BlockNo, LaneNo};
 fn lowest(x: u8) -> usize
     ensures { result ≡ lowest_bit x }
 {
-    u8::trailing_zeros(x) as usize
+    x.trailing_zeros() as usize
 }
 
 // A byte without its lowest set bit.
@@ -31,63 +29,32 @@ fn without_lowest(x: u8) -> u8
     x & (x - 1)
 }
 
-// The message joins the lane's down queue.
-fn post(x: DownMessage, l: Lane) -> Lane
-    ensures { result ≡ posted capacity x l }
-{
-    let q = l.downs;
-    let p = q.push(x);
-    let d = p.queue;
-    let mut t = l;
-    t.downs = d;
-    t
-}
-
 // A refusal leaves the store as it was.
 pub fn refused(r: Refusal, s: Store) -> Outcome
     ensures { result ≡ refuse r s }
 {
     Outcome {
-        answer: Answer::Refused(r),
+        answer: Err(r),
         store: s,
     }
 }
 
 // Lane k, block a, the control and the down queues after memory's part of a call; 12, with the store as it was, if a queue that its message joins is full.
-pub fn commit_move(s: Store, k: LaneNo, a: BlockNo, v: ByteMove) -> Outcome
+pub fn commit_move(store: &mut Store, k: LaneNo, a: BlockNo, part: MemoryPart) -> Result<Answer, Refusal>
     requires { (k.0 < 8) × (a.0 < 64) }
-    ensures { result ≡ commit_move s k a (move_of v) }
+    ensures answer { result ≡ (commit_move store.old k a (move_with part)).answer }
+    ensures store { store.new ≡ (commit_move store.old k a (move_with part)).store }
 {
-    let e = v.answer;
-    if e.refused() {
-        return Outcome {
-            answer: e,
-            store: s,
-        };
-    }
-    let mut t = s;
-    let i = k.0 as usize;
-    let l = v.lane;
-    t.lanes[i] = l;
-    let j = a.0 as usize;
-    let b = v.block;
-    t.blocks[j] = b;
-    let m = v.message;
-    let mut left = v.to;
+    let mut t = *store;
+    t.lanes[k.0 as usize] = part.lane;
+    t.blocks[a.0 as usize] = part.block;
+    t.control = part.control;
+    let mut left = part.to;
     while 0 < left {
         let h = lowest(left);
-        let old = t.lanes[h];
-        if CAPACITY <= old.downs.len {
-            return refused(Refusal::QueueFull, s);
-        }
-        let new = post(m, old);
-        t.lanes[h] = new;
+        t.lanes[h].downs = t.lanes[h].downs.push(part.message).ok_or(Refusal::QueueFull)?;
         left = without_lowest(left);
     }
-    let x = v.control;
-    t.control = x;
-    Outcome {
-        answer: e,
-        store: t,
-    }
+    *store = t;
+    Ok(Answer::Step)
 }

@@ -42,15 +42,20 @@ abbrev pub refuse_lane : Refusal → Lane → LaneStep
 refuse_lane r l = record { answer = Err r; lane = l }
 
 -- the step that the code's part of a lane stands for
-abbrev pub step_of : Lane → Result LanePart Refusal → LaneStep
-step_of l (Ok p) = record { answer = Ok p.answer; lane = p.lane }
-step_of l (Err r) = refuse_lane r l
+abbrev pub step_of : LanePart → LaneStep
+step_of p = record { answer = Ok p.answer; lane = p.lane }
+
+-- a step as the code hands it on: of a refused one the reason alone
+abbrev pub part_with : Result LaneAnswer Refusal → Lane → Result LanePart Refusal
+part_with (Ok a) l = Ok (record { answer = a; lane = l })
+part_with (Err r) l = Err r
+
+abbrev pub part_of : LaneStep → Result LanePart Refusal
+part_of r = part_with r.answer r.lane
 
 -- whether a lane's part is refused
 abbrev pub refused_in : Result LaneAnswer Refusal → Bool
-refused_in (Ok (Value v)) = false
-refused_in (Ok Waits) = false
-refused_in (Ok Stepped) = false
+refused_in (Ok a) = false
 refused_in (Err r) = true
 
 -- completions so far once a lane's part is counted: a completion is one more

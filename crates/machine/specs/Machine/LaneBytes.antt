@@ -34,7 +34,11 @@ orders_byte b k x = byte_of (ordered b k x)
 abbrev pub lanes_of : ℕ → LaneSet
 lanes_of x = bit_of x 0 ∷ bit_of x 1 ∷ bit_of x 2 ∷ bit_of x 3 ∷ bit_of x 4 ∷ bit_of x 5 ∷ bit_of x 6 ∷ bit_of x 7 ∷ []
 
--- the move that the code's part of memory stands for: lane, block and control are those before it
+-- the move that the code's part of memory stands for
+abbrev pub move_with : MemoryPart → Move
+move_with v = record { answer = Ok Step; lane = v.lane; block = v.block; control = v.control; to = lanes_of v.to; message = v.message }
+
+-- .. and one that may be refused; the lane, the block and the control are those before it
 abbrev pub move_of : Lane → Block → Control → Result MemoryPart Refusal → Move
-move_of l b x (Ok v) = record { answer = Ok Step; lane = v.lane; block = v.block; control = v.control; to = lanes_of v.to; message = v.message }
+move_of l b x (Ok v) = move_with v
 move_of l b x (Err r) = refuse_move r l b x
