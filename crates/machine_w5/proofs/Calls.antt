@@ -31,7 +31,7 @@ use Rattle.machine_w5.specs.Stores as Former
 use Rattle.machine_w5.specs.Calls as FormerCalls
 use Rattle.machine_w5.specs.Same.{SameLane, SameLanes, SameControl, Same, full_of, full_in, SameCalled, SameCall, SamePicture, SameRun, SameList, SameOpenings}
 use Rattle.machine_w5.proofs.Corruption.{former_with, store_with, by_stores, each_lane, limit_fits}
-use Rattle.machine_w5.proofs.Commits.{Long, Result}
+use Rattle.machine_w5.proofs.Commits.{Long, SameResult}
 use Rattle.machine_w5.proofs.Steps.{begin_of_lem, serve_of_lem, return_of_lem, deliver_of_lem}
 use Rattle.machine_w5.proofs.Settle.{Seen, corrupt_of_lem, settle_of_lem}
 use Rattle.std.specs.Prelude.{Ok}
@@ -44,7 +44,7 @@ Longer ins s q = Long q.store ⊎ Seen ins s
 abbrev pub Either : Insertion → Store → FormerCalls.Called → Called → Type 0
 Either ins s r q = ((full_in r.reply ≡ true) × Longer ins s q) ⊎ SameCalled r q
 
-answered : (ins : Insertion) (s : Store) (r : Former.Outcome) (q : Outcome) → Result r q → Either ins s (FormerCalls.answered_call r) (answered_call q)
+answered : (ins : Insertion) (s : Store) (r : Former.Outcome) (q : Outcome) → SameResult r q → Either ins s (FormerCalls.answered_call r) (answered_call q)
 answered ins s r q (inl e) = inl (ap full_of e.full, inl e.long)
 answered ins s r q (inr e) = inr (record { reply = ap Answers e.answer; store = e.store })
 

@@ -55,11 +55,11 @@ pub record FullOutcome (r : Former.Outcome) (q : Outcome) : Type 0 where
   pub full : r.answer ≡ Err QueueFull
   pub long : Long q.store
 
-abbrev pub Result : Former.Outcome → Outcome → Type 0
-Result r q = FullOutcome r q ⊎ SameOutcome r q
+abbrev pub SameResult : Former.Outcome → Outcome → Type 0
+SameResult r q = FullOutcome r q ⊎ SameOutcome r q
 
 -- a refusal
-pub refuse_same : (t : Former.Store) (s : Store) (r : Refusal) → Same t s → Result (FormerChange.refuse r t) (refuse r s)
+pub refuse_same : (t : Former.Store) (s : Store) (r : Refusal) → Same t s → SameResult (FormerChange.refuse r t) (refuse r s)
 refuse_same t s r e = inr (record { answer = refl; store = e })
 
 -- one lane is put back
@@ -97,7 +97,7 @@ module _ (shape : Shape) (x : FormerControl.Control) (y : Control) (done : ℕ) 
   same : Same t s
   same = parts_same shape x y done ps ls bs one ec el
 
-  pub commit_lane_lem : (k : LaneNo) (r q : LaneStep) → k.0 < 8 → Step r q → Result (FormerChange.commit_lane t k r) (commit_lane s k q)
+  pub commit_lane_lem : (k : LaneNo) (r q : LaneStep) → k.0 < 8 → Step r q → SameResult (FormerChange.commit_lane t k r) (commit_lane s k q)
   unfolding FormerChange.commit_lane commit_lane
   commit_lane_lem k r q h (inl f) =
       let z = get_or-set_same ls k.0 q.lane no_lane (omega (arith, el.lanes)) in
@@ -113,11 +113,11 @@ module _ (shape : Shape) (x : FormerControl.Control) (y : Control) (done : ℕ) 
       })
 
   move_parts : (k : LaneNo) (a : BlockNo) (r : FormerControl.Control) (p : Lane) (q : Move) → SameLane p q.lane → SameControl r q.control → Inside shape.n q.to →
-      Result (FormerChange.commit_move t k a (former_move q.answer p q.block r q.to q.message)) (commit_move s k a q)
+      SameResult (FormerChange.commit_move t k a (former_move q.answer p q.block r q.to q.message)) (commit_move s k a q)
   unfolding FormerChange.commit_move commit_move
   move_parts k a r p q f g i =
       let ms = set_same shape.n ps ls k.0 p q.lane el f in
-      both Result (refused_of q.answer) (refused_of q.answer) refl (λ _. inr (record { answer = refl; store = same }))
+      both SameResult (refused_of q.answer) (refused_of q.answer) refl (λ _. inr (record { answer = refl; store = same }))
       (λ _. rw (none_full shape.n q.to q.message _ _ ms i)
       (on (some_full Former.capacity q.to (set ps k.0 p))
       (λ full. let z = full_long shape.n q.to q.message _ _ ms i full in
@@ -134,8 +134,8 @@ module _ (shape : Shape) (x : FormerControl.Control) (y : Control) (done : ℕ) 
         };
       })))))
 
-  pub commit_move_lem : (k : LaneNo) (a : BlockNo) (r : FormerChange.Move) (q : Move) → SameMove r q → Inside shape.n q.to → Result (FormerChange.commit_move t k a r) (commit_move s k a q)
+  pub commit_move_lem : (k : LaneNo) (a : BlockNo) (r : FormerChange.Move) (q : Move) → SameMove r q → Inside shape.n q.to → SameResult (FormerChange.commit_move t k a r) (commit_move s k a q)
   commit_move_lem k a r q e i =
       let z : former_move q.answer r.lane q.block r.control q.to q.message ≡ r =
       sym (λ i. former_move (e.answer i) r.lane (e.block i) r.control (e.to i) (e.message i)) in
-      subst (λ (m : FormerChange.Move). Result (FormerChange.commit_move t k a m) (commit_move s k a q)) z (move_parts k a r.control r.lane q e.lane e.control i)
+      subst (λ (m : FormerChange.Move). SameResult (FormerChange.commit_move t k a m) (commit_move s k a q)) z (move_parts k a r.control r.lane q e.lane e.control i)

@@ -22,7 +22,7 @@ use Rattle.machine_w5.specs.Control.{Free, Busy}
 use Rattle.machine_w5.specs.Control as Former
 use Rattle.machine_w5.specs.Corruption as FormerCorruption
 use Rattle.machine_w5.specs.Same.{SameControl}
-use Rattle.std.specs.Prelude.{Some, None}
+use Rattle.std.specs.Prelude.{Some, None, Option}
 
 -- two that pass a test count for two
 count_two : (p : ℕ → Bool) (n i j : ℕ) → i < n → j < n → j ≢ i → p i ≡ true → p j ≡ true → 2 ≤ count_to p n

@@ -110,7 +110,7 @@ module _ (ls : List Line) (o : List LineNo) (w : Waiting) (a b : ReturnQueue) (c
   -- a line is given up
   evict_same : (i : LineNo) (op : Op) (x : WordNo) → Step (evict Former.capacity i op x p) (evict capacity i op x l)
   unfolding evict
-  evict_same i op x = push_step (Ok Waits) _ p l _ _ _ a b c d e f refl
+  evict_same i op x = push_step (Ok LaneAnswer.Waits) _ p l _ _ _ a b c d e f refl
 
   miss_same : (n : ℕ) (op : Op) (x : WordNo) → Step (miss Former.capacity n op x p) (miss capacity n op x l)
   unfolding miss
@@ -137,7 +137,7 @@ module _ (ls : List Line) (o : List LineNo) (w : Waiting) (a b : ReturnQueue) (c
   -- a message is answered
   reply_same : (y : ReturnMessage) → Step (reply Former.capacity y p) (reply capacity y l)
   unfolding reply
-  reply_same y = push_step (Ok Stepped) y p l ls o w a b c d e f refl
+  reply_same y = push_step (Ok LaneAnswer.Stepped) y p l ls o w a b c d e f refl
 
   -- an operation completes
   complete_same : (u : List LineNo) (i : LineNo) (y : Line) (op : Op) (x : WordNo) → Step (complete_with u i y op x p) (complete_with u i y op x l)

@@ -34,9 +34,9 @@ use Rattle.machine_w5.specs.Same.{SameLane, SameLanes, SameControl, Same, full_i
 use Rattle.machine_w5.proofs.Pairs.{both}
 use Rattle.machine_w5.proofs.Controls.{services_same}
 use Rattle.machine_w5.proofs.Corruption.{former_with, store_with, by_stores, each_lane, count_same, corrupt_same, quiet_same}
-use Rattle.machine_w5.proofs.Commits.{SameOutcome, Long, Result}
+use Rattle.machine_w5.proofs.Commits.{SameOutcome, Long, SameResult}
 use Rattle.machine_w5.proofs.Steps.{step_of}
-use Rattle.std.specs.Prelude.{Ok, Err}
+use Rattle.std.specs.Prelude.{Ok, Err, Result}
 use Rattle.answers.specs.declared.Refusal.{Refusal}
 
 -- the orders, or the grants, of a down queue
@@ -161,7 +161,7 @@ repeat_same ins (suc n) p q e =
     later (inr f) = inr f
 
     step : (SameProgress (FormerSettle.advance ins p) (advance ins q) → Goes ins (advance ins q).store before today) →
-        Result (FormerSettle.settle_step ins p.store) (settle_step ins q.store) → Goes ins q.store before today
+        SameResult (FormerSettle.settle_step ins p.store) (settle_step ins q.store) → Goes ins q.store before today
     step more (inl f) = inl (full_ends ins n p f.full, seen_now ins q.store f.long)
     step more (inr f) = later (more (advance_same ins p q e f))
 
@@ -178,10 +178,10 @@ reached_same t s p q e f =
 
 unless_same : (a : Result Answer Refusal) (t : Former.Store) (s : Store) (r : FormerSettle.Settlement) (q : Settlement) → Same t s → SameCalled (FormerCalls.settled_call r) (settled_call q) →
     SameCalled (FormerCalls.settled_call (FormerSettle.unless_refused a t r)) (settled_call (unless_refused a s q))
-unless_same (Ok Opened) t s r q e f = f
-unless_same (Ok (Done x)) t s r q e f = f
-unless_same (Ok Wait) t s r q e f = f
-unless_same (Ok Step) t s r q e f = f
+unless_same (Ok Answer.Opened) t s r q e f = f
+unless_same (Ok (Answer.Done x)) t s r q e f = f
+unless_same (Ok Answer.Wait) t s r q e f = f
+unless_same (Ok Answer.Step) t s r q e f = f
 unless_same (Err n) t s r q e f = record { reply = refl; store = e }
 
 ends_same : (ins : Insertion) (t : Former.Store) (s : Store) (p : FormerSettle.Progress) (q : Progress) → Same t s → Goes ins s p q →
@@ -194,8 +194,8 @@ ends_same ins t s p q e (inr f) =
 pub settle_of_lem : (ins : Insertion) (t : Former.Store) (s : Store) → Same t s → Settles ins s (FormerCalls.settled_call (FormerSettle.settle_of ins t)) (settled_call (settle_of ins s))
 unfolding FormerSettle.settle_of settle_of
 settle_of_lem ins t s e =
-    let p : FormerSettle.Progress = record { count = 0; orders = 0; completions = []; answer = Ok Step; store = t } in
-    let q : Progress = record { count = 0; orders = 0; completions = []; answer = Ok Step; store = s } in
+    let p : FormerSettle.Progress = record { count = 0; orders = 0; completions = []; answer = Ok Answer.Step; store = t } in
+    let q : Progress = record { count = 0; orders = 0; completions = []; answer = Ok Answer.Step; store = s } in
     both (λ a b. Settles ins s (FormerCalls.settled_call a) (settled_call b)) (FormerCorruption.corrupt_of t) (corrupt_of s) (corrupt_of_lem t s e)
     (λ _. inr (record { reply = refl; store = e }))
     (λ _. ends_same ins t s _ _ e

@@ -57,8 +57,8 @@ use Rattle.machine_w5.proofs.Lanes.{begin_same, deliver_same, admits_same}
 use Rattle.machine_w5.proofs.Controls.{busy_for_same, service_same, open_same, update_same, close_same}
 use Rattle.machine_w5.proofs.Corruption.{former_with, store_with, by_stores, each_lane, parts_same, begun_same, corrupt_same}
 use Rattle.machine_w5.proofs.Inside.{serve_inside, return_inside}
-use Rattle.machine_w5.proofs.Commits.{Result, SameMove, refuse_same, commit_lane_lem, commit_move_lem}
-use Rattle.std.specs.Prelude.{Option, Some, None, Ok, Err}
+use Rattle.machine_w5.proofs.Commits.{SameResult, SameMove, refuse_same, commit_lane_lem, commit_move_lem}
+use Rattle.std.specs.Prelude.{Option, Some, None, Ok, Err, Result}
 use Rattle.answers.specs.declared.Refusal.{Refusal}
 
 -- 9, 10, 11
@@ -146,8 +146,8 @@ ready_unserved (Unserved q) p x o e =
     cc
 
 -- a call on equal lanes
-at_lane : (f : LaneNo → Former.Outcome) (g : LaneNo → Outcome) → ((k : LaneNo) → Result (f k) (g k)) → (a b : ℕ) → a ≡ b → Result (f (lane a)) (g (lane b))
-at_lane f g h a b e = subst (λ (k : ℕ). Result (f (lane a)) (g (lane k))) e (h (lane a))
+at_lane : (f : LaneNo → Former.Outcome) (g : LaneNo → Outcome) → ((k : LaneNo) → SameResult (f k) (g k)) → (a b : ℕ) → a ≡ b → SameResult (f (lane a)) (g (lane b))
+at_lane f g h a b e = subst (λ (k : ℕ). SameResult (f (lane a)) (g (lane k))) e (h (lane a))
 
 module _ (shape : Shape) (x : FormerControl.Control) (y : Control) (done : ℕ) (ps ls : List Lane) (bs : List Block) (one : shape.limit ≡ 1) (ec : SameControl x y) (el : SameLanes shape.n ps ls) where
   abbrev t : Former.Store
@@ -160,51 +160,51 @@ module _ (shape : Shape) (x : FormerControl.Control) (y : Control) (done : ℕ) 
   same = parts_same shape x y done ps ls bs one ec el
 
   -- 14, then 6
-  guard_same : (k : LaneNo) (r : Former.Outcome) (q : Outcome) → (Sound s → k.0 < 8 → k.0 < shape.n → Result r q) → Result (FormerChange.guarded t k r) (guarded s k q)
+  guard_same : (k : LaneNo) (r : Former.Outcome) (q : Outcome) → (Sound s → k.0 < 8 → k.0 < shape.n → SameResult r q) → SameResult (FormerChange.guarded t k r) (guarded s k q)
   guard_same k r q h =
-      both Result (FormerCorruption.corrupt_of t) (corrupt_of s) (corrupt_same shape x y done ps ls bs one ec el) (λ _. refuse_same t s Corrupt same)
-      (λ good. both Result (leb shape.n k.0) (leb shape.n k.0) refl (λ _. refuse_same t s NoSuchLane same)
+      both SameResult (FormerCorruption.corrupt_of t) (corrupt_of s) (corrupt_same shape x y done ps ls bs one ec el) (λ _. refuse_same t s Corrupt same)
+      (λ good. both SameResult (leb shape.n k.0) (leb shape.n k.0) refl (λ _. refuse_same t s NoSuchLane same)
       (λ f.
       let g = sound s (sym (corrupt_same shape x y done ps ls bs one ec el) ∙ good) in
       let b = leb-false shape.n k.0 f in
       h g (let a = g.n_high in omega arith) b))
 
-  begin_parts : (k : LaneNo) (op : Op) (w : WordNo) → Result (FormerSteps.begin_of t k op w) (begin_of s k op w)
+  begin_parts : (k : LaneNo) (op : Op) (w : WordNo) → SameResult (FormerSteps.begin_of t k op w) (begin_of s k op w)
   unfolding FormerSteps.begin_of begin_of
   begin_parts k op w = guard_same k _ _ (λ _ h b.
-      both Result (leb (4 * shape.m) w.0) (leb (4 * shape.m) w.0) refl (λ _. refuse_same t s NoSuchWord same)
-      (λ _. both Result (admits_of shape.c op w (get_or ps k.0 no_lane)) (admits_of shape.c op w (get_or ls k.0 no_lane)) (admits_same shape.c op w _ _ (el.lane k.0 h b))
-      (λ _. both Result (FormerCorruption.exhausted_of t) (exhausted_of s) (ap (λ n. eqb n last_place) (begun_same shape x y done ps ls bs one ec el)) (λ _. refuse_same t s PlacesExhausted same)
+      both SameResult (leb (4 * shape.m) w.0) (leb (4 * shape.m) w.0) refl (λ _. refuse_same t s NoSuchWord same)
+      (λ _. both SameResult (admits_of shape.c op w (get_or ps k.0 no_lane)) (admits_of shape.c op w (get_or ls k.0 no_lane)) (admits_same shape.c op w _ _ (el.lane k.0 h b))
+      (λ _. both SameResult (FormerCorruption.exhausted_of t) (exhausted_of s) (ap (λ n. eqb n last_place) (begun_same shape x y done ps ls bs one ec el)) (λ _. refuse_same t s PlacesExhausted same)
       (λ _. commit_lane_lem shape x y done ps ls bs one ec el k _ _ h (begin_same shape.c op w _ _ (el.lane k.0 h b))))
       (λ _. refuse_same t s LaneBusy same)))
 
-  deliver_parts : (ins : Insertion) (k : LaneNo) → Result (FormerSteps.deliver_of ins t k) (deliver_of ins s k)
+  deliver_parts : (ins : Insertion) (k : LaneNo) → SameResult (FormerSteps.deliver_of ins t k) (deliver_of ins s k)
   unfolding FormerSteps.deliver_of deliver_of
   deliver_parts ins k = guard_same k _ _ (λ _ h b. commit_lane_lem shape x y done ps ls bs one ec el k _ _ h (deliver_same ins shape.c _ _ (el.lane k.0 h b)))
 
   -- memory takes a message m, the head of both return queues
   taken : Sound s → (k : LaneNo) (p l : Lane) (m n : ReturnMessage) → m ≡ n → empty_at p.returns.len ≡ false → SameLane p l →
-      Result (FormerChange.commit_move t k m.block (FormerSteps.return_move k m p (Former.block_at t m.block.0) x))
+      SameResult (FormerChange.commit_move t k m.block (FormerSteps.return_move k m p (Former.block_at t m.block.0) x))
       (commit_move s k n.block (return_move k n l (block_at s n.block.0) y))
   taken g k p l m n q f e =
       subst
-      (λ (z : ReturnMessage). Result (FormerChange.commit_move t k m.block (FormerSteps.return_move k m p (Former.block_at t m.block.0) x))
+      (λ (z : ReturnMessage). SameResult (FormerChange.commit_move t k m.block (FormerSteps.return_move k m p (Former.block_at t m.block.0) x))
       (commit_move s k z.block (return_move k z l (block_at s z.block.0) y)))
       q (commit_move_lem shape x y done ps ls bs one ec el k _ _ _ (return_move_lem k m p l _ x y f e ec) (return_inside shape.n shape.m shape.limit k m l _ y g.control))
 
-  return_parts : (k : LaneNo) → Result (FormerSteps.return_of t k) (return_of s k)
+  return_parts : (k : LaneNo) → SameResult (FormerSteps.return_of t k) (return_of s k)
   unfolding FormerSteps.return_of return_of
   return_parts k = guard_same k _ _ (λ g h b.
       let e = el.lane k.0 h b in
       let p = get_or ps k.0 no_lane in
       let l = get_or ls k.0 no_lane in
-      both Result (empty_at p.returns.len) (empty_at l.returns.len) (ap empty_at e.returns.lens) (λ _. refuse_same t s NothingPending same)
+      both SameResult (empty_at p.returns.len) (empty_at l.returns.len) (ap empty_at e.returns.lens) (λ _. refuse_same t s NothingPending same)
       (λ f.
       let n : p.returns.len ≡ 0 → ⊥ = eqb-false p.returns.len 0 f in
       taken g k p l _ _ (at_same _ _ _ _ no_return 0 e.returns (omega (arith, n))) f e))
 
   serve_go : (k : LaneNo) (o : Operation) (p l : Lane) → SameLane p l → x ≡ Free → k.0 < shape.n → BlockSound shape.n (block_at s (block_of o.word).0) →
-      Result (FormerChange.commit_move t k (block_of o.word) (FormerSteps.serve_move k o p (Former.block_at t (block_of o.word).0) x))
+      SameResult (FormerChange.commit_move t k (block_of o.word) (FormerSteps.serve_move k o p (Former.block_at t (block_of o.word).0) x))
       (commit_move s k (block_of o.word) (serve_move k o l (block_at s (block_of o.word).0) y))
   serve_go k o p l e f h g =
       let b = block_at s (block_of o.word).0 in
@@ -213,10 +213,10 @@ module _ (shape : Shape) (x : FormerControl.Control) (y : Control) (done : ℕ) 
       (serve_move_lem k o p l b y e (subst (λ (c : FormerControl.Control). SameControl c y) f ec)))
       (serve_inside shape.n k o l b y h g)
 
-  serve_parts : (k : LaneNo) → Result (FormerSteps.serve_of t k) (serve_of s k)
+  serve_parts : (k : LaneNo) → SameResult (FormerSteps.serve_of t k) (serve_of s k)
   unfolding FormerSteps.serve_of serve_of FormerSteps.ready_of ready_of
   serve_parts k = guard_same k _ _ (λ g h b.
-      subst (λ (r : Result Operation Refusal). Result (FormerSteps.serve_ready (FormerSteps.ready_of (get_or ps k.0 no_lane) x) t k) (serve_ready r s k)) (ready (el.lane k.0 h b)) (go g (el.lane k.0 h b) b _ refl))
+      subst (λ (r : Result Operation Refusal). SameResult (FormerSteps.serve_ready (FormerSteps.ready_of (get_or ps k.0 no_lane) x) t k) (serve_ready r s k)) (ready (el.lane k.0 h b)) (go g (el.lane k.0 h b) b _ refl))
     where
       ready : SameLane (get_or ps k.0 no_lane) (get_or ls k.0 no_lane) → FormerSteps.ready_of (get_or ps k.0 no_lane) x ≡ ready_of (get_or ls k.0 no_lane) shape.limit y
       ready e =
@@ -224,14 +224,14 @@ module _ (shape : Shape) (x : FormerControl.Control) (y : Control) (done : ℕ) 
           (λ i. ready_with (e.waiting i) (get_or ls k.0 no_lane) (sym one i) y)
 
       go : Sound s → SameLane (get_or ps k.0 no_lane) (get_or ls k.0 no_lane) → k.0 < shape.n → (r : Result Operation Refusal) → FormerSteps.ready_of (get_or ps k.0 no_lane) x ≡ r →
-          Result (FormerSteps.serve_ready r t k) (serve_ready r s k)
+          SameResult (FormerSteps.serve_ready r t k) (serve_ready r s k)
       go g e h (Err r) q = refuse_same t s r same
       go g e h (Ok o) q =
           let w : (get_or ls k.0 no_lane).waiting ≡ Unserved o = sym e.waiting ∙ ready_unserved (get_or ps k.0 no_lane).waiting (get_or ps k.0 no_lane) x o q in
           serve_go k o _ _ e (ready_free (get_or ps k.0 no_lane).waiting (get_or ps k.0 no_lane) x o q) h (g.block (block_of o.word).0 ((g.lane k.0 h).unserved o w))
 
   -- deliver, else return, else serve, each the lowest
-  step_parts : (ins : Insertion) → Result (FormerSettle.settle_step ins t) (settle_step ins s)
+  step_parts : (ins : Insertion) → SameResult (FormerSettle.settle_step ins t) (settle_step ins s)
   unfolding FormerSettle.settle_step settle_step
   step_parts ins =
       let n = shape.n in
@@ -241,23 +241,23 @@ module _ (shape : Shape) (x : FormerControl.Control) (y : Control) (done : ℕ) 
       lowest_same _ _ n (each_lane (λ l. ltb 0 l.returns.len) (λ l. ltb 0 l.returns.len) n ps ls el (λ p l e. ap (ltb 0) e.returns.lens) refl) in
       let u : lowest_to (λ k. unserved_of (get_or ps k no_lane).waiting) n ≡ lowest_to (λ k. unserved_of (get_or ls k no_lane).waiting) n =
       lowest_same _ _ n (each_lane (λ l. unserved_of l.waiting) (λ l. unserved_of l.waiting) n ps ls el (λ p l e. ap unserved_of e.waiting) refl) in
-      both Result _ _ (ap (λ k. ltb k n) d) (λ _. at_lane (FormerSteps.deliver_of ins t) (deliver_of ins s) (deliver_parts ins) _ _ d)
-      (λ _. both Result _ _ (ap (λ k. ltb k n) r) (λ _. at_lane (FormerSteps.return_of t) (return_of s) return_parts _ _ r)
-      (λ _. both Result _ _ (ap (λ k. ltb k n) u) (λ _. at_lane (FormerSteps.serve_of t) (serve_of s) serve_parts _ _ u)
+      both SameResult _ _ (ap (λ k. ltb k n) d) (λ _. at_lane (FormerSteps.deliver_of ins t) (deliver_of ins s) (deliver_parts ins) _ _ d)
+      (λ _. both SameResult _ _ (ap (λ k. ltb k n) r) (λ _. at_lane (FormerSteps.return_of t) (return_of s) return_parts _ _ r)
+      (λ _. both SameResult _ _ (ap (λ k. ltb k n) u) (λ _. at_lane (FormerSteps.serve_of t) (serve_of s) serve_parts _ _ u)
       (λ _. refuse_same t s Unexpected same)))
 
 -- the same on any same stores
-pub begin_of_lem : (t : Former.Store) (s : Store) (k : LaneNo) (op : Op) (w : WordNo) → Same t s → Result (FormerSteps.begin_of t k op w) (begin_of s k op w)
-begin_of_lem t s k op w = by_stores (λ t s. Result (FormerSteps.begin_of t k op w) (begin_of s k op w)) (λ sh x y d ps ls bs a b c. begin_parts sh x y d ps ls bs a b c k op w) t s
+pub begin_of_lem : (t : Former.Store) (s : Store) (k : LaneNo) (op : Op) (w : WordNo) → Same t s → SameResult (FormerSteps.begin_of t k op w) (begin_of s k op w)
+begin_of_lem t s k op w = by_stores (λ t s. SameResult (FormerSteps.begin_of t k op w) (begin_of s k op w)) (λ sh x y d ps ls bs a b c. begin_parts sh x y d ps ls bs a b c k op w) t s
 
-pub serve_of_lem : (t : Former.Store) (s : Store) (k : LaneNo) → Same t s → Result (FormerSteps.serve_of t k) (serve_of s k)
-serve_of_lem t s k = by_stores (λ t s. Result (FormerSteps.serve_of t k) (serve_of s k)) (λ sh x y d ps ls bs a b c. serve_parts sh x y d ps ls bs a b c k) t s
+pub serve_of_lem : (t : Former.Store) (s : Store) (k : LaneNo) → Same t s → SameResult (FormerSteps.serve_of t k) (serve_of s k)
+serve_of_lem t s k = by_stores (λ t s. SameResult (FormerSteps.serve_of t k) (serve_of s k)) (λ sh x y d ps ls bs a b c. serve_parts sh x y d ps ls bs a b c k) t s
 
-pub return_of_lem : (t : Former.Store) (s : Store) (k : LaneNo) → Same t s → Result (FormerSteps.return_of t k) (return_of s k)
-return_of_lem t s k = by_stores (λ t s. Result (FormerSteps.return_of t k) (return_of s k)) (λ sh x y d ps ls bs a b c. return_parts sh x y d ps ls bs a b c k) t s
+pub return_of_lem : (t : Former.Store) (s : Store) (k : LaneNo) → Same t s → SameResult (FormerSteps.return_of t k) (return_of s k)
+return_of_lem t s k = by_stores (λ t s. SameResult (FormerSteps.return_of t k) (return_of s k)) (λ sh x y d ps ls bs a b c. return_parts sh x y d ps ls bs a b c k) t s
 
-pub deliver_of_lem : (ins : Insertion) (t : Former.Store) (s : Store) (k : LaneNo) → Same t s → Result (FormerSteps.deliver_of ins t k) (deliver_of ins s k)
-deliver_of_lem ins t s k = by_stores (λ t s. Result (FormerSteps.deliver_of ins t k) (deliver_of ins s k)) (λ sh x y d ps ls bs a b c. deliver_parts sh x y d ps ls bs a b c ins k) t s
+pub deliver_of_lem : (ins : Insertion) (t : Former.Store) (s : Store) (k : LaneNo) → Same t s → SameResult (FormerSteps.deliver_of ins t k) (deliver_of ins s k)
+deliver_of_lem ins t s k = by_stores (λ t s. SameResult (FormerSteps.deliver_of ins t k) (deliver_of ins s k)) (λ sh x y d ps ls bs a b c. deliver_parts sh x y d ps ls bs a b c ins k) t s
 
-pub step_of : (ins : Insertion) (t : Former.Store) (s : Store) → Same t s → Result (FormerSettle.settle_step ins t) (settle_step ins s)
-step_of ins = by_stores (λ t s. Result (FormerSettle.settle_step ins t) (settle_step ins s)) (λ sh x y d ps ls bs a b c. step_parts sh x y d ps ls bs a b c ins)
+pub step_of : (ins : Insertion) (t : Former.Store) (s : Store) → Same t s → SameResult (FormerSettle.settle_step ins t) (settle_step ins s)
+step_of ins = by_stores (λ t s. SameResult (FormerSettle.settle_step ins t) (settle_step ins s)) (λ sh x y d ps ls bs a b c. step_parts sh x y d ps ls bs a b c ins)

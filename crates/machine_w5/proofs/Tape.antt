@@ -31,10 +31,11 @@ use Rattle.machine_w5.specs.Tape as FormerTape
 use Rattle.machine_w5.specs.Same.{Same, has_limited_open_from, SameTape}
 use Rattle.machine_w5.proofs.Pairs.{both}
 use Rattle.machine_w5.proofs.Corruption.{limit_fits}
-use Rattle.machine_w5.proofs.Commits.{Result}
+use Rattle.machine_w5.proofs.Commits.{SameResult}
 use Rattle.machine_w5.proofs.Steps.{begin_of_lem, serve_of_lem, return_of_lem, deliver_of_lem}
 use Rattle.machine_w5.proofs.Calls.{fresh_same}
 use Rattle.machine_w5.proofs.Bounded.{Bounded, not_long}
+use Rattle.std.specs.Prelude.{Result}
 
 -- a kind byte above 07 was unknown
 above_seven : (byte : ℕ) → 7 < byte → FormerTape.kind_of byte ≡ Kind.Unknown
@@ -132,11 +133,11 @@ module _ (b : Bounded) where
       (λ f. rw l (record { answer = refl; stores = inr (fresh_same shape one, b.fresh_lively shape f l) })))
 
   -- a call on open stores
-  result_same : (s : Store) (r : Former.Outcome) (q : Outcome) → b.Lively q.store → Result r q → Answered r q
+  result_same : (s : Store) (r : Former.Outcome) (q : Outcome) → b.Lively q.store → SameResult r q → Answered r q
   result_same s r q l (inl f) = absurd (not_long b q.store l f.long)
   result_same s r q l (inr f) = record { answer = f.answer; stores = inr (f.store, l) }
 
-  when_same : (t : Former.Store) (s : Store) (r : Former.Outcome) (q : Outcome) → Tapes t s → (Same t s → b.Lively s → b.Lively q.store × Result r q) →
+  when_same : (t : Former.Store) (s : Store) (r : Former.Outcome) (q : Outcome) → Tapes t s → (Same t s → b.Lively s → b.Lively q.store × SameResult r q) →
       Answered (FormerTape.when_open t r) (when_open s q)
   when_same t s r q (inl e) h =
       both Answered (FormerTape.is_open t) (is_open s) (open_test t s (inl e)) (λ o. absurd (true≢false (sym o ∙ ap (λ (n : ℕ). not (eqb n 0)) e.0))) (λ _. refused_same t s NotOpen (inl e))

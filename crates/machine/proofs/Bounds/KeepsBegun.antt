@@ -23,7 +23,7 @@ use Rattle.queues.specs.Messages.{ReturnMessage}
 use Rattle.queues.specs.Messages.{DownMessage}
 use Rattle.queues.specs.declared.DownKind.{DownKind}
 use Rattle.queues.specs.declared.DownKind.TheVariants.{Update, Purge, Grant, BareGrant}
-use Rattle.queues.specs.Queues.{capacity, empty_at, head_down, after_take, after_push, full_at}
+use Rattle.queues.specs.Queues.{capacity, empty_at, head_down, after_take, full_at}
 use Rattle.lanes.specs.declared.Lane.{Lane}
 use Rattle.lanes.specs.declared.Operation.{Operation}
 use Rattle.lanes.specs.declared.Command.TheVariants.{Exclude}

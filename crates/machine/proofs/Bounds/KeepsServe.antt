@@ -37,6 +37,7 @@ use Rattle.machine.proofs.Bounds.KeepsBegun.{serve_move_waits}
 use Rattle.machine.proofs.Bounds.KeepsStore.{Fit, lane_fit, MoveFit, commit_move_keeps}
 use Rattle.machine.proofs.Rules.Rules.{serve_rule}
 use Rattle.machine.proofs.Rules.RulesMemory.{serve_move_rule}
+use Rattle.std.specs.Prelude.{Option}
 
 -- the control after one slot was written stays within bounds
 written_sound : (n m limit i : ℕ) (y : Option Service) (x : Control) → (is_busy y ≡ true → ServiceSound n m (service_in y)) → ControlSound n m limit x → Distinct (with_slot i y x) →

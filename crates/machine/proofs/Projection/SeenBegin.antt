@@ -33,7 +33,6 @@ use Rattle.answers.specs.declared.Refusal.{Refusal}
 use Rattle.answers.specs.declared.Refusal.TheVariants.{QueueFull}
 use Rattle.machine.specs.Machine.Parts.{LaneStep}
 use Rattle.machine.specs.declared.LaneAnswer.TheVariants.{Value, Waits}
-use Rattle.machine.specs.declared.LaneAnswer.{LaneAnswer}
 use Rattle.machine.specs.Machine.Change.{refuse_lane}
 use Rattle.machine.specs.Machine.Begin.{complete_with, complete, waits, hit, read_of, eject_of, evict, miss_with, miss, begin_at, begin_lane}
 use Rattle.machine.specs.Machine.Sized.{LaneSized}

@@ -11,7 +11,7 @@ use Rattle.words.specs.Operations.{perform_of, is_load}
 use Rattle.words.specs.Lines.{invalid}
 use Rattle.queues.specs.Messages.{ReturnMessage}
 use Rattle.queues.specs.declared.ReturnKind.TheVariants.{Eject, WriteEject}
-use Rattle.queues.specs.Queues.{capacity, after_push}
+use Rattle.queues.specs.Queues.{capacity, after_push, full_at}
 use Rattle.queues.specs.Messages.{bare_message, words_message}
 use Rattle.lanes.specs.declared.Lane.{Lane}
 use Rattle.lanes.specs.declared.Command.{Command}

@@ -13,7 +13,7 @@ use Rattle.queues.specs.declared.ReturnKind.TheVariants.{Updated, Purged, Purged
 use Rattle.queues.specs.Messages.{DownMessage}
 use Rattle.queues.specs.declared.DownKind.{DownKind}
 use Rattle.queues.specs.declared.DownKind.TheVariants.{Update, Purge, Grant, BareGrant}
-use Rattle.queues.specs.Queues.{capacity, empty_at, head_down, after_take, after_push}
+use Rattle.queues.specs.Queues.{capacity, empty_at, head_down, after_take, after_push, full_at}
 use Rattle.queues.specs.Messages.{bare_message, words_message}
 use Rattle.lanes.specs.declared.Lane.{Lane}
 use Rattle.lanes.specs.declared.Operation.{Operation}
