@@ -2,8 +2,8 @@
 // Functions are for the crates above and not for others.
 #![tactic(auto)]
 
-ghost use Rattle.std.specs.Prelude.{◌≡◌, ℕ};
-ghost use Rattle.store.specs.Control.{slot_number, with_slot, is_for, slot_of, service_of, open_services, busy_of, busy_for, free_slot, with_service, with_updated, without_service, answer_of};
+ghost use Rattle.std.specs.Prelude.{◌≡◌, ◌<◌, ℕ, IfSome};
+ghost use Rattle.store.specs.Control.{slot_count, slot_number, with_slot, is_for, slot_of, service_of, open_services, busy_of, busy_for, free_slot, with_service, with_updated, without_service, answer_of};
 
 use answers::{Answer, Refusal};
 use lanes::{Command, Lane};
@@ -105,6 +105,7 @@ impl Control {
 
     // The control with another slot i, if there is such a slot.
     fn with_slot(self, i: Option<usize>, slot: Option<Service>) -> Control
+        requires { IfSome i (λ k. k < slot_count) }
         ensures { (k : ℕ) → i ≡ slot_number k → result ≡ with_slot k slot self }
     {
         match i {
