@@ -58,35 +58,21 @@ impl Control {
     fn find(self, a: BlockNo) -> Option<usize>
         ensures { result ≡ slot_number (slot_of self a) }
     {
-        for i in 0..SLOTS {
-            if is_for(self.slots[i], a) {
-                return Some(i);
-            }
-        }
-        None
+        self.slots.iter().position(|slot| is_for(*slot, a))
     }
 
     // The lowest free slot.
     fn vacant(self) -> Option<usize>
         ensures { result ≡ slot_number (free_slot self) }
     {
-        for i in 0..SLOTS {
-            if self.slots[i].is_none() {
-                return Some(i);
-            }
-        }
-        None
+        self.slots.iter().position(|slot| slot.is_none())
     }
 
     // How many services are under way.
     pub fn services(self) -> u8
         ensures { result ≡ open_services self }
     {
-        let mut n: u8 = 0;
-        for i in 0..SLOTS {
-            n += self.slots[i].is_some() as u8;
-        }
-        n
+        self.slots.iter().filter(|slot| slot.is_some()).count() as u8
     }
 
     // Whether a service is under way.
