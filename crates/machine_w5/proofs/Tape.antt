@@ -1,5 +1,5 @@
 -- A tape that has no record of kind 08 prints the same. Assumes nothing.
-use Prim.Native.Nat.{ℕ, zero, suc, ◌+◌, ◌-◌, ◌<◌}
+use Prim.Native.Nat.{ℕ, zero, suc, ◌-◌, ◌<◌}
 use native.Mathlib.Omega.{arith}
 use mathlib.Core.Logic.{◌⊎◌, inl, inr}
 use mathlib.Core.Path.{◌≡◌, refl, sym, ap, ◌∙◌, subst}
@@ -8,16 +8,18 @@ use mathlib.Core.List.{List, [], ◌∷◌, ◌++◌}
 use lib.Dec.{ltb, eqb}
 use borrow.Author.Tests.{lt-ltb, ne_eqb}
 use lib.ListN.{length, drop}
+use Rattle.std.specs.Prelude as Std
+use Rattle.std.specs.Prelude.{Ok, Err}
 use Rattle.words.specs.declared.Shape.{Shape}
 use Rattle.words.proofs.Folds.{by_cond, or_left, or_right}
 use Rattle.tape_records.specs.declared.Kind.{Kind}
 use Rattle.tape_records.specs.declared.Record.{Record}
 use Rattle.tape_records.specs.declared.Parsed.{Parsed}
-use Rattle.tape_records.specs.Records.{kind_of, known_of, body_length, field, fields_of, last_of, parse_of}
+use Rattle.tape_records.specs.Records.{kind_of, body_length, field, fields_of, read_with, parsed_of, parse_of}
 use Rattle.lanes.specs.UseOrder.{LoadsOldest}
 use Rattle.answers.specs.declared.Answer.{Answer}
 use Rattle.answers.specs.declared.Refusal.{Refusal}
-use Rattle.answers.specs.declared.Refusal.TheVariants.{Truncated, UnknownKind, NotOpen, AlreadyOpen, InvalidShape, TapeTooLong}
+use Rattle.answers.specs.declared.Refusal.TheVariants.{UnknownKind, NotOpen, AlreadyOpen, InvalidShape, TapeTooLong}
 use Rattle.store.specs.declared.Store.{Store}
 use Rattle.store.specs.declared.Outcome.{Outcome}
 use Rattle.store.specs.Opening.{bad_shape, fresh_of, blank_store}
@@ -38,7 +40,7 @@ use Rattle.machine_w5.proofs.Bounded.{Bounded, not_long}
 use Rattle.std.specs.Prelude.{Result}
 
 -- a kind byte above 07 was unknown
-above_seven : (byte : ℕ) → 7 < byte → FormerTape.kind_of byte ≡ Kind.Unknown
+above_seven : (byte : ℕ) → 7 < byte → FormerTape.kind_of byte ≡ Err UnknownKind
 above_seven byte h =
     rw (
       ne_eqb byte 0 (λ e. omega arith),
@@ -70,41 +72,35 @@ kind_same (suc (suc (suc (suc (suc (suc (suc (suc (suc n))))))))) e = above_eigh
 
 parse_same : (tape : List ℕ) → eqb (field tape 0) 8 ≡ false → FormerTape.parse_of tape ≡ parse_of tape
 unfolding FormerTape.parse_of parse_of
-parse_same tape e = ap
-    (λ (kind : Kind). cond (known_of kind)
-    (cond (ltb (length tape - 1) (body_length kind)) (last_of (length tape) Record.Truncated) (record { size = 1 + body_length kind; rec = fields_of kind (drop 1 tape) }))
-    (last_of (length tape) Record.Unknown))
-    (kind_same (field tape 0) e)
+parse_same tape e = ap (λ (k : Std.Result Kind Refusal). parsed_of (length tape) (read_with tape k)) (kind_same (field tape 0) e)
 
 -- a record that opens has L = 1
-abbrev Plain : Record → Type 0
-Plain Record.Unknown = Unit {0}
-Plain Record.Truncated = Unit {0}
-Plain (Record.Open shape) = shape.limit ≡ 1
-Plain (Record.Begin k op w) = Unit {0}
-Plain (Record.Serve k) = Unit {0}
-Plain (Record.Return k) = Unit {0}
-Plain (Record.Deliver k) = Unit {0}
+abbrev Plain : Std.Result Record Refusal → Type 0
+Plain (Ok (Record.Open shape)) = shape.limit ≡ 1
+Plain (Ok (Record.Begin k op w)) = Unit {0}
+Plain (Ok (Record.Serve k)) = Unit {0}
+Plain (Ok (Record.Return k)) = Unit {0}
+Plain (Ok (Record.Deliver k)) = Unit {0}
+Plain (Err r) = Unit {0}
 
 -- .. where the kind is one of 00 to 07
-fields_plain : (byte : ℕ) (body : List ℕ) → Plain (fields_of (FormerTape.kind_of byte) body)
-fields_plain zero body = refl
-fields_plain (suc zero) body = tt
-fields_plain (suc (suc zero)) body = tt
-fields_plain (suc (suc (suc zero))) body = tt
-fields_plain (suc (suc (suc (suc zero)))) body = tt
-fields_plain (suc (suc (suc (suc (suc zero))))) body = tt
-fields_plain (suc (suc (suc (suc (suc (suc zero)))))) body = tt
-fields_plain (suc (suc (suc (suc (suc (suc (suc zero))))))) body = tt
-fields_plain (suc (suc (suc (suc (suc (suc (suc (suc n)))))))) body = rw (above_seven (suc (suc (suc (suc (suc (suc (suc (suc n)))))))) (omega arith)) tt
+fields_plain : (tape : List ℕ) (kind : Kind) → Plain (Ok (fields_of kind (drop 1 tape))) → Plain (parsed_of (length tape) (read_with tape (Ok kind))).rec
+fields_plain tape kind = by_cond (λ r. Plain (parsed_of (length tape) r).rec) (ltb (length tape - 1) (body_length kind)) _ _ tt
+
+kind_plain : (tape : List ℕ) (byte : ℕ) → Plain (parsed_of (length tape) (read_with tape (FormerTape.kind_of byte))).rec
+kind_plain tape zero = fields_plain tape Kind.Open refl
+kind_plain tape (suc zero) = fields_plain tape Kind.Load tt
+kind_plain tape (suc (suc zero)) = fields_plain tape Kind.Store tt
+kind_plain tape (suc (suc (suc zero))) = fields_plain tape Kind.Exchange tt
+kind_plain tape (suc (suc (suc (suc zero)))) = fields_plain tape Kind.Add tt
+kind_plain tape (suc (suc (suc (suc (suc zero))))) = fields_plain tape Kind.Serve tt
+kind_plain tape (suc (suc (suc (suc (suc (suc zero)))))) = fields_plain tape Kind.Return tt
+kind_plain tape (suc (suc (suc (suc (suc (suc (suc zero))))))) = fields_plain tape Kind.Deliver tt
+kind_plain tape (suc (suc (suc (suc (suc (suc (suc (suc n)))))))) = rw (above_seven (suc (suc (suc (suc (suc (suc (suc (suc n)))))))) (omega arith)) tt
 
 parse_plain : (tape : List ℕ) → Plain (FormerTape.parse_of tape).rec
 unfolding FormerTape.parse_of
-parse_plain tape =
-    let kind = FormerTape.kind_of (field tape 0) in
-    by_cond (λ (p : Parsed). Plain p.rec) (known_of kind) _ _
-    (by_cond (λ (p : Parsed). Plain p.rec) (ltb (length tape - 1) (body_length kind)) _ _ tt (fields_plain (field tape 0) (drop 1 tape)))
-    tt
+parse_plain tape = kind_plain tape (field tape 0)
 
 module _ (b : Bounded) where
   -- no opening was read yet; or both stores are open, and the same
@@ -144,15 +140,14 @@ module _ (b : Bounded) where
   when_same t s r q (inr e) h =
       both Answered (FormerTape.is_open t) (is_open s) (open_test t s (inr e)) (λ _. let z = h e.0 e.1 in result_same s r q z.0 z.1) (λ _. refused_same t s NotOpen (inr e))
 
-  record_same : (t : Former.Store) (s : Store) (r : Record) → Plain r → Tapes t s → Answered (FormerTape.record_of t r) (record_of s r)
+  record_same : (t : Former.Store) (s : Store) (r : Std.Result Record Refusal) → Plain r → Tapes t s → Answered (FormerTape.record_of t r) (record_of s r)
   unfolding FormerTape.record_of record_of call_of
-  record_same t s Record.Unknown p e = refused_same t s UnknownKind e
-  record_same t s Record.Truncated p e = refused_same t s Truncated e
-  record_same t s (Record.Open shape) p e = open_same t s shape p e
-  record_same t s (Record.Begin k op w) p e = when_same t s _ _ e (λ f l. (b.call_lively LoadsOldest s (Begin k op w) l, begin_of_lem t s k op w f))
-  record_same t s (Record.Serve k) p e = when_same t s _ _ e (λ f l. (b.call_lively LoadsOldest s (Serve k) l, serve_of_lem t s k f))
-  record_same t s (Record.Return k) p e = when_same t s _ _ e (λ f l. (b.call_lively LoadsOldest s (Return k) l, return_of_lem t s k f))
-  record_same t s (Record.Deliver k) p e = when_same t s _ _ e (λ f l. (b.call_lively LoadsOldest s (Deliver k) l, deliver_of_lem LoadsOldest t s k f))
+  record_same t s (Err r) p e = refused_same t s r e
+  record_same t s (Ok (Record.Open shape)) p e = open_same t s shape p e
+  record_same t s (Ok (Record.Begin k op w)) p e = when_same t s _ _ e (λ f l. (b.call_lively LoadsOldest s (Begin k op w) l, begin_of_lem t s k op w f))
+  record_same t s (Ok (Record.Serve k)) p e = when_same t s _ _ e (λ f l. (b.call_lively LoadsOldest s (Serve k) l, serve_of_lem t s k f))
+  record_same t s (Ok (Record.Return k)) p e = when_same t s _ _ e (λ f l. (b.call_lively LoadsOldest s (Return k) l, return_of_lem t s k f))
+  record_same t s (Ok (Record.Deliver k)) p e = when_same t s _ _ e (λ f l. (b.call_lively LoadsOldest s (Deliver k) l, deliver_of_lem LoadsOldest t s k f))
 
   replay_same : (n : ℕ) (t : Former.Store) (s : Store) (tape : List ℕ) → Tapes t s → has_limited_open_from n tape ≡ false → FormerTape.replay_from n t tape ≡ replay_from n s tape
   unfolding FormerTape.replay_from replay_from has_limited_open_from

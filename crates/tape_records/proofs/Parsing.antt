@@ -2,60 +2,67 @@
 use Prim.Native.Nat.{ℕ, ◌+◌, ◌-◌, ◌<◌, ◌≤◌}
 use native.Mathlib.Omega.{arith}
 use mathlib.Core.Logic.{◌⊎◌, inl, inr}
-use mathlib.Core.Bool.{true, false, true≢false}
-use mathlib.Core.Path.{◌≡◌, refl, sym}
+use mathlib.Core.Path.{◌≡◌, refl}
 use mathlib.Core.List.{List, [], ◌∷◌}
 use borrow.Author.Tests.{lt-ltb, le-ltb, ltb-false}
 use lib.Dec.{ltb}
-use lib.ListN.{length, drop}
-use Rattle.words.proofs.Folds.{pick}
+use lib.ListN.{length}
+use Rattle.std.specs.Prelude.{Result, Ok, Err}
+use Rattle.words.proofs.Folds.{pick, by_cond}
+use Rattle.answers.specs.declared.Refusal.{Refusal}
+use Rattle.answers.specs.declared.Refusal.TheVariants.{Truncated, UnknownKind}
 use Rattle.tape_records.specs.declared.Kind.{Kind}
-use Rattle.tape_records.specs.declared.Form.{Form}
 use Rattle.tape_records.specs.declared.Record.{Record}
 use Rattle.tape_records.specs.declared.Parsed.{Parsed}
-use Rattle.tape_records.specs.Records.{kind_of, known_of, body_length, form_of, field, fields_of, last_of, parse_of}
+use Rattle.tape_records.specs.Records.{highest_kind, kind_of, body_length, field, fields_of, read_with, read_of, parsed_of, parse_of}
 
 -- nothing is left of the tape
-pub parse_empty : (tape : List ℕ) → length tape ≡ 0 → last_of (length tape) Record.Truncated ≡ parse_of tape
-unfolding parse_of
-parse_empty [] e = refl
-parse_empty (x ∷ tape) e = absurd (omega arith)
+pub read_empty : (tape : List ℕ) → length tape ≡ 0 → read_of tape ≡ Err Truncated
+read_empty [] e = refl
+read_empty (x ∷ tape) e = absurd (omega arith)
 
--- .. else it goes by what the kind byte picks
-module _ (tape : List ℕ) {f : Form} (e : f ≡ form_of (field tape 0)) where
-  pub parse_unknown : known_of f.kind ≡ false → last_of (length tape) Record.Unknown ≡ parse_of tape
-  unfolding parse_of
-  parse_unknown h = let k = rw e at h in rw k
+-- .. else it goes by the first byte and what is behind it
+module _ {byte : ℕ} {body : List ℕ} where
+  pub read_unknown : {tape : List ℕ} {r : Refusal} → tape ≡ byte ∷ body → kind_of byte ≡ Err r → read_of tape ≡ Err r
+  read_unknown e k = rw (e, k)
 
-  pub parse_truncated : known_of f.kind ≡ true → length tape - 1 < f.length → last_of (length tape) Record.Truncated ≡ parse_of tape
-  unfolding parse_of
-  parse_truncated h Less = let k = rw e at h in let l = rw e at Less in rw (k, lt-ltb (length tape - 1) (body_length (kind_of (field tape 0))) l)
+  module _ {kind : Kind} (k : kind_of byte ≡ Ok kind) where
+    pub read_truncated : {tape : List ℕ} → tape ≡ byte ∷ body → length body < body_length kind → read_of tape ≡ Err Truncated
+    read_truncated e h = rw (e, k, lt-ltb (length (byte ∷ body) - 1) (body_length kind) (omega arith))
 
-  pub parse_whole : known_of f.kind ≡ true → f.length ≤ length tape - 1 → {r : Record} → r ≡ fields_of f.kind (drop 1 tape) →
-      record { size = 1 + f.length; rec = r } ≡ parse_of tape
-  unfolding parse_of
-  parse_whole h most is = let k = rw e at h in let l = rw e at most in rw (k, le-ltb (length tape - 1) (body_length (kind_of (field tape 0))) l, is, e)
+    pub read_whole : {tape : List ℕ} → tape ≡ byte ∷ body → body_length kind ≤ length body → read_of tape ≡ Ok (1 + body_length kind, fields_of kind body)
+    read_whole e h = rw (e, k, le-ltb (length (byte ∷ body) - 1) (body_length kind) (omega arith))
 
 -- a record that more may follow has two bytes or more; any other takes all that is left
 abbrev pub Takes : List ℕ → Parsed → Type 0
 Takes tape p = (p.size ≡ length tape) ⊎ ((2 ≤ p.size) × (p.size ≤ length tape))
 
-known_length : (k : Kind) → known_of k ≡ true → 1 ≤ body_length k
-known_length Kind.Open e = omega arith
-known_length Kind.Load e = omega arith
-known_length Kind.Store e = omega arith
-known_length Kind.Exchange e = omega arith
-known_length Kind.Add e = omega arith
-known_length Kind.Serve e = omega arith
-known_length Kind.Return e = omega arith
-known_length Kind.Deliver e = omega arith
-known_length Kind.OpenLimited e = omega arith
-known_length Kind.Unknown e = absurd (true≢false (sym e))
+some_body : (k : Kind) → 1 ≤ body_length k
+some_body Kind.Open = omega arith
+some_body Kind.Load = omega arith
+some_body Kind.Store = omega arith
+some_body Kind.Exchange = omega arith
+some_body Kind.Add = omega arith
+some_body Kind.Serve = omega arith
+some_body Kind.Return = omega arith
+some_body Kind.Deliver = omega arith
+some_body Kind.OpenLimited = omega arith
+
+takes_with : (tape : List ℕ) (k : Result Kind Refusal) → Takes tape (parsed_of (length tape) (read_with tape k))
+takes_with tape (Err r) = inl refl
+takes_with tape (Ok kind) =
+    pick (λ r. Takes tape (parsed_of (length tape) r)) (ltb (length tape - 1) (body_length kind)) _ _ (λ _. inl refl)
+    (λ whole. let b = some_body kind in let h = ltb-false (length tape - 1) (body_length kind) whole in inr (omega arith, omega arith))
 
 pub parse_takes : (tape : List ℕ) → 0 < length tape → Takes tape (parse_of tape)
 unfolding parse_of
-parse_takes tape some =
-    pick (Takes tape) (known_of (kind_of (field tape 0))) _ _
-    (λ known. pick (Takes tape) (ltb (length tape - 1) (body_length (kind_of (field tape 0)))) _ _ (λ _. inl refl)
-    (λ whole. let b = known_length (kind_of (field tape 0)) known in let h = ltb-false (length tape - 1) (body_length (kind_of (field tape 0))) whole in inr (omega arith, omega arith)))
-    (λ _. inl refl)
+parse_takes tape some = takes_with tape (kind_of (field tape 0))
+
+-- there is a record, or it is refused by 1 or by 2
+module _ (P : Result Record Refusal → Type 0) (every : (rec : Record) → P (Ok rec)) (cut : P (Err Truncated)) (stranger : P (Err UnknownKind)) where
+  by_length : (tape : List ℕ) (kind : Kind) → P (parsed_of (length tape) (read_with tape (Ok kind))).rec
+  by_length tape kind = by_cond (λ r. P (parsed_of (length tape) r).rec) (ltb (length tape - 1) (body_length kind)) _ _ cut (every _)
+
+  pub by_record : (tape : List ℕ) → P (parse_of tape).rec
+  unfolding parse_of
+  by_record tape = by_cond (λ k. P (parsed_of (length tape) (read_with tape k)).rec) (ltb highest_kind (field tape 0)) _ _ stranger (by_length tape _)

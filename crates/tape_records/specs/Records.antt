@@ -1,12 +1,13 @@
 -- 01, "Tape and picture", with 02, W6 (kind 08): what a record is, and how long it is. Assumes nothing.
-use Rattle.std.specs.Prelude.{ℕ, ◌+◌, ◌-◌, ◌*◌, Bool, true, false, cond, List, ltb, eqb, length, get_or, drop}
+use Rattle.std.specs.Prelude.{ℕ, ◌+◌, ◌-◌, ◌*◌, cond, List, ltb, eqb, length, get_or, drop, Result, Ok, Err}
 use Rattle.words.specs.declared.LaneNo.{LaneNo}
 use Rattle.words.specs.declared.WordNo.{WordNo}
 use Rattle.words.specs.declared.Op.{Op}
 use Rattle.words.specs.declared.Shape.{Shape}
 use Rattle.words.specs.Units.{shaped, limited}
+use Rattle.answers.specs.declared.Refusal.{Refusal}
+use Rattle.answers.specs.declared.Refusal.TheVariants.{Truncated, UnknownKind}
 use Rattle.tape_records.specs.declared.Kind.{Kind}
-use Rattle.tape_records.specs.declared.Form.{Form}
 use Rattle.tape_records.specs.declared.Record.{Record}
 use Rattle.tape_records.specs.declared.Parsed.{Parsed}
 
@@ -14,10 +15,11 @@ use Rattle.tape_records.specs.declared.Parsed.{Parsed}
 abbrev pub highest_kind : ℕ
 highest_kind = 8
 
--- Kinds: 00 open; 01 load; 02 store, 03 exchange, 04 add; 05 serve, 06 return, 07 deliver; 08 open with a limit
-abbrev pub kind_of : ℕ → Kind
+-- Kinds: 00 open; 01 load; 02 store, 03 exchange, 04 add; 05 serve, 06 return, 07 deliver; 08 open with a limit; above it 2
+abbrev pub kind_of : ℕ → Result Kind Refusal
 kind_of byte =
-    cond (ltb highest_kind byte) Kind.Unknown
+    cond (ltb highest_kind byte) (Err UnknownKind)
+    (Ok
     (cond (eqb byte 0) Kind.Open
     (cond (eqb byte 1) Kind.Load
     (cond (eqb byte 2) Kind.Store
@@ -26,20 +28,7 @@ kind_of byte =
     (cond (eqb byte 5) Kind.Serve
     (cond (eqb byte 6) Kind.Return
     (cond (eqb byte 7) Kind.Deliver
-    Kind.OpenLimited))))))))
-
--- whether a record has this kind
-abbrev pub known_of : Kind → Bool
-known_of Kind.Open = true
-known_of Kind.Load = true
-known_of Kind.Store = true
-known_of Kind.Exchange = true
-known_of Kind.Add = true
-known_of Kind.Serve = true
-known_of Kind.Return = true
-known_of Kind.Deliver = true
-known_of Kind.OpenLimited = true
-known_of Kind.Unknown = false
+    Kind.OpenLimited)))))))))
 
 -- a body whose length the kind fixes: lanes, lines, blocks; lane, word; lane, word, v in four bytes; lane; lanes, lines, blocks, L
 abbrev pub body_length : Kind → ℕ
@@ -52,14 +41,6 @@ body_length Kind.Serve = 1
 body_length Kind.Return = 1
 body_length Kind.Deliver = 1
 body_length Kind.OpenLimited = 4
-body_length Kind.Unknown = 0
-
--- what a kind byte picks: body length and step
-abbrev pub form_with : ℕ → Kind → Form
-form_with length kind = record { length = length; kind = kind }
-
-abbrev pub form_of : ℕ → Form
-form_of byte = form_with (body_length (kind_of byte)) (kind_of byte)
 
 -- a field of one byte
 abbrev pub field : List ℕ → ℕ → ℕ
@@ -103,16 +84,25 @@ fields_of Kind.Serve body = Record.Serve (lane_field body)
 fields_of Kind.Return body = Record.Return (lane_field body)
 fields_of Kind.Deliver body = Record.Deliver (lane_field body)
 fields_of Kind.OpenLimited body = Record.Open (limited_shape_of body)
-fields_of Kind.Unknown body = Record.Unknown
+
+-- A record is one byte of kind, then a body: how many bytes it takes, and the record, once the kind byte is read. 2, 1, then the record
+abbrev pub read_with : List ℕ → Result Kind Refusal → Result (ℕ × Record) Refusal
+read_with tape (Ok kind) = cond (ltb (length tape - 1) (body_length kind)) (Err Truncated) (Ok (1 + body_length kind, fields_of kind (drop 1 tape)))
+read_with tape (Err r) = Err r
+
+-- .. of what stands at the start of a tape
+abbrev pub read_of : List ℕ → Result (ℕ × Record) Refusal
+read_of tape = read_with tape (kind_of (field tape 0))
 
 -- After refusal 1 or 2 no more records are read: such a record takes all that is left of the tape
-abbrev pub last_of : ℕ → Record → Parsed
-last_of left r = record { size = left; rec = r }
+abbrev pub last_of : ℕ → Refusal → Parsed
+last_of left r = record { size = left; rec = Err r }
 
--- A record is one byte of kind, then a body: what stands at the start of a tape, and how many bytes it takes. 2, 1, then the record
+-- a record or its refusal, with how many bytes of the tape it takes
+abbrev pub parsed_of : ℕ → Result (ℕ × Record) Refusal → Parsed
+parsed_of left (Ok p) = record { size = p.0; rec = Ok p.1 }
+parsed_of left (Err r) = last_of left r
+
+-- what stands at the start of a tape, and how many bytes it takes
 unfoldable pub parse_of : List ℕ → Parsed
-parse_of tape =
-    let kind = kind_of (field tape 0) in
-    cond (known_of kind)
-    (cond (ltb (length tape - 1) (body_length kind)) (last_of (length tape) Record.Truncated) (record { size = 1 + body_length kind; rec = fields_of kind (drop 1 tape) }))
-    (last_of (length tape) Record.Unknown)
+parse_of tape = parsed_of (length tape) (read_of tape)

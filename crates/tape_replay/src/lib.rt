@@ -20,12 +20,11 @@ const TAPE_MOST: usize = 65536;
 pub const TEXT_MOST: usize = 1638400;
 
 // The thin function: a record is done on the store that is lent to it.
-fn apply(store: &mut Store, rec: Record) -> Answer
+fn apply(store: &mut Store, rec: Result<Record, Refusal>) -> Answer
     requires { Steady store.old }
     ensures { (result ≡ (record_of store.old rec).answer) × (store.new ≡ (record_of store.old rec).store) }
 {
-    let s = *store;
-    let r = tape_steps::record_sound(s, rec);
+    let r = tape_steps::record_sound(*store, rec);
     *store = r.store;
     r.answer
 }

@@ -4,7 +4,9 @@ use mathlib.Core.Logic.{inl, inr}
 use mathlib.Core.Bool.{false, not, true≢false}
 use mathlib.Core.Path.{◌≡◌, refl, sym, ap, ◌∙◌}
 use borrow.Author.Tests.{eq-eqb}
+use Rattle.std.specs.Prelude.{Result, Ok, Err}
 use Rattle.words.proofs.Folds.{pick}
+use Rattle.answers.specs.declared.Refusal.{Refusal}
 use Rattle.tape_records.specs.declared.Record.{Record}
 use Rattle.lanes.specs.UseOrder.{LoadsOldest}
 use Rattle.store.specs.declared.Store.{Store}
@@ -49,12 +51,11 @@ module _ (s : Store) (g : Tapes s) where
       (λ o. record { steady = inr (keeps (steady_open s g.steady (λ e. true≢false (sym o ∙ ap not (eq-eqb s.shape.n 0 e))))); whole = whole })
       (λ _. g)
 
-  pub record_after : (rec : Record) → After (record_of s rec)
+  pub record_after : (rec : Result Record Refusal) → After (record_of s rec)
   unfolding record_of
-  record_after Record.Unknown = g
-  record_after Record.Truncated = g
-  record_after (Record.Open shape) = open_after s shape g
-  record_after (Record.Begin k op w) = call_after _ (λ e. begin_keeps s _ _ _ e g.whole) (begin_whole s _ _ _ g.whole)
-  record_after (Record.Serve k) = call_after _ (serve_keeps s _) (serve_whole s _ g.whole)
-  record_after (Record.Return k) = call_after _ (return_keeps s _) (return_whole s _ g.whole)
-  record_after (Record.Deliver k) = call_after _ (λ e. deliver_keeps LoadsOldest s _ e g.whole) (deliver_whole LoadsOldest s _ g.whole)
+  record_after (Err r) = g
+  record_after (Ok (Record.Open shape)) = open_after s shape g
+  record_after (Ok (Record.Begin k op w)) = call_after _ (λ e. begin_keeps s _ _ _ e g.whole) (begin_whole s _ _ _ g.whole)
+  record_after (Ok (Record.Serve k)) = call_after _ (serve_keeps s _) (serve_whole s _ g.whole)
+  record_after (Ok (Record.Return k)) = call_after _ (return_keeps s _) (return_whole s _ g.whole)
+  record_after (Ok (Record.Deliver k)) = call_after _ (λ e. deliver_keeps LoadsOldest s _ e g.whole) (deliver_whole LoadsOldest s _ g.whole)

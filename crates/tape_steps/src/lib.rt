@@ -3,8 +3,6 @@
 #![tactic(auto)]
 
 ghost use Rattle.std.specs.Prelude.{◌≡◌};
-ghost use Rattle.answers.specs.declared.Refusal.TheVariants.{NotOpen};
-ghost use Rattle.machine.specs.Machine.Change.{refuse};
 ghost use Rattle.machine.specs.Machine.Tape.{open_record, record_of};
 ghost use Rattle.tape_steps.specs.Steady.{Steady};
 
@@ -14,64 +12,38 @@ use tape_records::Record;
 use words::Shape;
 
 // A record of kind 00 or 08: 4, 5, 18, then the store of the opening.
+#[tactic(auto, unfolding(machine::specs::Machine::Tape::open_record))]
 fn open_record(s: Store, shape: Shape) -> Outcome
     ensures { result ≡ open_record s shape }
 {
-    if s.shape.n == 0 {
-        if store_opening::bad_shape(shape) {
-            return store_commit::refused(Refusal::InvalidShape, s);
-        }
-        if store_opening::bad_limit(shape) {
-            return store_commit::refused(Refusal::InvalidLimit, s);
-        }
-        let t = store_opening::fresh(shape);
-        return Outcome {
-            answer: Answer::Opened,
-            store: t,
-        };
+    if s.shape.n != 0 {
+        return store_commit::refused(Refusal::AlreadyOpen, s);
     }
-    store_commit::refused(Refusal::AlreadyOpen, s)
+    if store_opening::bad_shape(shape) {
+        return store_commit::refused(Refusal::InvalidShape, s);
+    }
+    if store_opening::bad_limit(shape) {
+        return store_commit::refused(Refusal::InvalidLimit, s);
+    }
+    Outcome {
+        answer: Answer::Opened,
+        store: store_opening::fresh(shape),
+    }
 }
 
-// 3: a call before an opening.
-fn not_open(s: Store) -> Outcome
-    ensures { result ≡ refuse NotOpen s }
-{
-    store_commit::refused(Refusal::NotOpen, s)
-}
-
-// What a record does: 2, 1, or what its kind says; 3 before an opening.
-pub fn record_sound(s: Store, rec: Record) -> Outcome
+// What a record does: 2, 1, or what its kind says; 3 for a call before an opening.
+#[tactic(auto, unfolding(machine::specs::Machine::Tape::record_of))]
+pub fn record_sound(s: Store, rec: Result<Record, Refusal>) -> Outcome
     requires { Steady s }
     ensures { result ≡ record_of s rec }
 {
     match rec {
-        Record::Unknown => store_commit::refused(Refusal::UnknownKind, s),
-        Record::Truncated => store_commit::refused(Refusal::Truncated, s),
-        Record::Open(shape) => open_record(s, shape),
-        Record::Begin(k, op, w) => {
-            if s.shape.n == 0 {
-                return not_open(s);
-            }
-            lane_steps::begin_sound(s, k, op, w)
-        }
-        Record::Serve(k) => {
-            if s.shape.n == 0 {
-                return not_open(s);
-            }
-            memory_steps::serve_sound(s, k)
-        }
-        Record::Return(k) => {
-            if s.shape.n == 0 {
-                return not_open(s);
-            }
-            memory_steps::return_sound(s, k)
-        }
-        Record::Deliver(k) => {
-            if s.shape.n == 0 {
-                return not_open(s);
-            }
-            lane_steps::deliver_sound(s, k)
-        }
+        Err(r) => store_commit::refused(r, s),
+        Ok(Record::Open(shape)) => open_record(s, shape),
+        Ok(_) if s.shape.n == 0 => store_commit::refused(Refusal::NotOpen, s),
+        Ok(Record::Begin(k, op, w)) => lane_steps::begin_sound(s, k, op, w),
+        Ok(Record::Serve(k)) => memory_steps::serve_sound(s, k),
+        Ok(Record::Return(k)) => memory_steps::return_sound(s, k),
+        Ok(Record::Deliver(k)) => lane_steps::deliver_sound(s, k),
     }
 }

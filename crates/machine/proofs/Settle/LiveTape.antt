@@ -9,10 +9,12 @@ use mathlib.Core.List.{List, [], ◌∷◌, Memᴰ}
 use lib.Dec.{eqb}
 use lib.ListN.{length, get_or, drop}
 use native.Mathlib.Omega.{arith}
+use Rattle.std.specs.Prelude.{Ok}
 use Rattle.words.specs.declared.Shape.{Shape}
 use Rattle.words.proofs.Folds.{pick}
 use Rattle.tape_records.specs.declared.Record.{Record}
 use Rattle.tape_records.specs.Records.{parse_of}
+use Rattle.tape_records.proofs.Parsing.{by_record}
 use Rattle.lanes.specs.UseOrder.{LoadsOldest}
 use Rattle.answers.specs.declared.Answer.{Answer}
 use Rattle.answers.specs.declared.Answer.TheVariants.{Opened, Done, Wait, Step}
@@ -58,22 +60,25 @@ when_not_full : (s : Store) (x : Outcome) → Read s → (Lively s → Answered 
 when_not_full s x (inl e) g = pick Answered (is_open s) _ _ (λ o. absurd (true≢false (sym o ∙ ap (λ (n : ℕ). not (eqb n 0)) e))) (λ _. refuse_not_full s NotOpen refl (inl e))
 when_not_full s x (inr l) g = pick Answered (is_open s) _ _ (λ _. g l) (λ _. refuse_not_full s NotOpen refl (inr l))
 
-record_not_full : (s : Store) (x : Record) → Read s → Answered (record_of s x)
+record_not_full : (s : Store) → Read s → (x : Record) → Answered (record_of s (Ok x))
 unfolding record_of call_of
-record_not_full s Record.Unknown r = refuse_not_full s UnknownKind refl r
-record_not_full s Record.Truncated r = refuse_not_full s Truncated refl r
-record_not_full s (Record.Open shape) r = open_not_full s shape r
-record_not_full s (Record.Begin k op w) r = when_not_full s _ r (λ l. record { answer = call_not_full s l LoadsOldest (Begin k op w); store = inr (call_lively LoadsOldest s (Begin k op w) l) })
-record_not_full s (Record.Serve k) r = when_not_full s _ r (λ l. record { answer = call_not_full s l LoadsOldest (Serve k); store = inr (call_lively LoadsOldest s (Serve k) l) })
-record_not_full s (Record.Return k) r = when_not_full s _ r (λ l. record { answer = call_not_full s l LoadsOldest (Return k); store = inr (call_lively LoadsOldest s (Return k) l) })
-record_not_full s (Record.Deliver k) r = when_not_full s _ r (λ l. record { answer = call_not_full s l LoadsOldest (Deliver k); store = inr (call_lively LoadsOldest s (Deliver k) l) })
+record_not_full s r (Record.Open shape) = open_not_full s shape r
+record_not_full s r (Record.Begin k op w) = when_not_full s _ r (λ l. record { answer = call_not_full s l LoadsOldest (Begin k op w); store = inr (call_lively LoadsOldest s (Begin k op w) l) })
+record_not_full s r (Record.Serve k) = when_not_full s _ r (λ l. record { answer = call_not_full s l LoadsOldest (Serve k); store = inr (call_lively LoadsOldest s (Serve k) l) })
+record_not_full s r (Record.Return k) = when_not_full s _ r (λ l. record { answer = call_not_full s l LoadsOldest (Return k); store = inr (call_lively LoadsOldest s (Return k) l) })
+record_not_full s r (Record.Deliver k) = when_not_full s _ r (λ l. record { answer = call_not_full s l LoadsOldest (Deliver k); store = inr (call_lively LoadsOldest s (Deliver k) l) })
+
+-- .. or a refusal, which is 1 or 2
+parsed_not_full : (s : Store) → Read s → (tape : List ℕ) → Answered (record_of s (parse_of tape).rec)
+unfolding record_of
+parsed_not_full s r = by_record (λ x. Answered (record_of s x)) (record_not_full s r) (refuse_not_full s Truncated refl r) (refuse_not_full s UnknownKind refl r)
 
 -- the answers to a tape's records
 replay_not_full : (more : ℕ) (s : Store) (tape : List ℕ) → Read s → (a : Result Answer Refusal) → Memᴰ a (replay_from more s tape) → refusal_number a ≢ 12
 unfolding replay_from
 replay_not_full zero s tape r a m = absurd (Memᴰ.not-nil m)
 replay_not_full (suc more) s tape r a m =
-    let g = record_not_full s (parse_of tape).rec r in
+    let g = parsed_not_full s r tape in
     pick (λ (xs : List (Result Answer Refusal)). Memᴰ a xs → refusal_number a ≢ 12) (eqb (length tape) 0) _ _ (λ _ n. absurd (Memᴰ.not-nil n))
     (λ _ n. first (record_of s (parse_of tape).rec) g.answer (Memᴰ.cases_cons n) (replay_not_full more (record_of s (parse_of tape).rec).store (drop (parse_of tape).size tape) g.store a)) m
   where

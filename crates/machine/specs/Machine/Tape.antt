@@ -1,12 +1,13 @@
 -- 01, "Tape and picture": what a record does, and a tape's replay. What a record is: crates/tape_records. Assumes nothing.
-use Rattle.std.specs.Prelude.{ℕ, zero, suc, Bool, not, cond, List, [], ◌∷◌, eqb, length, drop, Result, Ok}
+use Rattle.std.specs.Prelude.{ℕ, zero, suc, Bool, not, cond, List, [], ◌∷◌, eqb, length, drop, Result, Ok, Err}
 use Rattle.words.specs.declared.Shape.{Shape}
 use Rattle.tape_records.specs.declared.Record.{Record}
 use Rattle.tape_records.specs.Records.{parse_of}
 use Rattle.lanes.specs.UseOrder.{LoadsOldest}
 use Rattle.answers.specs.declared.Answer.{Answer}
 use Rattle.answers.specs.declared.Answer.TheVariants.{Opened}
-use Rattle.answers.specs.declared.Refusal.TheVariants.{Truncated, UnknownKind, NotOpen, AlreadyOpen, InvalidShape, InvalidLimit}
+use Rattle.answers.specs.declared.Refusal.{Refusal}
+use Rattle.answers.specs.declared.Refusal.TheVariants.{NotOpen, AlreadyOpen, InvalidShape, InvalidLimit}
 use Rattle.store.specs.declared.Store.{Store}
 use Rattle.store.specs.declared.Outcome.{Outcome}
 use Rattle.store.specs.Opening.{bad_shape, bad_limit, fresh_of, blank_store}
@@ -15,7 +16,6 @@ use Rattle.machine.specs.Machine.Begin.{begin_of}
 use Rattle.machine.specs.Machine.Serve.{serve_of}
 use Rattle.machine.specs.Machine.Return.{return_of}
 use Rattle.machine.specs.Machine.Deliver.{deliver_of}
-use Rattle.answers.specs.declared.Refusal.{Refusal}
 
 -- an open that wasn't refused has been read; before it the store is the blank one, with n = 0
 abbrev pub is_open : Store → Bool
@@ -34,14 +34,13 @@ abbrev pub when_open : Store → Outcome → Outcome
 when_open s r = cond (is_open s) r (refuse NotOpen s)
 
 -- what a record does: 2 and 1, or what its kind says
-unfoldable pub record_of : Store → Record → Outcome
-record_of s Record.Unknown = refuse UnknownKind s
-record_of s Record.Truncated = refuse Truncated s
-record_of s (Record.Open shape) = open_record s shape
-record_of s (Record.Begin k op w) = when_open s (begin_of s k op w)
-record_of s (Record.Serve k) = when_open s (serve_of s k)
-record_of s (Record.Return k) = when_open s (return_of s k)
-record_of s (Record.Deliver k) = when_open s (deliver_of LoadsOldest s k)
+unfoldable pub record_of : Store → Result Record Refusal → Outcome
+record_of s (Err r) = refuse r s
+record_of s (Ok (Record.Open shape)) = open_record s shape
+record_of s (Ok (Record.Begin k op w)) = when_open s (begin_of s k op w)
+record_of s (Ok (Record.Serve k)) = when_open s (serve_of s k)
+record_of s (Ok (Record.Return k)) = when_open s (return_of s k)
+record_of s (Ok (Record.Deliver k)) = when_open s (deliver_of LoadsOldest s k)
 
 -- the answers to a tape's records one after the other, here at most the given number of them; one store serves all of them
 unfoldable pub replay_from : ℕ → Store → List ℕ → List (Result Answer Refusal)
