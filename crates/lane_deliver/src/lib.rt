@@ -17,6 +17,7 @@ use queues::{DownKind, DownMessage, Message, ReturnKind, ReturnMessage};
 use words::{BlockNo, Line, Op};
 
 // An answer to an order joins the return queue.
+#[tactic(auto, unfolding(machine::specs::Machine::Deliver::reply))]
 fn reply(l: Lane, m: ReturnMessage) -> Result<LanePart, Refusal>
     ensures { result ≡ part_of (reply capacity m l) }
 {
@@ -28,6 +29,7 @@ fn reply(l: Lane, m: ReturnMessage) -> Result<LanePart, Refusal>
 }
 
 // UPDATE.
+#[tactic(auto, using(lanes::proofs::Firsts::first_bound))]
 fn update(l: Lane, c: u8, a: BlockNo) -> Result<LanePart, Refusal>
     requires { c ≤ 8 }
     ensures { result ≡ part_of (update_at capacity (search_of l c a) a l) }
@@ -56,13 +58,13 @@ fn purged(a: BlockNo, x: Line) -> ReturnMessage
 }
 
 // PURGE.
+#[tactic(auto, using(lanes::proofs::Firsts::first_bound))]
 fn purge(l: Lane, c: u8, a: BlockNo) -> Result<LanePart, Refusal>
     requires { c ≤ 8 }
     ensures { result ≡ part_of (purge_at capacity (search_of l c a) a l) }
 {
     let Some(i) = l.search(c, a) else {
-        let missing = Message::bare(ReturnKind::Gone, a);
-        return reply(l, missing);
+        return reply(l, Message::bare(ReturnKind::Gone, a));
     };
     let x = l.lines[i.0 as usize];
     let mut t = l;
@@ -81,16 +83,18 @@ fn claim(x: Line, op: Op) -> Line
 }
 
 // A grant's words come into the lowest-numbered line that is not valid, and the lane waits no more. Filled for a load, the line is the oldest then.
+#[tactic(auto, using(lanes::proofs::Firsts::first_bound))]
 fn fill(l: Lane, c: u8, m: DownMessage, o: Operation) -> Result<LanePart, Refusal>
     requires { c ≤ 8 }
     ensures { result ≡ part_of (fill_at LoadsOldest (vacant_of l c) c m o l) }
 {
     let i = l.vacant(c).ok_or(Refusal::Unexpected)?;
+    let Message { block, words, .. } = m;
     let x = Line {
         valid: true,
         private: false,
-        block: m.block,
-        words: m.words,
+        block,
+        words,
     };
     let order = lanes::inserted(l.order, c, i, o.op);
     let filled = claim(x, o.op);
@@ -103,18 +107,21 @@ fn grant(l: Lane, c: u8, m: DownMessage, o: Operation) -> Result<LanePart, Refus
     requires { c ≤ 8 }
     ensures { result ≡ part_of (grant_at LoadsOldest (search_of l c m.block) c m o l) }
 {
-    match l.search(c, m.block) {
-        Some(_) => Err(Refusal::Unexpected),
-        None => fill(l, c, m, o),
-    }
+    let Some(_) = l.search(c, m.block) else {
+        return fill(l, c, m, o);
+    };
+    Err(Refusal::Unexpected)
 }
 
 // A bare grant of block a, for operation o, after which the lane waits no more.
+#[tactic(auto, using(lanes::proofs::Firsts::first_bound))]
 fn bare_grant(l: Lane, c: u8, a: BlockNo, o: Operation) -> Result<LanePart, Refusal>
     requires { c ≤ 8 }
     ensures { result ≡ part_of (bare_at (search_of l c a) c o l) }
 {
-    let i = l.search(c, a).ok_or(Refusal::Unexpected)?;
+    let Some(i) = l.search(c, a) else {
+        return Err(Refusal::Unexpected);
+    };
     let held = l.lines[i.0 as usize];
     let y = claim(held, o.op);
     let t = l.with_waiting(Waiting::Idle);
@@ -163,6 +170,7 @@ fn receive(l: Lane, c: u8, m: DownMessage) -> Result<LanePart, Refusal>
 }
 
 // The lane's part of deliver.
+#[tactic(auto, unfolding(machine::specs::Machine::Deliver::deliver_lane))]
 pub fn deliver_lane(l: Lane, c: u8) -> Result<LanePart, Refusal>
     requires { c ≤ 8 }
     ensures { result ≡ part_of (deliver_lane capacity LoadsOldest c l) }
