@@ -1,24 +1,20 @@
 -- `memory_serve::check_ready` meets its contract. Assumes nothing.
-use borrow.Author.Tests.{lt-ltb, le-ltb}
+use Rattle.std.proofs.Common.{rules}
 use Rattle.machine.specs.Machine.Serve.{ready_of}
 use Rattle.memory_serve.proofs.check_ready.Goals as goal
 
+pub returns-in_default : goal.returns-in_default
+unfolding ready_of
+returns-in_default c = search rules
+
 pub returns-then-busy_for : goal.returns-then-busy_for
 unfolding ready_of
-returns-then-busy_for c = rw (ready_of, c.in-Unserved.is, ← c.block-a.ensures, ← c.busy_for.ensures, c.if-busy_for.true)
+returns-then-busy_for c = search rules
 
 pub returns-then-l-gt0 : goal.returns-then-l-gt0
 unfolding ready_of
-returns-then-l-gt0 c = rw (ready_of, c.in-Unserved.is, ← c.block-a.ensures, ← c.busy_for.ensures, c.if-busy_for.false, lt-ltb _ _ c.if-l-gt0.true)
+returns-then-l-gt0 c = search rules
 
-pub returns-in-Idle : goal.returns-in-Idle
+pub returns : goal.returns
 unfolding ready_of
-returns-in-Idle c = rw (ready_of, c.in-Idle.is)
-
-pub returns-else-l-gt0 : goal.returns-else-l-gt0
-unfolding ready_of
-returns-else-l-gt0 c = rw (ready_of, c.in-Unserved.is, ← c.block-a.ensures, ← c.busy_for.ensures, c.if-busy_for.false, le-ltb _ _ c.if-l-gt0.false)
-
-pub returns-in-Served : goal.returns-in-Served
-unfolding ready_of
-returns-in-Served c = rw (ready_of, c.in-Served.is)
+returns c = search rules

@@ -12,7 +12,7 @@ unfolding serve_move
 returns-then-n-eq0 c =
     let args = c.args in
     let n = count_orders args.b args.k args.o.command c.orders_byte-to.ensures c.count-n.ensures in
-    rw (serve_move, ← n, eq-eqb _ _ c.if-n-eq0.true, c.close_service.ensures, c.with_waiting-t.ensures, c.service_for-v.ensures)
+    rw (serve_move, ← n, eq-eqb _ _ c.if-n-eq0.true, c.close_service.ensures, c.with_waiting-lane.ensures, c.service_for-v.ensures)
 
 pub returns : goal.returns
 unfolding serve_move
@@ -26,10 +26,10 @@ returns c =
       ne_eqb _ _ c.if-n-eq0.false,
       c.orders_byte-to.ensures,
       orders_lanes args.b args.k args.o.command flags,
-      c.open-y.ensures,
-      c.bare_message-m.ensures,
-      c.block-a.ensures,
-      c.order_kind-d.ensures,
-      c.with_waiting-t.ensures,
+      c.open.ensures,
+      c.bare.ensures,
+      c.block.ensures,
+      c.order_kind.ensures,
+      c.with_waiting-lane.ensures,
       c.service_for-v.ensures,
     )
