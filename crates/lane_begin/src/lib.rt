@@ -16,6 +16,7 @@ use queues::{Message, ReturnKind, ReturnMessage};
 use words::{Line, LineNo, Op, Performed, WordNo};
 
 // The operation is done on line x, which comes to stand at i, and the lane's use order is the one given. What it waits for is not touched.
+#[tactic(auto, unfolding(machine::specs::Machine::Begin::complete_with))]
 pub fn complete_with(l: Lane, order: [LineNo; 8], i: LineNo, x: Line, op: Op, w: WordNo) -> LanePart
     requires { i.0 < 8 }
     ensures { Ok result ≡ part_of (complete_with order i x op w l) }
@@ -48,6 +49,7 @@ fn wait(l: Lane, command: Command, op: Op, word: WordNo) -> LanePart
 }
 
 // Begin on a block that line i holds: load needs no more, the others need PRIVATE.
+#[tactic(auto, unfolding(machine::specs::Machine::Begin::hit))]
 fn hit(l: Lane, c: u8, i: LineNo, op: Op, w: WordNo) -> LanePart
     requires { (c ≤ 8) × (i.0 < 8) }
     ensures { Ok result ≡ part_of (hit c i op w l) }
@@ -83,6 +85,7 @@ fn eject(x: Line) -> ReturnMessage
 }
 
 // The eviction of line i, after which the lane waits.
+#[tactic(auto, unfolding(machine::specs::Machine::Begin::evict))]
 fn evict(l: Lane, i: LineNo, op: Op, w: WordNo) -> Result<LanePart, Refusal>
     requires { i.0 < 8 }
     ensures { result ≡ part_of (evict capacity i op w l) }
@@ -95,6 +98,7 @@ fn evict(l: Lane, i: LineNo, op: Op, w: WordNo) -> Result<LanePart, Refusal>
 }
 
 // Begin on a block not held: a line must be free for the grant's words.
+#[tactic(auto, unfolding(machine::specs::Machine::Begin::miss))]
 fn miss(l: Lane, c: u8, op: Op, w: WordNo) -> Result<LanePart, Refusal>
     requires { (c ≤ 8) × ((place_at l.order 0).0 < 8) }
     ensures { result ≡ part_of (miss capacity c op w l) }
@@ -106,6 +110,7 @@ fn miss(l: Lane, c: u8, op: Op, w: WordNo) -> Result<LanePart, Refusal>
 }
 
 // Whether the lane begins the operation: one that waits begins a load that hits, and nothing else.
+#[tactic(auto, unfolding(machine::specs::Machine::Begin::admits_of))]
 pub fn admits(l: Lane, c: u8, op: Op, w: WordNo) -> bool
     requires { c ≤ 8 }
     ensures { result ≡ admits_of c op w l }
@@ -114,6 +119,7 @@ pub fn admits(l: Lane, c: u8, op: Op, w: WordNo) -> bool
 }
 
 // The lane's part of begin.
+#[tactic(auto, using(lanes::proofs::Firsts::first_bound), unfolding(machine::specs::Machine::Begin::begin_lane))]
 pub fn begin_lane(l: Lane, c: u8, op: Op, w: WordNo) -> Result<LanePart, Refusal>
     requires { (c ≤ 8) × ((place_at l.order 0).0 < 8) }
     ensures { result ≡ part_of (begin_lane capacity c op w l) }
