@@ -31,7 +31,7 @@ fn refused_into(out: &mut [u8], at: usize, x: Refusal) -> usize
 // `done` with lane, value and place.
 fn done_into(out: &mut [u8], at: usize, x: Completion) -> usize
     requires { at + 37 ≤ length out.old }
-    ensures { (result ≡ at + length (answer_text (Done x))) × (out.new ≡ written out.old at (answer_text (Done x))) }
+    ensures { (result ≡ at + length (answer_text (Ok (Done x)))) × (out.new ≡ written out.old at (answer_text (Ok (Done x)))) }
 {
     let lane = buffers::put(out, at, b"done");
     let value = spaced_into(out, lane, u32::from(x.lane.0));
@@ -40,21 +40,21 @@ fn done_into(out: &mut [u8], at: usize, x: Completion) -> usize
 }
 
 // What a record answers.
-fn answer_into(out: &mut [u8], at: usize, a: Answer) -> usize
+fn answer_into(out: &mut [u8], at: usize, a: Result<Answer, Refusal>) -> usize
     requires { at + 37 ≤ length out.old }
     ensures { (result ≡ at + length (answer_text a)) × (out.new ≡ written out.old at (answer_text a)) }
 {
     match a {
-        Answer::Opened => buffers::put(out, at, b"open"),
-        Answer::Done(x) => done_into(out, at, x),
-        Answer::Wait => buffers::put(out, at, b"wait"),
-        Answer::Step => buffers::put(out, at, b"step"),
-        Answer::Refused(x) => refused_into(out, at, x),
+        Ok(Answer::Opened) => buffers::put(out, at, b"open"),
+        Ok(Answer::Done(x)) => done_into(out, at, x),
+        Ok(Answer::Wait) => buffers::put(out, at, b"wait"),
+        Ok(Answer::Step) => buffers::put(out, at, b"step"),
+        Err(x) => refused_into(out, at, x),
     }
 }
 
 // A record's line.
-pub fn line_into(out: &mut [u8], at: usize, index: u32, a: Answer) -> usize
+pub fn line_into(out: &mut [u8], at: usize, index: u32, a: Result<Answer, Refusal>) -> usize
     requires { at + 64 ≤ length out.old }
     ensures { (result ≡ at + length (line_text index a)) × (out.new ≡ written out.old at (line_text index a)) }
 {

@@ -4,7 +4,7 @@
 
 ghost use Rattle.std.specs.Prelude.{◌≤◌, length};
 
-use machine::Filled;
+use answers::Refusal;
 use std::io;
 use std::io::Read;
 use store::Store;
@@ -23,13 +23,13 @@ const UNWRITTEN: u8 = 165;
 // The proved loop has to end: more cases than any input has.
 const MOST_CASES: u32 = 1000000;
 
-fn picture_reply(p: Filled) -> Reply {
+fn picture_reply(p: Result<usize, Refusal>) -> Reply {
     match p {
-        Filled::Length(n) => Reply {
+        Ok(n) => Reply {
             value: (n % 65536) as u32,
             ..Reply::of(Tag::Picture)
         },
-        Filled::Refused(r) => test_reply_bytes::refused(r),
+        Err(r) => test_reply_bytes::refused(r),
     }
 }
 

@@ -5,7 +5,7 @@
 ghost use Rattle.std.specs.Prelude.{◌≤◌, length};
 
 use answers::{Answer, Completion, Refusal};
-use machine::Settled;
+use machine::SettleCounts;
 use store::{Outcome, Store};
 use store_settle::Completions;
 use test_store_bytes::AsBytes;
@@ -104,30 +104,30 @@ pub fn refused(r: Refusal) -> Reply {
     }
 }
 
-pub fn call_reply(a: Answer) -> Reply {
+pub fn call_reply(a: Result<Answer, Refusal>) -> Reply {
     match a {
-        Answer::Opened => Reply::of(Tag::Opened),
-        Answer::Done(x) => Reply {
+        Ok(Answer::Opened) => Reply::of(Tag::Opened),
+        Ok(Answer::Done(x)) => Reply {
             small: x.lane.0,
             value: x.value,
             place: x.place,
             ..Reply::of(Tag::Done)
         },
-        Answer::Wait => Reply::of(Tag::Wait),
-        Answer::Step => Reply::of(Tag::Step),
-        Answer::Refused(r) => refused(r),
+        Ok(Answer::Wait) => Reply::of(Tag::Wait),
+        Ok(Answer::Step) => Reply::of(Tag::Step),
+        Err(r) => refused(r),
     }
 }
 
-pub fn settle_reply(a: Settled, listed: u8) -> Reply {
+pub fn settle_reply(a: Result<SettleCounts, Refusal>, listed: u8) -> Reply {
     match a {
-        Settled::Steps(x) => Reply {
+        Ok(x) => Reply {
             value: x.steps as u32,
             listed,
             orders: x.orders,
             ..Reply::of(Tag::Settled)
         },
-        Settled::Refused(r) => Reply {
+        Err(r) => Reply {
             listed,
             ..refused(r)
         },

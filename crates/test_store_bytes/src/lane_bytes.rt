@@ -3,7 +3,7 @@ ghost use Rattle.std.specs.Prelude.{◌≤◌, length};
 
 use crate::as_bytes::{AsBytes, Numbered, all_from, put_all};
 use lanes::{Command, Lane, Operation, Waiting};
-use queues::{DownKind, DownMessage, DownQueue, ReturnKind, ReturnMessage, ReturnQueue};
+use queues::{DownKind, Message, Queue, ReturnKind};
 use words::{BlockNo, Line, Op, WordNo};
 
 impl Numbered for Command {
@@ -74,70 +74,27 @@ impl AsBytes for Line {
     }
 }
 
-fn put_message<K: Numbered>(kind: K, block: BlockNo, words: &[u32; 4], out: &mut [u8])
-    requires { 18 ≤ length out.old }
-{
-    out[0] = kind.number();
-    out[1] = block.0;
-    put_all(words, &mut out[2..]);
-}
-
-fn message_from<K: Numbered>(bytes: &[u8]) -> (K, BlockNo, [u32; 4])
-    requires { 18 ≤ length bytes.now }
-{
-    let kind = K::of_number(bytes[0]);
-    (kind, BlockNo(bytes[1]), all_from(&bytes[2..]))
-}
-
-impl AsBytes for ReturnMessage {
+impl<K: Numbered> AsBytes for Message<K> {
     ghost SIZE = { 18 };
 
     const SIZE: usize = 18;
 
     fn put(&self, out: &mut [u8]) {
-        put_message(self.kind, self.block, &self.words, out);
+        out[0] = self.kind.number();
+        out[1] = self.block.0;
+        put_all(&self.words, &mut out[2..]);
     }
 
-    fn from_bytes(bytes: &[u8]) -> ReturnMessage {
-        let (kind, block, words) = message_from(bytes);
-        ReturnMessage { kind, block, words }
-    }
-}
-
-impl AsBytes for DownMessage {
-    ghost SIZE = { 18 };
-
-    const SIZE: usize = 18;
-
-    fn put(&self, out: &mut [u8]) {
-        put_message(self.kind, self.block, &self.words, out);
-    }
-
-    fn from_bytes(bytes: &[u8]) -> DownMessage {
-        let (kind, block, words) = message_from(bytes);
-        DownMessage { kind, block, words }
-    }
-}
-
-impl AsBytes for ReturnQueue {
-    ghost SIZE = { 145 };
-
-    const SIZE: usize = 145;
-
-    fn put(&self, out: &mut [u8]) {
-        out[0] = self.len;
-        put_all(&self.at, &mut out[1..]);
-    }
-
-    fn from_bytes(bytes: &[u8]) -> ReturnQueue {
-        ReturnQueue {
-            len: bytes[0],
-            at: all_from(&bytes[1..]),
+    fn from_bytes(bytes: &[u8]) -> Message<K> {
+        Message {
+            kind: K::of_number(bytes[0]),
+            block: BlockNo(bytes[1]),
+            words: all_from(&bytes[2..]),
         }
     }
 }
 
-impl AsBytes for DownQueue {
+impl<K: Numbered> AsBytes for Queue<K> {
     ghost SIZE = { 145 };
 
     const SIZE: usize = 145;
@@ -147,8 +104,8 @@ impl AsBytes for DownQueue {
         put_all(&self.at, &mut out[1..]);
     }
 
-    fn from_bytes(bytes: &[u8]) -> DownQueue {
-        DownQueue {
+    fn from_bytes(bytes: &[u8]) -> Queue<K> {
+        Queue {
             len: bytes[0],
             at: all_from(&bytes[1..]),
         }

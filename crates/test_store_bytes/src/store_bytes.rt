@@ -1,7 +1,7 @@
 // The store, its control and its blocks.
 use crate::as_bytes::{AsBytes, Numbered, all_from, put_all};
 use lanes::Command;
-use store::{Block, Control, Service, Slot, Store};
+use store::{Block, Control, Service, Store};
 use words::{BlockNo, LaneNo, Shape};
 
 impl AsBytes for Shape {
@@ -47,28 +47,26 @@ impl AsBytes for Service {
     }
 }
 
-// The service in a free slot is not shown.
-impl AsBytes for Slot {
+// A slot: 1 and the service in it, or zeros.
+impl AsBytes for Option<Service> {
     ghost SIZE = { 6 };
 
     const SIZE: usize = 6;
 
     fn put(&self, out: &mut [u8]) {
-        if self.busy {
-            out[0] = 1;
-            self.service.put(&mut out[1..]);
-        } else {
-            out[..6].fill(0);
+        match self {
+            Some(service) => {
+                out[0] = 1;
+                service.put(&mut out[1..]);
+            }
+            None => out[..6].fill(0),
         }
     }
 
-    fn from_bytes(bytes: &[u8]) -> Slot {
-        if bytes[0] == 0 {
-            return store::free_slot();
-        }
-        Slot {
-            busy: true,
-            service: AsBytes::from_bytes(&bytes[1..]),
+    fn from_bytes(bytes: &[u8]) -> Option<Service> {
+        match bytes[0] {
+            0 => None,
+            _ => Some(AsBytes::from_bytes(&bytes[1..])),
         }
     }
 }
