@@ -169,3 +169,12 @@ picture_length s g =
     (sum_same _ _ s.shape.m (λ a _. block_length s a) ∙
     (sum_swap (λ a k. sum_to (size_at s a k) s.shape.c) s.shape.m s.shape.n ∙
     (sum_same (λ k. 19 * valid_at s k) _ s.shape.n (lane_length s g) ∙ sum_times 19 (valid_at s) s.shape.n))))
+
+-- a write from the start of a part is a write at the part's offset in the whole
+pub part_written : (xs : List ℕ) (at : ℕ) (ys : List ℕ) {part : List ℕ} → at ≤ length xs → part ≡ written (take (length xs - at) (drop at xs)) 0 ys →
+    take at xs ++ (part ++ drop (length xs - at) (drop at xs)) ≡ written xs at ys
+unfolding written
+part_written xs at ys h p =
+    let n : length (drop at xs) ≤ length xs - at = simp length-drop (omega arith) in
+    let e : 0 + length ys ≡ length ys = omega arith in
+    rw (p, take_all (length xs - at) (drop at xs) n, drop_of_length-le (drop at xs) n, append-nil, e, drop-drop (length ys) at xs)
