@@ -1,13 +1,14 @@
 -- Laws of the picture's records: their length, and how they are written one after the other. Assumes nothing.
-use Prim.Native.Nat.{ℕ, zero, suc, ◌+◌, ◌*◌, ◌<◌, ◌≤◌}
+use Prim.Native.Nat.{ℕ, zero, suc, ◌+◌, ◌-◌, ◌*◌, ◌<◌, ◌≤◌}
 use native.Mathlib.Nat.{eq-or-lt_of_le}
 use native.Mathlib.Numerals.{add-one}
 use native.Mathlib.Omega.{arith}
 use mathlib.Core.Logic.{◌⊎◌, inl, inr}
 use mathlib.Core.Bool.{Bool, true, false, cond}
 use mathlib.Core.Path.{◌≡◌, refl, sym, ap, ◌∙◌}
-use mathlib.Core.List.{List, [], ◌∷◌, ◌++◌}
-use lib.ListN.{length, take, get_or, length-append, length-take}
+use mathlib.Core.List.{List, [], ◌∷◌, ◌++◌, append-nil}
+use lib.ListN.{length, take, drop, get_or, length-append, length-take, length-drop, drop_of_length-le}
+use lib.Seq.{take_all, drop-drop}
 use Rattle.words.specs.declared.Line.{Line}
 use Rattle.words.specs.Lines.{no_line, holds_of}
 use Rattle.std.specs.Prelude.{count_by}
@@ -22,6 +23,7 @@ use Rattle.machine.proofs.Laws.Tests.{on}
 use Rattle.machine.proofs.Laws.Lines.{valid_holds, invalid_holds, other_holds}
 use Rattle.machine.proofs.Laws.Sums.{sum_same, zero_sum, sum_grown, sum_swap, sum_times, sum_only}
 use Rattle.machine.proofs.Bounds.Sound.{Sound}
+use Rattle.buffers.specs.Written.{written}
 use Rattle.buffers.proofs.Writing.{written_length, Wrote, wrote_then}
 use Rattle.store_picture.specs.Records.{line_record, records_at, block_records, valid_at, valid_of}
 
