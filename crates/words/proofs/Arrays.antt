@@ -18,8 +18,8 @@ any_taken p xs d zero h = refl
 any_taken p xs d (suc n) h = rw (any_taken p xs d n (omega arith)) (sym (rw add-one at (list_any_more p xs n d (omega arith))))
 
 -- .. of all
-pub any_places : {X : Type 0} (p : X → Bool) (xs : List X) (d : X) → any_to (λ i. p (get_or xs i d)) (length xs) ≡ list_any p xs
-any_places p xs d = any_taken p xs d (length xs) (omega arith) ∙ ap (list_any p) (take_all (length xs) xs (omega arith))
+pub any_places : {X : Type 0} (p : X → Bool) (xs : List X) (d : X) (n : ℕ) → length xs ≡ n → any_to (λ i. p (get_or xs i d)) n ≡ list_any p xs
+any_places p xs d n e = any_taken p xs d n (omega arith) ∙ ap (list_any p) (take_all n xs (omega arith))
 
 -- how many numbers below n pass, or how many of the first n elements
 pub count_taken : {X : Type 0} (p : X → Bool) (xs : List X) (d : X) (n : ℕ) → n ≤ length xs → count_to (λ i. p (get_or xs i d)) n ≡ length (filter p (take n xs))
@@ -28,8 +28,8 @@ count_taken p xs d zero h = refl
 count_taken p xs d (suc n) h = rw (count_taken p xs d n (omega arith)) (sym (rw add-one at (length-filter_more p xs n d (omega arith))))
 
 -- .. of all
-pub count_places : {X : Type 0} (p : X → Bool) (xs : List X) (d : X) → count_to (λ i. p (get_or xs i d)) (length xs) ≡ length (filter p xs)
-count_places p xs d = count_taken p xs d (length xs) (omega arith) ∙ ap (λ ys. length (filter p ys)) (take_all (length xs) xs (omega arith))
+pub count_places : {X : Type 0} (p : X → Bool) (xs : List X) (d : X) (n : ℕ) → length xs ≡ n → count_to (λ i. p (get_or xs i d)) n ≡ length (filter p xs)
+count_places p xs d n e = count_taken p xs d n (omega arith) ∙ ap (λ ys. length (filter p ys)) (take_all n xs (omega arith))
 
 -- none below the lowest that passes does
 pub lowest_before : (p : ℕ → Bool) (n k : ℕ) → k < lowest_to p n → p k ≡ false
@@ -66,8 +66,8 @@ all_taken p xs d (suc n) h =
     not_or false false = refl
 
 -- .. of all
-pub all_places : {X : Type 0} (p : X → Bool) (xs : List X) (d : X) → not (any_to (λ i. not (p (get_or xs i d))) (length xs)) ≡ list_all p xs
-all_places p xs d = all_taken p xs d (length xs) (omega arith) ∙ ap (list_all p) (take_all (length xs) xs (omega arith))
+pub all_places : {X : Type 0} (p : X → Bool) (xs : List X) (d : X) (n : ℕ) → length xs ≡ n → not (any_to (λ i. not (p (get_or xs i d))) n) ≡ list_all p xs
+all_places p xs d n e = all_taken p xs d n (omega arith) ∙ ap (list_all p) (take_all n xs (omega arith))
 
 -- two tests that agree below n
 pub any_same : (p q : ℕ → Bool) (n : ℕ) → ((j : ℕ) → j < n → p j ≡ q j) → any_to p n ≡ any_to q n
@@ -79,4 +79,4 @@ any_same p q (suc n) h = rw (any_same p q n (λ j l. h j (omega arith)), h n (om
 pub any_range : (p : ℕ → Bool) (n : ℕ) → any_to p n ≡ list_any p (range_with_len 0 n)
 any_range p n =
     any_same p (λ i. p (get_or (range_with_len 0 n) i 0)) n (λ j l. ap p (sym (get_or-range_with_len 0 n j 0 l ∙ zero-add j))) ∙
-    (rw (length-range_with_len 0 n) at (any_places p (range_with_len 0 n) 0))
+    any_places p (range_with_len 0 n) 0 n (length-range_with_len 0 n)
