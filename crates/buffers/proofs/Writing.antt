@@ -1,11 +1,10 @@
 -- Laws of writes into a lent buffer. Assumes nothing.
-use Prim.Native.Nat.{ℕ, ◌+◌, ◌<◌, ◌≤◌}
-use native.Mathlib.Numerals.{add-one}
+use Prim.Native.Nat.{ℕ, ◌+◌, ◌-◌, ◌≤◌}
 use native.Mathlib.Omega.{arith}
 use mathlib.Core.Path.{◌≡◌, sym, ◌∙◌}
-use mathlib.Core.List.{List, [], ◌∷◌, ◌++◌, append_assoc}
-use lib.ListN.{length, take, drop, set, length-append, length-take, length-drop, take-append-drop}
-use lib.Seq.{set_split, take_at, drop-append-add, drop-drop}
+use mathlib.Core.List.{List, [], ◌++◌, append_assoc}
+use lib.ListN.{length, take, drop, length-append, length-take, length-drop, take-append-drop}
+use lib.Seq.{take_at, drop-append-add, drop-drop}
 use Rattle.buffers.specs.Written.{written}
 
 -- nothing is written
@@ -18,10 +17,11 @@ pub written_front : (xs ys : List ℕ) → written xs 0 ys ≡ ys ++ drop (lengt
 unfolding written
 written_front xs ys = let z : 0 + length ys ≡ length ys = omega arith in rw z
 
--- a store of one byte
-pub written_one : (xs : List ℕ) (at b : ℕ) → at < length xs → set xs at b ≡ written xs at (b ∷ [])
+-- bytes copied into a part of the buffer
+pub written_part : (xs : List ℕ) (at : ℕ) (ys : List ℕ) {part : List ℕ} → part ≡ ys →
+    take at xs ++ (part ++ drop (at + length ys - at) (drop at xs)) ≡ written xs at ys
 unfolding written
-written_one xs at b h = rw (set_split xs at b h, add-one)
+written_part xs at ys p = let e : at + length ys - at ≡ length ys = omega arith in rw (p, e, drop-drop (length ys) at xs)
 
 -- the buffer keeps its length
 pub written_length : (xs : List ℕ) (at : ℕ) (ys : List ℕ) → at + length ys ≤ length xs → length (written xs at ys) ≡ length xs

@@ -1,34 +1,16 @@
-// Bytes into a lent buffer. Each function writes from place `at` on and gives the place after what it wrote.
-// All of them require that the bytes fit; they are for the crates above and not for others.
+// Bytes into a lent buffer. `put` requires that the bytes fit; it is for the crates above and not for others.
+// Buffer and place are two parameters, not a struct: one that holds a `&mut` needs a clause more on each function, that it still holds the same.
 #![tactic(auto)]
 
-ghost use Rattle.std.specs.Prelude.{◌≡◌, [], ◌∷◌, ◌+◌, ◌≤◌, ◌<◌, length};
+ghost use Rattle.std.specs.Prelude.{◌≡◌, ◌+◌, ◌≤◌, length};
 ghost use Rattle.buffers.specs.Written.{written};
 
-// One byte.
-pub fn put(out: &mut [u8], at: usize, b: u8) -> usize
-    requires { at < length out.old }
-    ensures { (result ≡ at + 1) × (out.new ≡ written out.old at (b ∷ [])) }
+// Writes bytes from place `at` on and gives the place after them.
+pub fn put(out: &mut [u8], at: usize, bytes: &[u8]) -> usize
+    requires { at + length bytes.now ≤ length out.old }
+    ensures { (result ≡ at + length bytes.now) × (out.new ≡ written out.old at bytes.now) }
 {
-    out[at] = b;
-    at + 1
-}
-
-// Three bytes.
-pub fn put3(out: &mut [u8], at: usize, a: u8, b: u8, c: u8) -> usize
-    requires { at + 3 ≤ length out.old }
-    ensures { (result ≡ at + 3) × (out.new ≡ written out.old at (a ∷ b ∷ c ∷ [])) }
-{
-    let second = put(out, at, a);
-    let third = put(out, second, b);
-    put(out, third, c)
-}
-
-// Four bytes.
-pub fn put4(out: &mut [u8], at: usize, a: u8, b: u8, c: u8, d: u8) -> usize
-    requires { at + 4 ≤ length out.old }
-    ensures { (result ≡ at + 4) × (out.new ≡ written out.old at (a ∷ b ∷ c ∷ d ∷ [])) }
-{
-    let second = put(out, at, a);
-    put3(out, second, b, c, d)
+    let end = at + bytes.len();
+    out[at..end].copy_from_slice(bytes);
+    end
 }

@@ -44,6 +44,7 @@ fn flags_byte(p: [bool; 8]) -> u8
 }
 
 // The lanes that lane k's command sends orders to, in a byte.
+#[tactic(auto, unfolding(machine::specs::Machine::LaneBytes::orders_byte, machine::specs::Machine::LaneBytes::byte_of, machine::specs::Machine::Serve::ordered, words::specs::Folds::sum_to))]
 fn orders_byte(b: Block, k: LaneNo, x: Command) -> u8
     requires { k.0 < 8 }
     ensures { result ≡ orders_byte b k x }
@@ -71,6 +72,7 @@ fn is_bare(x: Command, present: bool) -> bool
 }
 
 // Serve's own checks: 9, 10, 11.
+#[tactic(auto, unfolding(machine::specs::Machine::Serve::ready_of))]
 pub fn check_ready(l: Lane, limit: u8, x: Control) -> Result<Operation, Refusal>
     ensures { result ≡ ready_of l limit x }
 {

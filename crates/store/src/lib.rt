@@ -105,6 +105,7 @@ impl Control {
     }
 
     // A service is opened, in the lowest free slot.
+    #[tactic(auto, unfolding(crate::specs::Control::with_service))]
     pub fn open(self, v: Service) -> Control
         ensures { result ≡ with_service v self }
     {
@@ -112,6 +113,7 @@ impl Control {
     }
 
     // The service of v's block is v now.
+    #[tactic(auto, unfolding(crate::specs::Control::with_updated))]
     pub fn update(self, v: Service) -> Control
         ensures { result ≡ with_updated v self }
     {
@@ -119,6 +121,7 @@ impl Control {
     }
 
     // v's block has no service any more.
+    #[tactic(auto, unfolding(crate::specs::Control::without_service))]
     pub fn close(self, v: Service) -> Control
         ensures { result ≡ without_service v self }
     {

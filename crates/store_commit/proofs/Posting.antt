@@ -3,14 +3,17 @@ use Prim.Native.Nat.{ℕ, zero, suc, ◌+◌, ◌<◌, ◌≤◌}
 use native.Mathlib.Nat.{eq-or-lt_of_le}
 use native.Mathlib.Omega.{arith}
 use mathlib.Core.Logic.{◌⊎◌, inl, inr}
-use mathlib.Core.Bool.{Bool, true, false, ◌&&◌}
+use mathlib.Core.Bool.{Bool, true, false, cond, ◌&&◌}
 use mathlib.Core.Path.{◌≡◌, refl, sym, ap, ◌∙◌}
 use mathlib.Core.List.{List}
 use lib.ListN.{get_or, set}
 use Rattle.words.specs.Folds.{up_to, any_to}
-use Rattle.words.proofs.Folds.{below?, up_to_none, up_to_more, any_none, any_more, any_true, any_false, any_never}
+use Rattle.words.proofs.Folds.{below?, skip, up_to_none, up_to_more, any_none, any_more, any_true, any_false, any_never}
+use Rattle.std.specs.Prelude.{Some, None}
 use Rattle.queues.specs.Messages.{DownMessage}
-use Rattle.queues.specs.Queues.{capacity, full_at}
+use Rattle.queues.specs.declared.Message.{Message}
+use Rattle.queues.specs.declared.Queue.{Queue}
+use Rattle.queues.specs.Queues.{capacity, full_at, push_of, after_push}
 use Rattle.lanes.specs.declared.Lane.{Lane}
 use Rattle.store.specs.declared.Store.{Store}
 use Rattle.store.specs.LaneSets.{goes_to}
@@ -21,6 +24,21 @@ use Rattle.machine.proofs.Bounds.Posts.{posts_before}
 use Rattle.machine.proofs.Laws.LaneBytes.{lanes_bit}
 use Rattle.store_commit.specs.Bits.{lowest_bit, without_lowest}
 use Rattle.store_commit.proofs.Walks.{Left, left_all, left_none, lowest_below, fewer, next_above, next_set, next_first, next_left}
+
+-- what push gives says whether the queue was full
+no_queue : {A : Type 0} {x : A} → None ≡ Some x → ⊥
+no_queue e = let z : ◌≡◌ {A = ℕ} 0 1 = cc in omega arith
+
+pub push_none : {K : Type 0} (q : Queue K) (x : Message K) → push_of capacity q x ≡ None → full_at capacity q.len ≡ true
+push_none q x e = go (full_at capacity q.len) e
+  where
+    go : (b : Bool) → cond b None (Some (after_push capacity q x)) ≡ None → b ≡ true
+    go true e = refl
+    go false e = absurd (no_queue (sym e))
+
+pub push_some : {K : Type 0} (q : Queue K) (x : Message K) {r : Queue K} → push_of capacity q x ≡ Some r →
+    (full_at capacity q.len ≡ false) × (r ≡ after_push capacity q x)
+push_some q x {r} e = let s = skip (full_at capacity q.len) e no_queue in (s.0, cc)
 
 -- turns that do nothing can be left out
 skip_turns : {A : Type 0} (f : ℕ → A → A) (a : A) (j n : ℕ) → j ≤ n → ((i : ℕ) (b : A) → j ≤ i → i < n → f i b ≡ b) → up_to f n a ≡ up_to f j a

@@ -49,6 +49,7 @@ pub fn commit_move(store: &mut Store, k: LaneNo, a: BlockNo, part: MemoryPart) -
     t.lanes[k.0 as usize] = part.lane;
     t.blocks[a.0 as usize] = part.block;
     t.control = part.control;
+    // A while, since the walk counts no index: each turn takes the lowest bit out of those that are left.
     let mut left = part.to;
     while 0 < left {
         let h = lowest(left);

@@ -6,16 +6,19 @@ use native.Mathlib.Omega.{arith}
 use mathlib.Core.Logic.{◌⊎◌, inl, inr}
 use mathlib.Core.Bool.{Bool, true, false, cond}
 use mathlib.Core.Path.{◌≡◌, refl, sym, ap, ◌∙◌}
-use mathlib.Core.List.{List, [], ◌++◌, append-nil}
-use lib.ListN.{length, take, drop, get_or, length-append, length-drop, drop_of_length-le}
+use mathlib.Core.List.{List, [], ◌∷◌, ◌++◌, append-nil}
+use lib.ListN.{length, take, drop, get_or, length-append, length-take, length-drop, drop_of_length-le}
 use lib.Seq.{take_all, drop-drop}
 use Rattle.words.specs.declared.Line.{Line}
 use Rattle.words.specs.Lines.{no_line, holds_of}
-use Rattle.words.specs.Folds.{sum_to, gather_to}
+use Rattle.std.specs.Prelude.{count_by}
+use Rattle.std.proofs.lemmas.List.{get_or-take}
+use Rattle.std.proofs.lemmas.List.Sums.{sum_by_more}
+use Rattle.words.specs.Folds.{count_to, sum_to, gather_to}
 use Rattle.words.proofs.Folds.{count_most}
 use Rattle.store.specs.declared.Store.{Store}
 use Rattle.store.specs.Stores.{lane_at}
-use Rattle.machine.specs.Machine.Picture.{record_bytes, picture_bytes}
+use Rattle.machine.specs.Machine.Picture.{word_bytes, record_bytes, picture_bytes}
 use Rattle.machine.proofs.Laws.Tests.{on}
 use Rattle.machine.proofs.Laws.Lines.{valid_holds, invalid_holds, other_holds}
 use Rattle.machine.proofs.Laws.Sums.{sum_same, zero_sum, sum_grown, sum_swap, sum_times, sum_only}
@@ -65,19 +68,17 @@ wrote_fits f k n xs at w l h =
     let p = w.0 in
     omega arith
 
--- a write from the start of a part is a write at the part's offset in the whole
-pub part_written : (xs : List ℕ) (at : ℕ) (ys : List ℕ) {part : List ℕ} → at ≤ length xs → part ≡ written (take (length xs - at) (drop at xs)) 0 ys →
-    take at xs ++ (part ++ drop (length xs - at) (drop at xs)) ≡ written xs at ys
-unfolding written
-part_written xs at ys h p =
-    let n : length (drop at xs) ≤ length xs - at = simp length-drop (omega arith) in
-    let e : 0 + length ys ≡ length ys = omega arith in
-    rw (p, take_all (length xs - at) (drop at xs) n, drop_of_length-le (drop at xs) n, append-nil, e, drop-drop (length ys) at xs)
+-- an element of the first n of a list
+pub taken_at : {A : Type 0} (n : ℕ) (xs : List A) (i : ℕ) (d : A) → i < length (take n xs) → (i < n) × (get_or (take n xs) i d ≡ get_or xs i d)
+taken_at n xs i d h = let l : i < n = omega (arith, length-take n xs) in (l, get_or-take n xs i d l)
 
--- a line counts as one at most
-pub one_most : (b : Bool) → cond b 1 0 ≤ 1
-one_most true = omega arith
-one_most false = omega arith
+-- how many of the first n of a list pass
+pub count_taken : {A : Type 0} (p : A → Bool) (xs : List A) (d : A) (n : ℕ) → n ≤ length xs → count_by p (take n xs) ≡ count_to (λ i. p (get_or xs i d)) n
+unfolding count_to
+count_taken p xs d zero h = refl
+count_taken {A} p xs d (suc n) h =
+    let e = rw add-one at (sum_by_more {X = A} (λ x. cond (p x) 1 0) xs n d (omega arith)) in
+    e ∙ ap (λ m. m + cond (p (get_or xs n d)) 1 0) (count_taken p xs d n (omega arith))
 
 pub sum_none : (f : ℕ → ℕ) → sum_to f 0 ≡ 0
 unfolding sum_to
@@ -94,6 +95,19 @@ valid_most s zero h = omega arith
 valid_most s (suc n) h =
     let r = valid_most s n h in
     omega (arith, count_most (λ i. (get_or (lane_at s n).lines i no_line).valid) s.shape.c)
+
+-- the bytes of a line's word i
+abbrev pub word_at : Line → ℕ → List ℕ
+word_at x i = word_bytes (get_or x.words i 0)
+
+pub words_length : (x : Line) → length (gather_to (word_at x) 4) ≡ 16
+unfolding gather_to
+words_length x = refl
+
+-- .. of its four words, behind kind, lane and block
+pub record_words : (k : ℕ) (x : Line) → (16 ∷ k ∷ x.block.0 ∷ []) ++ gather_to (word_at x) 4 ≡ record_bytes k x
+unfolding record_bytes gather_to
+record_words k x = refl
 
 -- a record has 19 bytes
 pub record_length : (k : ℕ) (x : Line) → length (record_bytes k x) ≡ 19
@@ -157,3 +171,12 @@ picture_length s g =
     (sum_same _ _ s.shape.m (λ a _. block_length s a) ∙
     (sum_swap (λ a k. sum_to (size_at s a k) s.shape.c) s.shape.m s.shape.n ∙
     (sum_same (λ k. 19 * valid_at s k) _ s.shape.n (lane_length s g) ∙ sum_times 19 (valid_at s) s.shape.n))))
+
+-- a write from the start of a part is a write at the part's offset in the whole
+pub part_written : (xs : List ℕ) (at : ℕ) (ys : List ℕ) {part : List ℕ} → at ≤ length xs → part ≡ written (take (length xs - at) (drop at xs)) 0 ys →
+    take at xs ++ (part ++ drop (length xs - at) (drop at xs)) ≡ written xs at ys
+unfolding written
+part_written xs at ys h p =
+    let n : length (drop at xs) ≤ length xs - at = simp length-drop (omega arith) in
+    let e : 0 + length ys ≡ length ys = omega arith in
+    rw (p, take_all (length xs - at) (drop at xs) n, drop_of_length-le (drop at xs) n, append-nil, e, drop-drop (length ys) at xs)

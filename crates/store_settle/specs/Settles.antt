@@ -4,7 +4,6 @@ use Rattle.answers.specs.declared.Answer.{Answer}
 use Rattle.answers.specs.declared.Answer.TheVariants.{Opened, Done, Wait, Step}
 use Rattle.answers.specs.declared.Completion.{Completion}
 use Rattle.answers.specs.declared.Refusal.{Refusal}
-use Rattle.answers.specs.declared.Refusal.TheVariants.{Unexpected}
 use Rattle.answers.specs.Completions.{completion_of}
 use Rattle.store.specs.declared.Store.{Store}
 use Rattle.machine.specs.Machine.Settle.{bound_of, exact_of, Settlement}
@@ -36,11 +35,3 @@ listed_of d (Ok (Done x)) = record { len = d.len + 1; at = set d.at d.len x }
 listed_of d (Ok Wait) = d
 listed_of d (Ok Step) = d
 listed_of d (Err r) = d
-
--- why an answer is a refusal
-abbrev pub refusal_of : Result Answer Refusal → Refusal
-refusal_of (Ok Opened) = Unexpected
-refusal_of (Ok (Done x)) = Unexpected
-refusal_of (Ok Wait) = Unexpected
-refusal_of (Ok Step) = Unexpected
-refusal_of (Err r) = r

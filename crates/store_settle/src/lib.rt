@@ -7,10 +7,10 @@ ghost use Rattle.lanes.specs.UseOrder.{LoadsOldest};
 ghost use Rattle.machine.specs.Machine.Corruption.{corrupt_of};
 ghost use Rattle.answers.specs.Completions.{done_in};
 ghost use Rattle.machine.specs.Machine.Settle.{settle_of, refuse_settle};
-ghost use Rattle.store_settle.specs.Settles.{array_of, outcome_of, Counted, listed_of, refusal_of};
+ghost use Rattle.store_settle.specs.Settles.{array_of, outcome_of, Counted, listed_of};
 
 use answers::{Answer, Completion, Refusal};
-use machine::{SettleCounts, Settled};
+use machine::SettleCounts;
 use store::Store;
 use words::LaneNo;
 
@@ -25,7 +25,7 @@ pub struct Completions {
 // What a settle gives.
 #[derive(Clone, Copy)]
 pub struct SettleOutcome {
-    pub answer: Settled,
+    pub answer: Result<SettleCounts, Refusal>,
     pub completions: Completions,
     pub store: Store,
 }
@@ -34,52 +34,31 @@ pub struct SettleOutcome {
 fn none() -> Completions
     ensures { result ≡ array_of [] }
 {
-    let x = answers::completed(LaneNo(0), 0, 0);
-    Completions { len: 0, at: [x; 8] }
-}
-
-// The completion of an answer, if it has one, goes behind the others.
-fn list(d: Completions, a: Answer) -> Completions
-    requires { length (done_in a) + d.len ≤ 8 }
-    ensures { result ≡ listed_of d a }
-{
-    match a {
-        Answer::Opened => d,
-        Answer::Done(x) => {
-            let mut t = d;
-            let i = d.len as usize;
-            t.at[i] = x;
-            t.len = d.len + 1;
-            t
-        }
-        Answer::Wait => d,
-        Answer::Step => d,
-        Answer::Refused(_) => d,
+    Completions {
+        len: 0,
+        at: [answers::completed(LaneNo(0), 0, 0); 8],
     }
 }
 
-// Why an answer is a refusal; for an answer that is no refusal the value is not used.
-fn refusal(a: Answer) -> Refusal
-    ensures { result ≡ refusal_of a }
+// The completion of an answer, if it has one, goes behind the others.
+fn list(d: &mut Completions, a: Answer)
+    requires { length (done_in (Ok a)) + d.old.len ≤ 8 }
+    ensures { d.new ≡ listed_of d.old (Ok a) }
 {
-    match a {
-        Answer::Opened => Refusal::Unexpected,
-        Answer::Done(_) => Refusal::Unexpected,
-        Answer::Wait => Refusal::Unexpected,
-        Answer::Step => Refusal::Unexpected,
-        Answer::Refused(r) => r,
+    if let Answer::Done(x) = a {
+        d.at[d.len as usize] = x;
+        d.len += 1;
     }
 }
 
 // A refused settle gives its number alone; the store is the one before the call.
-fn refuse(r: Refusal, s: Store) -> SettleOutcome
-    ensures { (result ≡ outcome_of (refuse_settle r s)) × Counted s result.answer }
+fn refuse(r: Refusal, store: Store) -> SettleOutcome
+    ensures { (result ≡ outcome_of (refuse_settle r store)) × Counted store result.answer }
 {
-    let d = none();
     SettleOutcome {
-        answer: Settled::Refused(r),
-        completions: d,
-        store: s,
+        answer: Err(r),
+        completions: none(),
+        store,
     }
 }
 
@@ -90,29 +69,21 @@ fn settle_sound(first: Store) -> SettleOutcome
 {
     let mut s = first;
     let mut done = none();
-    let mut count: u16 = 0;
+    let mut steps: u16 = 0;
     let mut orders: u8 = 0;
-    while !store_quiet::quiet(s) {
-        let x = store_settle_step::step(s);
-        let r = x.outcome;
-        let a = r.answer;
-        if a.refused() {
-            let y = refusal(a);
-            return refuse(y, first);
+    while !store_quiet::quiet(&s) {
+        match store_settle_step::step(&mut s) {
+            Ok(x) => {
+                list(&mut done, x.answer);
+                steps += 1;
+                orders += x.orders;
+            }
+            Err(r) => return refuse(r, first),
         }
-        let d = list(done, a);
-        done = d;
-        let t = r.store;
-        s = t;
-        count += 1;
-        orders += x.orders;
     }
-    let counts = SettleCounts {
-        steps: count,
-        orders: orders,
-    };
+    let counts = SettleCounts { steps, orders };
     SettleOutcome {
-        answer: Settled::Steps(counts),
+        answer: Ok(counts),
         completions: done,
         store: s,
     }

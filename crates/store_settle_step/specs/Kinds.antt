@@ -1,5 +1,5 @@
 -- What settle's search for a step and the step compute, and the orders that it queued. Assumes nothing.
-use Rattle.std.specs.Prelude.{ℕ, Bool, ltb}
+use Rattle.std.specs.Prelude.{ℕ, Bool, cond, Option, Some, None, Result, Ok, Err, ltb}
 use Rattle.words.specs.declared.LaneNo.{LaneNo}
 use Rattle.words.specs.Units.{block_of}
 use Rattle.lanes.specs.declared.Lane.{Lane}
@@ -7,6 +7,8 @@ use Rattle.lanes.specs.declared.Waiting.{Waiting}
 use Rattle.lanes.specs.declared.Waiting.TheVariants.{Idle, Unserved, Served}
 use Rattle.lanes.specs.Waits.{unserved_of}
 use Rattle.lanes.specs.UseOrder.{LoadsOldest}
+use Rattle.answers.specs.declared.Answer.{Answer}
+use Rattle.answers.specs.declared.Refusal.{Refusal}
 use Rattle.store.specs.declared.Store.{Store}
 use Rattle.store.specs.declared.Outcome.{Outcome}
 use Rattle.store.specs.declared.Control.{Control}
@@ -31,12 +33,17 @@ step_of Deliver s k = deliver_of LoadsOldest s k
 step_of Return s k = return_of s k
 step_of Serve s k = serve_of s k
 
--- a step with a count of orders; with those that it queued
-abbrev pub with_orders : ℕ → Outcome → TakenStep
-with_orders orders r = record { outcome = r; orders = orders }
+-- the lane of number k, if k is below n
+abbrev pub lane_found : ℕ → ℕ → Option LaneNo
+lane_found k n = cond (ltb k n) (Some (record { 0 = k })) None
 
-abbrev pub taken_of : Store → Outcome → TakenStep
-taken_of s r = with_orders (orders_queued s r.store) r
+-- what a step answers, with the orders that it queued; a refused one has the reason alone
+abbrev pub taken_with : Result Answer Refusal → ℕ → Result TakenStep Refusal
+taken_with (Ok a) orders = Ok (record { answer = a; orders = orders })
+taken_with (Err r) orders = Err r
+
+abbrev pub taken_of : Store → Outcome → Result TakenStep Refusal
+taken_of s r = taken_with r.answer (orders_queued s r.store)
 
 -- the answers that the service of what waited unserved awaits
 abbrev pub sent_for : Waiting → Control → ℕ

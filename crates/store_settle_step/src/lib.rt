@@ -1,20 +1,20 @@
-// One step of settle on a store that is not corrupt: found and taken, and the orders counted that it queued. For settle and not for others.
+// One step of settle on a store that is not corrupt: found and taken, and the orders counted that it queued. The store is lent and changed in place; a refused
+// step leaves it as it was. For settle and not for others.
 #![tactic(auto)]
 
 ghost use Rattle.std.specs.Prelude.{◌≡◌, false, ◌<◌, ◌≤◌};
 ghost use Rattle.words.specs.Folds.{lowest_to};
 ghost use Rattle.store.specs.Stores.{lane_at};
-ghost use Rattle.store.specs.Control.{awaited_of};
 ghost use Rattle.lanes.specs.UseOrder.{LoadsOldest};
 ghost use Rattle.machine.specs.Machine.Corruption.{corrupt_of};
 ghost use Rattle.machine.specs.Machine.Serve.{serve_of};
 ghost use Rattle.machine.specs.Machine.Settle.{settle_step};
 ghost use Rattle.machine.specs.Machine.Sized.{Sized};
-ghost use Rattle.store_settle_step.specs.Kinds.{enabled_of, step_of, with_orders, taken_of, sent_for};
+ghost use Rattle.store_settle_step.specs.Kinds.{enabled_of, lane_found, step_of, taken_of, sent_for};
 
-use answers::Refusal;
+use answers::{Answer, Refusal};
 use lanes::{Lane, Waiting};
-use store::{Control, Lookup, Outcome, Store};
+use store::{Control, Store};
 use words::LaneNo;
 
 // The three steps that settle repeats, in the order in which it tries them.
@@ -25,10 +25,10 @@ enum StepKind {
     Serve,
 }
 
-// A step, and how many orders it queued; a refused step none.
+// What a step answers, and how many orders it queued.
 #[derive(Clone, Copy)]
 pub struct TakenStep {
-    pub outcome: Outcome,
+    pub answer: Answer,
     pub orders: u8,
 }
 
@@ -39,39 +39,21 @@ fn enabled(x: StepKind, l: Lane) -> bool
     match x {
         StepKind::Deliver => 0 < l.downs.len,
         StepKind::Return => 0 < l.returns.len,
-        StepKind::Serve => {
-            let w = l.waiting;
-            w.unserved()
-        }
+        StepKind::Serve => l.waiting.unserved(),
     }
 }
 
-// The lowest lane that has something for the step, or n.
-fn lowest(x: StepKind, s: Store) -> u8
-    requires { s.shape.n ≤ 8 }
-    ensures { result ≡ lowest_to (λ k. enabled_of x (lane_at s k)) s.shape.n }
+// The lowest lane that has something for the step.
+fn lowest(x: StepKind, s: &Store) -> Option<LaneNo>
+    requires { s.now.shape.n ≤ 8 }
+    ensures { result ≡ lane_found (lowest_to (λ k. enabled_of x (lane_at s.now k)) s.now.shape.n) s.now.shape.n }
 {
-    let n = s.shape.n;
-    let mut k: u8 = 0;
-    while k < n {
-        let i = k as usize;
-        let l = s.lanes[i];
-        if enabled(x, l) {
-            return k;
+    for k in 0..s.shape.n {
+        if enabled(x, s.lanes[k as usize]) {
+            return Some(LaneNo(k));
         }
-        k += 1;
     }
-    n
-}
-
-// The answers that a service awaits, 0 where there is none.
-fn awaited(x: Lookup) -> u8
-    ensures { result ≡ awaited_of x }
-{
-    match x {
-        Lookup::Of(v) => v.awaited,
-        Lookup::Nothing => 0,
-    }
+    None
 }
 
 // The orders that a serve sent, by what waited and the control after it: the service that it opened awaits an answer to each; one that has closed
@@ -80,83 +62,53 @@ fn sent_for(w: Waiting, x: Control) -> u8
     ensures { result ≡ sent_for w x }
 {
     match w {
-        Waiting::Idle => 0,
-        Waiting::Unserved(o) => {
-            let a = o.word.block();
-            let y = x.service(a);
-            awaited(y)
-        }
-        Waiting::Served(_) => 0,
-    }
-}
-
-// A step that queues no order.
-fn without_orders(r: Outcome) -> TakenStep
-    ensures { result ≡ with_orders 0 r }
-{
-    TakenStep {
-        outcome: r,
-        orders: 0,
+        Waiting::Unserved(o) => x.service(o.word.block()).map_or(0, |v| v.awaited),
+        Waiting::Idle | Waiting::Served(_) => 0,
     }
 }
 
 // Serve lane k, and count its orders.
-fn serve_step(s: Store, k: LaneNo) -> TakenStep
-    requires { (corrupt_of s ≡ false) × (k.0 < s.shape.n) × Sized s }
-    ensures { result ≡ taken_of s (serve_of s k) }
+fn serve_step(store: &mut Store, k: LaneNo) -> Result<TakenStep, Refusal>
+    requires { (corrupt_of store.old ≡ false) × (k.0 < store.old.shape.n) × Sized store.old }
+    ensures step { result ≡ taken_of store.old (serve_of store.old k) }
+    ensures store { store.new ≡ (serve_of store.old k).store }
 {
-    let r = memory_steps::serve_sound(s, k);
-    let e = r.answer;
-    if e.refused() {
-        return without_orders(r);
-    }
-    let i = k.0 as usize;
-    let l = s.lanes[i];
-    let w = l.waiting;
-    let x = r.store.control;
-    let n = sent_for(w, x);
-    TakenStep {
-        outcome: r,
-        orders: n,
-    }
+    let waiting = store.lanes[k.0 as usize].waiting;
+    let answer = memory_steps::serve_sound(store, k)?;
+    Ok(TakenStep {
+        answer,
+        orders: sent_for(waiting, store.control),
+    })
 }
 
-// The step on lane k.
-fn take_step(x: StepKind, s: Store, k: LaneNo) -> TakenStep
-    requires { (corrupt_of s ≡ false) × (k.0 < s.shape.n) × Sized s }
-    ensures { result ≡ taken_of s (step_of x s k) }
+// The step on lane k. Serve alone queues orders.
+fn take_step(x: StepKind, store: &mut Store, k: LaneNo) -> Result<TakenStep, Refusal>
+    requires { (corrupt_of store.old ≡ false) × (k.0 < store.old.shape.n) × Sized store.old }
+    ensures step { result ≡ taken_of store.old (step_of x store.old k) }
+    ensures store { store.new ≡ (step_of x store.old k).store }
 {
-    match x {
-        StepKind::Deliver => {
-            let r = lane_steps::deliver_sound(s, k);
-            without_orders(r)
-        }
-        StepKind::Return => {
-            let r = memory_steps::return_sound(s, k);
-            without_orders(r)
-        }
-        StepKind::Serve => serve_step(s, k),
-    }
+    let answer = match x {
+        StepKind::Deliver => lane_steps::deliver_sound(store, k)?,
+        StepKind::Return => memory_steps::return_sound(store, k)?,
+        StepKind::Serve => return serve_step(store, k),
+    };
+    Ok(TakenStep { answer, orders: 0 })
 }
 
 // The next step: deliver, else return, else serve, at the lowest lane; 16 where there is none of these.
-pub fn step(s: Store) -> TakenStep
-    requires { corrupt_of s ≡ false }
-    ensures { result ≡ taken_of s (settle_step LoadsOldest s) }
+pub fn step(store: &mut Store) -> Result<TakenStep, Refusal>
+    requires { corrupt_of store.old ≡ false }
+    ensures step { result ≡ taken_of store.old (settle_step LoadsOldest store.old) }
+    ensures store { store.new ≡ (settle_step LoadsOldest store.old).store }
 {
-    let n = s.shape.n;
-    let d = lowest(StepKind::Deliver, s);
-    if d < n {
-        return take_step(StepKind::Deliver, s, LaneNo(d));
+    if let Some(k) = lowest(StepKind::Deliver, store) {
+        return take_step(StepKind::Deliver, store, k);
     }
-    let r = lowest(StepKind::Return, s);
-    if r < n {
-        return take_step(StepKind::Return, s, LaneNo(r));
+    if let Some(k) = lowest(StepKind::Return, store) {
+        return take_step(StepKind::Return, store, k);
     }
-    let u = lowest(StepKind::Serve, s);
-    if u < n {
-        return take_step(StepKind::Serve, s, LaneNo(u));
+    if let Some(k) = lowest(StepKind::Serve, store) {
+        return take_step(StepKind::Serve, store, k);
     }
-    let x = store_commit::refused(Refusal::Unexpected, s);
-    without_orders(x)
+    Err(Refusal::Unexpected)
 }

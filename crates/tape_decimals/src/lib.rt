@@ -14,8 +14,8 @@ pub fn decimal_in(out: &mut [u8], at: usize, more: usize, n: u32) -> usize
         return at;
     }
     if n < 10 {
-        return buffers::put(out, at, 48 + n as u8);
+        return buffers::put(out, at, &[b'0' + n as u8]);
     }
     let last = decimal_in(out, at, more - 1, n / 10);
-    buffers::put(out, last, 48 + (n % 10) as u8)
+    buffers::put(out, last, &[b'0' + (n % 10) as u8])
 }

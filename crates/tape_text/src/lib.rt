@@ -15,7 +15,7 @@ fn spaced_into(out: &mut [u8], at: usize, n: u32) -> usize
     requires { at + 11 ≤ length out.old }
     ensures { (result ≡ at + length (spaced n)) × (out.new ≡ written out.old at (spaced n)) }
 {
-    let digits = buffers::put(out, at, b' ');
+    let digits = buffers::put(out, at, b" ");
     tape_decimals::decimal_in(out, digits, 10, n)
 }
 
@@ -24,49 +24,44 @@ fn refused_into(out: &mut [u8], at: usize, x: Refusal) -> usize
     requires { at + 18 ≤ length out.old }
     ensures { (result ≡ at + length (refused_text x)) × (out.new ≡ written out.old at (refused_text x)) }
 {
-    let half = buffers::put4(out, at, b'r', b'e', b'f', b'u');
-    let number = buffers::put3(out, half, b's', b'e', b'd');
-    let n = x.number() as u32;
-    spaced_into(out, number, n)
+    let number = buffers::put(out, at, b"refused");
+    spaced_into(out, number, u32::from(x.number()))
 }
 
 // `done` with lane, value and place.
 fn done_into(out: &mut [u8], at: usize, x: Completion) -> usize
     requires { at + 37 ≤ length out.old }
-    ensures { (result ≡ at + length (answer_text (Done x))) × (out.new ≡ written out.old at (answer_text (Done x))) }
+    ensures { (result ≡ at + length (answer_text (Ok (Done x)))) × (out.new ≡ written out.old at (answer_text (Ok (Done x)))) }
 {
-    let lane = buffers::put4(out, at, b'd', b'o', b'n', b'e');
-    let k = x.lane.0 as u32;
-    let value = spaced_into(out, lane, k);
-    let v = x.value;
-    let place = spaced_into(out, value, v);
-    let p = x.place;
-    spaced_into(out, place, p)
+    let lane = buffers::put(out, at, b"done");
+    let value = spaced_into(out, lane, u32::from(x.lane.0));
+    let place = spaced_into(out, value, x.value);
+    spaced_into(out, place, x.place)
 }
 
 // What a record answers.
-fn answer_into(out: &mut [u8], at: usize, a: Answer) -> usize
+fn answer_into(out: &mut [u8], at: usize, a: Result<Answer, Refusal>) -> usize
     requires { at + 37 ≤ length out.old }
     ensures { (result ≡ at + length (answer_text a)) × (out.new ≡ written out.old at (answer_text a)) }
 {
     match a {
-        Answer::Opened => buffers::put4(out, at, b'o', b'p', b'e', b'n'),
-        Answer::Done(x) => done_into(out, at, x),
-        Answer::Wait => buffers::put4(out, at, b'w', b'a', b'i', b't'),
-        Answer::Step => buffers::put4(out, at, b's', b't', b'e', b'p'),
-        Answer::Refused(x) => refused_into(out, at, x),
+        Ok(Answer::Opened) => buffers::put(out, at, b"open"),
+        Ok(Answer::Done(x)) => done_into(out, at, x),
+        Ok(Answer::Wait) => buffers::put(out, at, b"wait"),
+        Ok(Answer::Step) => buffers::put(out, at, b"step"),
+        Err(x) => refused_into(out, at, x),
     }
 }
 
 // A record's line.
-pub fn line_into(out: &mut [u8], at: usize, index: u32, a: Answer) -> usize
+pub fn line_into(out: &mut [u8], at: usize, index: u32, a: Result<Answer, Refusal>) -> usize
     requires { at + 64 ≤ length out.old }
     ensures { (result ≡ at + length (line_text index a)) × (out.new ≡ written out.old at (line_text index a)) }
 {
     let space = tape_decimals::decimal_in(out, at, 10, index);
-    let answer = buffers::put(out, space, b' ');
+    let answer = buffers::put(out, space, b" ");
     let newline = answer_into(out, answer, a);
-    buffers::put(out, newline, b'\n')
+    buffers::put(out, newline, b"\n")
 }
 
 // The last line: `end` and the number of lines before it.
@@ -74,9 +69,9 @@ pub fn end_into(out: &mut [u8], at: usize, count: u32) -> usize
     requires { at + 64 ≤ length out.old }
     ensures { (result ≡ at + length (end_text count)) × (out.new ≡ written out.old at (end_text count)) }
 {
-    let number = buffers::put3(out, at, b'e', b'n', b'd');
+    let number = buffers::put(out, at, b"end");
     let stop = spaced_into(out, number, count);
-    buffers::put(out, stop, b'\n')
+    buffers::put(out, stop, b"\n")
 }
 
 // The one line of a tape that is too long.
@@ -85,5 +80,5 @@ pub fn too_long_into(out: &mut [u8], at: usize) -> usize
     ensures { (result ≡ at + length (refused_text TapeTooLong ++ (10 ∷ []))) × (out.new ≡ written out.old at (refused_text TapeTooLong ++ (10 ∷ []))) }
 {
     let after = refused_into(out, at, Refusal::TapeTooLong);
-    buffers::put(out, after, b'\n')
+    buffers::put(out, after, b"\n")
 }

@@ -4,11 +4,12 @@
 
 ghost use Rattle.std.specs.Prelude.{◌≤◌, length};
 
-use machine::Filled;
+use answers::Refusal;
 use std::io;
 use std::io::Read;
 use store::Store;
-use test_reply_bytes::Reply;
+use test_reply_bytes::{Kind, Reply, Tag};
+use test_store_bytes::AsBytes;
 use words::{LaneNo, WordNo};
 
 // A store and a call.
@@ -22,58 +23,38 @@ const UNWRITTEN: u8 = 165;
 // The proved loop has to end: more cases than any input has.
 const MOST_CASES: u32 = 1000000;
 
-// The kinds of call that test_reply_bytes does not take.
-const PICTURE: u8 = 16;
-
-const SETTLE: u8 = 17;
-
-fn picture_reply(p: Filled) -> Reply {
+fn picture_reply(p: Result<usize, Refusal>) -> Reply {
     match p {
-        Filled::Length(n) => test_reply_bytes::reply_of(5, 0, (n % 65536) as u32),
-        Filled::Refused(r) => test_reply_bytes::refused(r),
+        Ok(n) => Reply {
+            value: (n % 65536) as u32,
+            ..Reply::of(Tag::Picture)
+        },
+        Err(r) => test_reply_bytes::refused(r),
     }
 }
 
 // The answer and the store after.
-fn write_after(rt: &HostRuntime, r: Reply, s: Store) -> io::Result<()> {
+fn write_after(rt: &HostRuntime, r: Reply, s: &Store) -> io::Result<()> {
     let mut out = [0u8; 5332];
-    put_after(&mut out, r, s);
+    r.put(&mut out);
+    s.put(&mut out[12..]);
     rt.write_all(&out)
 }
 
-fn put_after(out: &mut [u8], r: Reply, s: Store)
-    requires { 5332 ≤ length out.old }
-{
-    test_reply_bytes::put_reply(out, r);
-    test_store_bytes::put_store(out, 12, s);
-}
-
 // A picture into the first bytes of the buffer.
-fn pictured(s: Store, buffer: &mut [u8], lent: usize) -> Filled {
-    if lent <= buffer.len() {
-        return store_picture::picture(s, &mut buffer[..lent]);
-    }
-    store_picture::picture(s, buffer)
-}
-
 fn answer_picture(rt: &HostRuntime, s: Store, lent: usize) -> io::Result<()> {
     let mut buffer = [UNWRITTEN; BUFFER_BYTES];
-    let p = pictured(s, &mut buffer, lent);
-    let r = picture_reply(p);
-    write_after(rt, r, s)?;
+    let p = store_picture::picture(s, &mut buffer[..lent.min(BUFFER_BYTES)]);
+    write_after(rt, picture_reply(p), &s)?;
     rt.write_all(&buffer)
 }
 
 fn answer_settle(rt: &HostRuntime, s: Store) -> io::Result<()> {
-    let bound = test_bounds::checked_bound(s);
     let o = store_settle::settle(s);
-    let a = o.answer;
     let d = o.completions;
-    let after = o.store;
-    let r = test_reply_bytes::settle_reply(a, d.len);
-    write_after(rt, r, after)?;
+    write_after(rt, test_reply_bytes::settle_reply(o.answer, d.len), &o.store)?;
     let mut out = [0u8; 74];
-    test_reply_bytes::put_settled(&mut out, d, bound);
+    test_reply_bytes::put_settled(&mut out, d, test_bounds::checked_bound(s));
     rt.write_all(&out)
 }
 
@@ -81,22 +62,16 @@ fn answer_settle(rt: &HostRuntime, s: Store) -> io::Result<()> {
 fn answer(rt: &HostRuntime, case: &[u8]) -> io::Result<()>
     requires { 5328 ≤ length case.now }
 {
-    let s = test_store_bytes::store_from(case);
-    let kind = case[5320];
-    let k = LaneNo(case[5321]);
-    let w = WordNo(case[5322]);
-    let v = test_store_bytes::word_from(case, 5323);
-    if kind == PICTURE {
-        return answer_picture(rt, s, v as usize);
+    let s = Store::from_bytes(case);
+    let v = u32::from_bytes(&case[5323..]);
+    match Kind::from(case[5320]) {
+        Kind::Picture => answer_picture(rt, s, v as usize),
+        Kind::Settle => answer_settle(rt, s),
+        kind => {
+            let o = test_reply_bytes::called(s, kind, LaneNo(case[5321]), WordNo(case[5322]), v);
+            write_after(rt, test_reply_bytes::call_reply(o.answer), &o.store)
+        }
     }
-    if kind == SETTLE {
-        return answer_settle(rt, s);
-    }
-    let o = test_reply_bytes::called(s, kind, k, w, v);
-    let a = o.answer;
-    let after = o.store;
-    let r = test_reply_bytes::call_reply(a);
-    write_after(rt, r, after)
 }
 
 // Reads a case and answers it; false where the input has ended.
@@ -110,9 +85,10 @@ fn next(rt: &HostRuntime) -> io::Result<bool> {
 }
 
 fn main(rt: HostRuntime) -> io::Result<()> {
-    let mut turns: u32 = 0;
-    while turns < MOST_CASES && next(&rt)? {
-        turns += 1;
+    for _ in 0..MOST_CASES {
+        if !next(&rt)? {
+            break;
+        }
     }
     Ok(())
 }

@@ -2,32 +2,68 @@
 // that the functions are safe and end.
 #![tactic(auto)]
 
-ghost use Rattle.std.specs.Prelude.{◌+◌, ◌≤◌, length};
+ghost use Rattle.std.specs.Prelude.{◌≤◌, length};
 
 use answers::{Answer, Completion, Refusal};
-use machine::Settled;
+use machine::SettleCounts;
 use store::{Outcome, Store};
 use store_settle::Completions;
-use test_store_bytes::{put, put_word};
+use test_store_bytes::AsBytes;
 use words::{LaneNo, WordNo};
 
-// The kinds of call; a kind that is none of these is deliver.
-const LOAD: u8 = 1;
+// What a case or a record asks for.
+#[derive(Clone, Copy)]
+pub enum Kind {
+    Open,
+    Load,
+    Store,
+    Exchange,
+    Add,
+    Serve,
+    Return,
+    Deliver,
+    OpenLimited,
+    Picture,
+    Settle,
+    Show,
+}
 
-const STORE: u8 = 2;
+// A number that is no kind's is deliver.
+impl From<u8> for Kind {
+    fn from(number: u8) -> Kind {
+        match number {
+            0 => Kind::Open,
+            1 => Kind::Load,
+            2 => Kind::Store,
+            3 => Kind::Exchange,
+            4 => Kind::Add,
+            5 => Kind::Serve,
+            6 => Kind::Return,
+            8 => Kind::OpenLimited,
+            16 => Kind::Picture,
+            17 => Kind::Settle,
+            18 => Kind::Show,
+            _ => Kind::Deliver,
+        }
+    }
+}
 
-const EXCHANGE: u8 = 3;
-
-const ADD: u8 = 4;
-
-const SERVE: u8 = 5;
-
-const RETURN: u8 = 6;
+// What an answer is; its number, from 0 on, is the answer's first byte.
+#[derive(Clone, Copy)]
+pub enum Tag {
+    Opened,
+    Done,
+    Wait,
+    Step,
+    Refused,
+    Picture,
+    Settled,
+}
 
 // An answer's bytes: its tag, a lane or a refusal's number, a value, how many completions there are, a settle's orders, and a completion's place.
 #[derive(Clone, Copy)]
 pub struct Reply {
-    pub tag: u8,
+    pub tag: Tag,
     pub small: u8,
     pub value: u32,
     pub listed: u8,
@@ -35,116 +71,97 @@ pub struct Reply {
     pub place: u32,
 }
 
-// A reply that lists no completion and has none.
-pub fn reply_of(tag: u8, small: u8, value: u32) -> Reply {
-    Reply {
-        tag: tag,
-        small: small,
-        value: value,
-        listed: 0,
-        orders: 0,
-        place: 0,
+impl Reply {
+    // A reply that has no more than its tag.
+    pub fn of(tag: Tag) -> Reply {
+        Reply {
+            tag,
+            small: 0,
+            value: 0,
+            listed: 0,
+            orders: 0,
+            place: 0,
+        }
     }
-}
 
-// A completion's reply.
-fn done_reply(x: Completion) -> Reply {
-    Reply {
-        tag: 1,
-        small: x.lane.0,
-        value: x.value,
-        listed: 0,
-        orders: 0,
-        place: x.place,
+    // The reply's 12 bytes.
+    pub fn put(&self, out: &mut [u8])
+        requires { 12 ≤ length out.old }
+    {
+        out[0] = self.tag as u8;
+        out[1] = self.small;
+        self.value.put(&mut out[2..]);
+        out[6] = self.listed;
+        out[7] = self.orders;
+        self.place.put(&mut out[8..]);
     }
 }
 
 pub fn refused(r: Refusal) -> Reply {
-    reply_of(4, r.number(), 0)
-}
-
-pub fn call_reply(a: Answer) -> Reply {
-    match a {
-        Answer::Opened => reply_of(0, 0, 0),
-        Answer::Done(x) => done_reply(x),
-        Answer::Wait => reply_of(2, 0, 0),
-        Answer::Step => reply_of(3, 0, 0),
-        Answer::Refused(r) => refused(r),
+    Reply {
+        small: r.number(),
+        ..Reply::of(Tag::Refused)
     }
 }
 
-pub fn settle_reply(a: Settled, listed: u8) -> Reply {
+pub fn call_reply(a: Result<Answer, Refusal>) -> Reply {
     match a {
-        Settled::Steps(x) => Reply {
-            tag: 6,
-            small: 0,
-            value: x.steps as u32,
-            listed: listed,
-            orders: x.orders,
-            place: 0,
+        Ok(Answer::Opened) => Reply::of(Tag::Opened),
+        Ok(Answer::Done(x)) => Reply {
+            small: x.lane.0,
+            value: x.value,
+            place: x.place,
+            ..Reply::of(Tag::Done)
         },
-        Settled::Refused(r) => Reply {
-            tag: 4,
-            small: r.number(),
-            value: 0,
-            listed: listed,
-            orders: 0,
-            place: 0,
+        Ok(Answer::Wait) => Reply::of(Tag::Wait),
+        Ok(Answer::Step) => Reply::of(Tag::Step),
+        Err(r) => refused(r),
+    }
+}
+
+pub fn settle_reply(a: Result<SettleCounts, Refusal>, listed: u8) -> Reply {
+    match a {
+        Ok(x) => Reply {
+            value: x.steps as u32,
+            listed,
+            orders: x.orders,
+            ..Reply::of(Tag::Settled)
+        },
+        Err(r) => Reply {
+            listed,
+            ..refused(r)
         },
     }
 }
 
 // What a call gives that is no picture and no settle.
-pub fn called(s: Store, kind: u8, k: LaneNo, w: WordNo, v: u32) -> Outcome {
+pub fn called(s: Store, kind: Kind, k: LaneNo, w: WordNo, v: u32) -> Outcome {
     match kind {
-        LOAD => store_operations::load(s, k, w),
-        STORE => store_operations::store_value(s, k, w, v),
-        EXCHANGE => store_operations::exchange(s, k, w, v),
-        ADD => store_operations::add(s, k, w, v),
-        SERVE => store_calls::serve(s, k),
-        RETURN => store_calls::return_head(s, k),
+        Kind::Load => store_operations::load(s, k, w),
+        Kind::Store => store_operations::store_value(s, k, w, v),
+        Kind::Exchange => store_operations::exchange(s, k, w, v),
+        Kind::Add => store_operations::add(s, k, w, v),
+        Kind::Serve => store_calls::serve(s, k),
+        Kind::Return => store_calls::return_head(s, k),
         _ => store_calls::deliver(s, k),
     }
 }
 
-// An answer's 12 bytes.
-pub fn put_reply(out: &mut [u8], r: Reply)
-    requires { 12 ≤ length out.old }
+fn put_completion(x: &Completion, out: &mut [u8])
+    requires { 9 ≤ length out.old }
 {
-    put(out, 0, r.tag);
-    put(out, 1, r.small);
-    put_word(out, 2, r.value);
-    put(out, 6, r.listed);
-    put(out, 7, r.orders);
-    put_word(out, 8, r.place);
+    out[0] = x.lane.0;
+    x.value.put(&mut out[1..]);
+    x.place.put(&mut out[5..]);
 }
 
-fn put_completion(out: &mut [u8], at: usize, x: Completion)
-    requires { at + 9 ≤ length out.old }
-{
-    put(out, at, x.lane.0);
-    put_word(out, at + 1, x.value);
-    put_word(out, at + 5, x.place);
-}
-
-// The completions that are listed, 9 bytes each; 72 bytes have room for all.
-fn put_completions(out: &mut [u8], at: usize, d: Completions)
-    requires { at + 72 ≤ length out.old }
-{
-    let listed = d.len as usize;
-    let mut i: usize = 0;
-    while i < 8 && i < listed {
-        let x = d.at[i];
-        put_completion(out, at + 9 * i, x);
-        i += 1;
-    }
-}
-
-// What stands behind a settle's reply: the completions, and the bound of the store before.
+// What stands behind a settle's reply: the completions that are listed, 9 bytes each in room for 8, and the bound of the store before.
 pub fn put_settled(out: &mut [u8], d: Completions, bound: u16)
     requires { 74 ≤ length out.old }
 {
-    put_completions(out, 0, d);
-    put(out, 72, (bound % 256) as u8);
-    put(out, 73, (bound / 256 % 256) as u8);
+    let listed = d.len.min(8) as usize;
+    for (x, part) in d.at[..listed].iter().zip(out.chunks_exact_mut(9)) {
+        put_completion(x, part);
+    }
+    out[72..74].copy_from_slice(&bound.to_le_bytes());
 }

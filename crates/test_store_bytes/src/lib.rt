@@ -2,8 +2,8 @@
 // are safe and end; tests/held-stores and tests/call-lists compare the bytes with the reference's.
 #![tactic(auto)]
 
-mod decode;
-mod encode;
+mod as_bytes;
+mod lane_bytes;
+mod store_bytes;
 
-pub use decode::{store_from, word_from};
-pub use encode::{put, put_store, put_word};
+pub use as_bytes::AsBytes;

@@ -11,4 +11,4 @@ pub returns : goal.returns
 unfolding close
 returns c =
     let k = c.args.v.lane in
-    rw (close, c.closed_block-u.ensures, c.grant-g.ensures, ap lanes_of c.lane_byte-t.ensures ∙ byte_lanes (only k) (only_length k))
+    rw (close, c.closed_block.ensures, c.grant.ensures, ap lanes_of c.lane_byte.ensures ∙ byte_lanes (only k) (only_length k))

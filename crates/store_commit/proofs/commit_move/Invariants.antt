@@ -4,7 +4,7 @@ use Rattle.store_commit.proofs.Posting.{Posted}
 use Rattle.store_commit.proofs.commit_move.Given as goal
 
 abbrev pub invariant-loop-left : goal.invariant-loop-left
-invariant-loop-left l = (n : ℕ) × Posted l.v.to l.m l.initial.t l.t l.left n
+invariant-loop-left l = (n : ℕ) × Posted l.part.to l.part.message l.initial.t l.t l.left n
 
 abbrev pub decreases-loop-left : goal.decreases-loop-left
 decreases-loop-left l = l.left

@@ -9,8 +9,8 @@ use Rattle.store_picture.proofs.picture.Goals as goal
 pub returns-then-corrupt : goal.returns-then-corrupt
 returns-then-corrupt c = rw (picture_corrupt _ _ (sym c.corrupt.ensures ∙ c.if-corrupt.true)) (refl, refl)
 
-pub valid_lines-lines-requires : goal.valid_lines-lines-requires
-valid_lines-lines-requires c = let s = sound c.args.s (sym c.corrupt.ensures ∙ c.if-corrupt.false) in (s.n_high, s.c_high)
+pub valid_lines-needed-requires : goal.valid_lines-needed-requires
+valid_lines-needed-requires c = let s = sound c.args.s (sym c.corrupt.ensures ∙ c.if-corrupt.false) in (s.n_high, s.c_high)
 
 pub overflow_mul-needed : goal.overflow_mul-needed
 overflow_mul-needed c = let s = sound c.args.s (sym c.corrupt.ensures ∙ c.if-corrupt.false) in

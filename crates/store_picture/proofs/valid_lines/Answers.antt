@@ -1,19 +1,31 @@
 -- `store_picture::valid_lines` meets its contract. Assumes nothing.
-use native.Mathlib.Omega.{arith}
-use mathlib.Core.Path.{sym}
-use lib.ListN.{get_or}
-use Rattle.words.specs.Lines.{no_line}
+use Rattle.std.proofs.Common.{rules, arith, ◌≡◌, ◌≤◌, length, sym, ap, ◌∙◌}
+use lib.ListN.{length-take}
 use Rattle.words.proofs.Folds.{count_most}
-use Rattle.store.specs.Stores.{lane_at}
-use Rattle.store_picture.proofs.Records.{sum_none, sum_more, valid_most}
+use Rattle.lanes.specs.declared.Lane.{Lane}
+use Rattle.store.specs.Stores.{no_lane}
+use Rattle.store_picture.specs.Records.{valid_in}
+use Rattle.store_picture.proofs.Records.{sum_none, sum_more, taken_at, valid_most}
 use Rattle.store_picture.proofs.valid_lines.Goals as goal
 
-pub loop-k-init : goal.loop-k-init
-loop-k-init c = (omega arith, sym (sum_none _))
+pub loop-lane-init : goal.loop-lane-init
+loop-lane-init c = sym (sum_none _)
 
 pub overflow_add-count : goal.overflow_add-count
-overflow_add-count c = let v = valid_most c.args.s c.loop-k.k c.requires.1 in
-    omega (arith, count_most (λ i. (get_or (lane_at c.args.s c.loop-k.k).lines i no_line).valid) c.args.s.shape.c)
+overflow_add-count c =
+    let v = valid_most c.args.s c.loop-lane.lane-index c.requires.1 in
+    let m : c.valid_in-count.result ≤ c.args.s.shape.c = rw c.valid_in-count.ensures (count_most _ _) in
+    let i = (taken_at c.from.result c.args.s.lanes c.loop-lane.lane-index no_lane c.loop-lane-test.true).0 in
+    omega arith
 
-pub loop-k-preserved : goal.loop-k-preserved
-loop-k-preserved c = (omega arith, rw (c.loop-k.invariant.1, c.valid_in-more.ensures, sum_more))
+pub loop-lane-preserved : goal.loop-lane-preserved
+loop-lane-preserved c =
+    let l = taken_at c.from.result c.args.s.lanes c.loop-lane.lane-index no_lane c.loop-lane-test.true in
+    let e = c.valid_in-count.ensures ∙ ap (λ (x : Lane). valid_in x c.args.s.shape.c) l.1 in
+    rw (c.loop-lane.invariant, e, sum_more)
+
+pub returns : goal.returns
+returns c =
+    let eight : length c.args.s.lanes ≡ 8 = search rules in
+    let all : c.loop-lane.lane-index ≡ c.args.s.shape.n = omega (arith, length-take c.from.result c.args.s.lanes) in
+    rw all at c.loop-lane.invariant

@@ -6,18 +6,15 @@ use Rattle.store_picture.proofs.Records.{gather_none, wrote_more, wrote_fits}
 use Rattle.store_picture.proofs.write_block.Goals as goal
 
 pub loop-k-init : goal.loop-k-init
-loop-k-init c = (omega arith, rw (gather_none (records_at c.args.s c.args.a.0)) (omega arith, written_none _ _))
+loop-k-init c = rw (gather_none (records_at c.args.s c.args.a.0)) (omega arith, written_none _ _)
 
-pub write_lane-next-requires : goal.write_lane-next-requires
-write_lane-next-requires c =
+pub write_lane-place-requires : goal.write_lane-place-requires
+write_lane-place-requires c =
     let g = c.args in (
       c.requires.1,
-      wrote_fits (records_at g.s g.a.0) c.loop-k.k g.s.shape.n g.buffer.now g.at c.loop-k.invariant.1 (omega arith) c.requires.2,
+      rw c.from.ensures (wrote_fits (records_at g.s g.a.0) c.loop-k.k g.s.shape.n g.buffer.now g.at c.loop-k.invariant (omega arith) c.requires.2),
     )
 
 pub loop-k-preserved : goal.loop-k-preserved
 loop-k-preserved c =
-    let g = c.args in (
-      omega arith,
-      wrote_more (records_at g.s g.a.0) _ g.s.shape.n _ _ c.loop-k.invariant.1 c.write_lane-next.ensures (omega arith) c.requires.2,
-    )
+    let g = c.args in wrote_more (records_at g.s g.a.0) _ g.s.shape.n _ _ c.loop-k.invariant (rw c.from.ensures at c.write_lane-place.ensures) (omega arith) c.requires.2

@@ -8,11 +8,11 @@ use Rattle.tape_text.proofs.done_into.Goals as goal
 
 pub spaced_into-place-requires : goal.spaced_into-place-requires
 spaced_into-place-requires c =
-    omega (arith, decimal_fits 10 c.args.x.lane.0)
+    omega (arith, decimal_fits 10 c.from.result)
 
 pub spaced_into-requires : goal.spaced_into-requires
 spaced_into-requires c =
-    omega (arith, decimal_fits 10 c.args.x.lane.0, decimal_fits 10 c.args.x.value)
+    omega (arith, decimal_fits 10 c.from.result, decimal_fits 10 c.args.x.value)
 
 pub returns : goal.returns
 unfolding answer_text
@@ -20,8 +20,9 @@ returns c =
     let k = decimal_fits 10 c.args.x.lane.0 in
     let v = decimal_fits 10 c.args.x.value in
     let p = decimal_fits 10 c.args.x.place in
-    wrote_then _ _ _ _ c.put4-lane.ensures
-    (wrote_then _ _ _ _ c.spaced_into-value.ensures
+    let first = rw c.from.ensures at c.spaced_into-value.ensures in
+    wrote_then _ _ _ _ c.put-lane.ensures
+    (wrote_then _ _ _ _ first
     (wrote_then _ _ _ _ c.spaced_into-place.ensures c.spaced_into.ensures (omega arith))
     (simp length-append (omega arith)))
     (simp length-append (omega arith))

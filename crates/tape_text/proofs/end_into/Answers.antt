@@ -14,6 +14,6 @@ pub returns : goal.returns
 unfolding end_text
 returns c =
     let n = decimal_fits 10 c.args.count in
-    wrote_then _ _ _ _ c.put3-number.ensures
+    wrote_then _ _ _ _ c.put-number.ensures
     (wrote_then _ _ _ _ c.spaced_into-stop.ensures c.put.ensures (omega arith))
     (simp length-append (omega arith))
