@@ -38,6 +38,7 @@ fn print_records(tape: &[u8], out: &mut [u8]) -> usize
     let mut rest = tape;
     let mut index: u32 = 0;
     let mut filled: usize = 0;
+    // a record's size is known once it is read, so no iterator gives the turns
     while !rest.is_empty() {
         let p = tape_records::parse(rest);
         let a = apply(&mut store, p.rec);
