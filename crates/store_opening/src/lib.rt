@@ -2,37 +2,30 @@
 // open is open to others and has no requires; the other functions are for the crates above.
 #![tactic(auto)]
 
-ghost use Rattle.std.specs.Prelude.{◌≡◌, ◌||◌, ltb};
-ghost use Rattle.store.specs.Opening.{bad_shape, bad_limit, blank_line, blank_lane, blank_block, fresh_of, blank_store, open_of};
-ghost use Rattle.store_opening.specs.Opened.{opened_of};
+ghost use Rattle.std.specs.Prelude.{◌≡◌};
+ghost use Rattle.store.specs.Opening.{bad_shape, bad_limit, blank_line, blank_lane, blank_block, fresh_of, blank_store, opened_of, open_of};
 
 use answers::{Answer, Refusal};
 use lanes::{Lane, Waiting};
-use queues::{DownKind, Message, Queue, ReturnKind};
+use queues::{DownKind, DownMessage, DownQueue, ReturnKind, ReturnMessage, ReturnQueue};
 use store::{Block, Control, Outcome, SLOTS, Store};
 use words::{BlockNo, Line, LineNo, Shape};
-
-// Whether a number is outside a range.
-fn outside(x: u8, low: u8, high: u8) -> bool
-    ensures { result ≡ (ltb x low || ltb high x) }
-{
-    x < low || high < x
-}
 
 // Whether n, c or m is outside its range.
 #[tactic(auto, unfolding(store::specs::Opening::bad_shape, words::specs::Folds::any_of))]
 pub fn bad_shape(shape: Shape) -> bool
     ensures { result ≡ bad_shape shape }
 {
-    outside(shape.n, 2, 8) || outside(shape.c, 1, 8) || outside(shape.m, 1, 64)
+    let Shape { n, c, m, .. } = shape;
+    !(2..=8).contains(&n) || !(1..=8).contains(&c) || !(1..=64).contains(&m)
 }
 
 // Whether L is outside its range.
-#[tactic(auto, unfolding(store::specs::Opening::bad_limit, words::specs::Folds::any_of))]
+#[tactic(auto, unfolding(words::specs::Folds::any_of))]
 pub fn bad_limit(shape: Shape) -> bool
     ensures { result ≡ bad_limit shape }
 {
-    outside(shape.limit, 1, 8)
+    !(1..=8).contains(&shape.limit)
 }
 
 fn blank_line() -> Line
@@ -62,13 +55,13 @@ fn blank_lane() -> Lane
             LineNo(6),
             LineNo(7),
         ],
-        returns: Queue {
+        returns: ReturnQueue {
             len: 0,
-            at: [Message::bare(ReturnKind::Eject, BlockNo(0)); 8],
+            at: [ReturnMessage::bare(ReturnKind::Eject, BlockNo(0)); 8],
         },
-        downs: Queue {
+        downs: DownQueue {
             len: 0,
-            at: [Message::bare(DownKind::Update, BlockNo(0)); 8],
+            at: [DownMessage::bare(DownKind::Update, BlockNo(0)); 8],
         },
         waiting: Waiting::Idle,
     }
@@ -113,7 +106,8 @@ pub fn blank() -> Store
     })
 }
 
-// The store of an opening, or why there is none: 5, then 18.
+// The store that an opening gives, or why there is none.
+#[tactic(auto, unfolding(store::specs::Opening::opened_of))]
 pub fn opened(shape: Shape) -> Result<Store, Refusal>
     ensures { result ≡ opened_of shape }
 {
@@ -127,7 +121,7 @@ pub fn opened(shape: Shape) -> Result<Store, Refusal>
 }
 
 // Opening.
-#[tactic(auto, unfolding(store::specs::Opening::open_of))]
+#[tactic(auto, using(store::proofs::Opens::open_opened))]
 pub fn open(shape: Shape) -> Outcome
     ensures { result ≡ open_of shape }
 {
@@ -136,8 +130,8 @@ pub fn open(shape: Shape) -> Outcome
             answer: Ok(Answer::Opened),
             store,
         },
-        Err(r) => Outcome {
-            answer: Err(r),
+        Err(why) => Outcome {
+            answer: Err(why),
             store: blank(),
         },
     }
