@@ -7,7 +7,7 @@ ghost use Rattle.std.specs.Prelude.{◌≤◌, length};
 use std::io;
 use std::io::Read;
 use store::{Outcome, Store};
-use test_reply_bytes::{Kind, Reply};
+use test_reply_bytes::{Kind, Reply, call_reply, called, put_settled, settle_reply};
 use test_store_bytes::AsBytes;
 use words::{LaneNo, Shape, WordNo};
 
@@ -25,7 +25,7 @@ fn write_reply(rt: &HostRuntime, r: Reply) -> io::Result<()> {
 
 // Writes the answer and hands on the store.
 fn told(rt: &HostRuntime, o: Outcome) -> io::Result<Store> {
-    write_reply(rt, test_reply_bytes::call_reply(o.answer))?;
+    write_reply(rt, call_reply(o.answer))?;
     Ok(o.store)
 }
 
@@ -33,9 +33,9 @@ fn told(rt: &HostRuntime, o: Outcome) -> io::Result<Store> {
 fn settled(rt: &HostRuntime, s: Store) -> io::Result<Store> {
     let o = store_settle::settle(s);
     let d = o.completions;
-    write_reply(rt, test_reply_bytes::settle_reply(o.answer, d.len))?;
+    write_reply(rt, settle_reply(o.answer, d.len))?;
     let mut out = [0u8; 74];
-    test_reply_bytes::put_settled(&mut out, d, test_bounds::checked_bound(s));
+    put_settled(&mut out, d, test_bounds::checked_bound(s));
     rt.write_all(&out)?;
     Ok(o.store)
 }
@@ -70,7 +70,7 @@ fn answer(rt: &HostRuntime, s: Store, bytes: &[u8]) -> io::Result<Store>
         Kind::OpenLimited => told(rt, opened(bytes, bytes[4])),
         Kind::Settle => settled(rt, s),
         Kind::Show => shown(rt, s),
-        kind => told(rt, test_reply_bytes::called(s, kind, LaneNo(bytes[1]), WordNo(bytes[2]), v)),
+        kind => told(rt, called(s, kind, LaneNo(bytes[1]), WordNo(bytes[2]), v)),
     }
 }
 

@@ -8,7 +8,7 @@ use answers::Refusal;
 use std::io;
 use std::io::Read;
 use store::Store;
-use test_reply_bytes::{Kind, Reply, Tag};
+use test_reply_bytes::{Kind, Reply, Tag, call_reply, called, put_settled, refused, settle_reply};
 use test_store_bytes::AsBytes;
 use words::{LaneNo, WordNo};
 
@@ -29,7 +29,7 @@ fn picture_reply(p: Result<usize, Refusal>) -> Reply {
             value: (n % 65536) as u32,
             ..Reply::of(Tag::Picture)
         },
-        Err(r) => test_reply_bytes::refused(r),
+        Err(r) => refused(r),
     }
 }
 
@@ -58,9 +58,9 @@ fn answer_picture(rt: &HostRuntime, s: Store, lent: usize) -> io::Result<()> {
 fn answer_settle(rt: &HostRuntime, s: Store) -> io::Result<()> {
     let o = store_settle::settle(s);
     let d = o.completions;
-    write_after(rt, test_reply_bytes::settle_reply(o.answer, d.len), &o.store)?;
+    write_after(rt, settle_reply(o.answer, d.len), &o.store)?;
     let mut out = [0u8; 74];
-    test_reply_bytes::put_settled(&mut out, d, test_bounds::checked_bound(s));
+    put_settled(&mut out, d, test_bounds::checked_bound(s));
     rt.write_all(&out)
 }
 
@@ -74,8 +74,8 @@ fn answer(rt: &HostRuntime, case: &[u8]) -> io::Result<()>
         Kind::Picture => answer_picture(rt, s, v as usize),
         Kind::Settle => answer_settle(rt, s),
         kind => {
-            let o = test_reply_bytes::called(s, kind, LaneNo(case[5321]), WordNo(case[5322]), v);
-            write_after(rt, test_reply_bytes::call_reply(o.answer), &o.store)
+            let o = called(s, kind, LaneNo(case[5321]), WordNo(case[5322]), v);
+            write_after(rt, call_reply(o.answer), &o.store)
         }
     }
 }
