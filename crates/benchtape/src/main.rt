@@ -7,36 +7,25 @@ ghost use Rattle.machine.specs.Machine.Text.{printed, text_most};
 ghost use Rattle.buffers.specs.Written.{written};
 ghost use Rattle.benchtape.specs.Reading.{bytes_of};
 
-use machine::Filled;
 use std::fmt::InlineText;
 use std::io;
 use std::io::Read;
 use tape_replay::TEXT_MOST;
 
-// What reading gives: how many bytes there are, or why a read failed.
-#[derive(Clone, Copy)]
-enum Reading {
-    Bytes(usize),
-    Failed(io::Error),
-}
-
-// Reads until the buffer is full, the input ends or a read fails.
-fn read_tape(rt: &HostRuntime, buf: &mut [u8]) -> Reading
+// Reads until the buffer is full or the input ends; how many bytes there are, or why a read failed.
+fn read_tape(rt: &HostRuntime, buf: &mut [u8]) -> io::Result<usize>
     ensures { bytes_of result ≤ length buf.new }
 {
     let mut input = rt.stdin();
     let mut done: usize = 0;
     while done < buf.len() {
-        let more = match input.read(&mut buf[done..]) {
-            Ok(n) => n,
-            Err(error) => return Reading::Failed(error),
-        };
+        let more = input.read(&mut buf[done..])?;
         if more == 0 {
-            return Reading::Bytes(done);
+            break;
         }
         done += more;
     }
-    Reading::Bytes(done)
+    Ok(done)
 }
 
 // Room for the longest text.
@@ -53,11 +42,7 @@ fn text_of(tape: &[u8], out: &mut [u8]) -> usize
         × (out.new ≡ written out.old 0 (printed tape.now))
         × (result ≤ length out.new) }
 {
-    let answer = tape_replay::print(tape, out);
-    match answer {
-        Filled::Length(n) => n,
-        Filled::Refused(_) => 0,
-    }
+    tape_replay::print(tape, out).unwrap_or(0)
 }
 
 // One read, the text, one write. A read or a write that fails is told on standard error, and nothing more is written.
@@ -65,13 +50,13 @@ fn bench(rt: &HostRuntime, tape: &mut [u8], out: &mut [u8])
     requires { text_most ≤ length out.old }
 {
     match read_tape(rt, tape) {
-        Reading::Bytes(n) => {
+        Ok(n) => {
             let size = text_of(&tape[..n], out);
             if let Err(error) = rt.write_all(&out[..size]) {
                 unwritten(rt, error);
             }
         }
-        Reading::Failed(error) => unread(rt, error),
+        Err(error) => unread(rt, error),
     }
 }
 

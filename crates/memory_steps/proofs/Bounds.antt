@@ -2,14 +2,16 @@
 use Prim.Native.Nat.{ℕ, ◌<◌, ◌≤◌}
 use native.Mathlib.Omega.{arith}
 use mathlib.Core.Bool.{false}
-use mathlib.Core.Path.{◌≡◌}
+use mathlib.Core.Path.{◌≡◌, sym, ap, ◌∙◌}
 use lib.Dec.{ltb}
-use lib.ListN.{get_or}
+use borrow.Author.Tests.{eqb-false}
 use Rattle.words.specs.declared.LaneNo.{LaneNo}
 use Rattle.words.specs.Units.{block_of}
 use Rattle.words.proofs.Folds.{skip}
-use Rattle.queues.specs.Queues.{no_return}
+use Rattle.queues.specs.Messages.{ReturnMessage}
+use Rattle.queues.specs.Queues.{ReturnQueue, no_return, empty_at, head_return, after_take, take_of}
 use Rattle.lanes.specs.declared.Lane.{Lane}
+use Rattle.lanes.specs.Lanes.{with_returns}
 use Rattle.lanes.specs.declared.Operation.{Operation}
 use Rattle.lanes.specs.declared.Waiting.{Waiting}
 use Rattle.lanes.specs.declared.Waiting.TheVariants.{Idle, Unserved, Served}
@@ -23,7 +25,7 @@ use Rattle.machine.specs.Machine.Corruption.{corrupt_of}
 use Rattle.machine.specs.Machine.Serve.{ready_with, ready_of}
 use Rattle.memory_return.specs.Bounds.{LaneBelow}
 use Rattle.machine.proofs.Bounds.Sound.{ControlSound, service_sound, sound}
-use Rattle.std.specs.Prelude.{Ok, Err}
+use Rattle.std.specs.Prelude.{Ok, Err, Option, Some, None}
 
 no_go : {r : Refusal} {o : Operation} → Err r ≡ Ok o → ⊥
 no_go e = let z : ◌≡◌ {A = ℕ} 0 1 = cc in omega arith
@@ -37,6 +39,17 @@ ready_waits l limit x (Unserved p) o e =
     let g = (skip (ltb 0 l.returns.len) f no_go).1 in
     cc
 
+-- what take gives is the head of a queue that is not empty, and the lane gets the queue without it
+no_head : {X : Type 0} {x : X} → None ≡ Some x → ⊥
+no_head e = let z : ◌≡◌ {A = ℕ} 0 1 = cc in omega arith
+
+pub taken : (l : Lane) {o : Option (ReturnMessage × ReturnQueue)} {x : ReturnMessage} {r : ReturnQueue} → o ≡ take_of no_return l.returns → o ≡ Some (x, r) →
+    (empty_at l.returns.len ≡ false) × ((head_return l.returns ≡ x) × (with_returns r l ≡ with_returns (after_take l.returns) l))
+taken l {o} {x} {r} t e =
+    let n = skip (empty_at l.returns.len) (sym t ∙ e) no_head in
+    let w : (head_return l.returns, after_take l.returns) ≡ (x, r) = cc in
+    (n.0, (ap (λ (p : ReturnMessage × ReturnQueue). p.0) w, ap (λ (p : ReturnMessage × ReturnQueue). with_returns p.1 l) (sym w)))
+
 below_eight : (n m limit : ℕ) (x : Control) → n ≤ 8 → ControlSound n m limit x → LaneBelow x 8
 below_eight n m limit x h g a v e = let l = (service_sound n m limit x a v g (found x a v e)).lane in omega arith
 
@@ -49,12 +62,14 @@ module _ (s : Store) (k : LaneNo) (e : corrupt_of s ≡ false) (h : k.0 < s.shap
       let q = g.m_high in
       omega arith
 
-  pub head_bound : ((lane_at s k.0).returns.len ≡ 0 → ⊥) → (get_or (lane_at s k.0).returns.at 0 no_return).block.0 < 64
-  head_bound n =
+  pub head_bound : {o : Option (ReturnMessage × ReturnQueue)} {x : ReturnMessage} {r : ReturnQueue} →
+      o ≡ take_of no_return (lane_at s k.0).returns → o ≡ Some (x, r) → x.block.0 < 64
+  head_bound t p =
       let g = sound s e in
-      let p = (g.lane k.0 h).returns.inside 0 (omega (arith, n)) in
+      let n = taken (lane_at s k.0) t p in
+      let i = (g.lane k.0 h).returns.inside 0 (omega (arith, eqb-false (lane_at s k.0).returns.len 0 n.0)) in
       let q = g.m_high in
-      omega arith
+      omega (arith, ap (λ (y : ReturnMessage). y.block.0) n.1.0)
 
   pub service_bound : LaneBelow s.control 8
   service_bound = below_eight s.shape.n s.shape.m s.shape.limit s.control (sound s e).n_high (sound s e).control

@@ -1,5 +1,5 @@
 -- 01, "Parts of a store": opening gives words and block numbers 0, flags reset, queues empty, no waiting operation and no service. Assumes nothing.
-use Rattle.std.specs.Prelude.{ℕ, Bool, false, cond, [], ◌∷◌, ltb, replicate, Ok, Err}
+use Rattle.std.specs.Prelude.{ℕ, Bool, false, cond, [], ◌∷◌, ltb, replicate, Result, Ok, Err}
 use Rattle.words.specs.declared.Line.{Line}
 use Rattle.words.specs.declared.LineNo.{LineNo}
 use Rattle.words.specs.declared.Shape.{Shape}
@@ -11,6 +11,7 @@ use Rattle.queues.specs.Queues.{capacity}
 use Rattle.lanes.specs.declared.Lane.{Lane}
 use Rattle.lanes.specs.declared.Waiting.TheVariants.{Idle}
 use Rattle.answers.specs.declared.Answer.TheVariants.{Opened}
+use Rattle.answers.specs.declared.Refusal.{Refusal}
 use Rattle.answers.specs.declared.Refusal.TheVariants.{InvalidShape, InvalidLimit}
 use Rattle.store.specs.declared.Store.{Store}
 use Rattle.store.specs.declared.Block.{Block}
@@ -67,3 +68,12 @@ open_of shape =
     cond (bad_shape shape) (record { answer = Err InvalidShape; store = blank_store })
     (cond (bad_limit shape) (record { answer = Err InvalidLimit; store = blank_store })
     (record { answer = Ok Opened; store = fresh_of shape }))
+
+-- what an opening gives: 5 where n, c or m is outside its range, then 18 where L is, else the fresh store
+unfoldable pub opened_of : Shape → Result Store Refusal
+opened_of shape = cond (bad_shape shape) (Err InvalidShape) (cond (bad_limit shape) (Err InvalidLimit) (Ok (fresh_of shape)))
+
+-- .. as an outcome: where there is no store it has the blank one
+abbrev pub outcome_of : Result Store Refusal → Outcome
+outcome_of (Ok s) = record { answer = Ok Opened; store = s }
+outcome_of (Err r) = record { answer = Err r; store = blank_store }

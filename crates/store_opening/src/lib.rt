@@ -3,48 +3,29 @@
 #![tactic(auto)]
 
 ghost use Rattle.std.specs.Prelude.{◌≡◌};
-ghost use Rattle.store.specs.Opening.{bad_shape, bad_limit, blank_line, blank_lane, blank_block, fresh_of, blank_store, open_of};
+ghost use Rattle.store.specs.Opening.{bad_shape, bad_limit, blank_line, blank_lane, blank_block, fresh_of, blank_store, opened_of, open_of};
 
 use answers::{Answer, Refusal};
 use lanes::{Lane, Waiting};
 use queues::{DownKind, DownMessage, DownQueue, ReturnKind, ReturnMessage, ReturnQueue};
-use store::{Block, Control, Outcome, Store};
+use store::{Block, Control, Outcome, SLOTS, Store};
 use words::{BlockNo, Line, LineNo, Shape};
 
 // Whether n, c or m is outside its range.
+#[tactic(auto, unfolding(store::specs::Opening::bad_shape, words::specs::Folds::any_of))]
 pub fn bad_shape(shape: Shape) -> bool
     ensures { result ≡ bad_shape shape }
 {
-    let n = shape.n;
-    let c = shape.c;
-    let m = shape.m;
-    if n < 2 {
-        return true;
-    }
-    if 8 < n {
-        return true;
-    }
-    if c < 1 {
-        return true;
-    }
-    if 8 < c {
-        return true;
-    }
-    if m < 1 {
-        return true;
-    }
-    64 < m
+    let Shape { n, c, m, .. } = shape;
+    !(2..=8).contains(&n) || !(1..=8).contains(&c) || !(1..=64).contains(&m)
 }
 
 // Whether L is outside its range.
+#[tactic(auto, unfolding(words::specs::Folds::any_of))]
 pub fn bad_limit(shape: Shape) -> bool
     ensures { result ≡ bad_limit shape }
 {
-    let limit = shape.limit;
-    if limit < 1 {
-        return true;
-    }
-    8 < limit
+    !(1..=8).contains(&shape.limit)
 }
 
 fn blank_line() -> Line
@@ -58,22 +39,12 @@ fn blank_line() -> Line
     }
 }
 
+#[tactic(auto, unfolding(store::specs::Opening::blank_lane))]
 fn blank_lane() -> Lane
     ensures { result ≡ blank_lane }
 {
-    let line = blank_line();
-    let up = ReturnMessage {
-        kind: ReturnKind::Eject,
-        block: BlockNo(0),
-        words: [0; 4],
-    };
-    let down = DownMessage {
-        kind: DownKind::Update,
-        block: BlockNo(0),
-        words: [0; 4],
-    };
     Lane {
-        lines: [line; 8],
+        lines: [blank_line(); 8],
         order: [
             LineNo(0),
             LineNo(1),
@@ -86,16 +57,17 @@ fn blank_lane() -> Lane
         ],
         returns: ReturnQueue {
             len: 0,
-            at: [up; 8],
+            at: [ReturnMessage::bare(ReturnKind::Eject, BlockNo(0)); 8],
         },
         downs: DownQueue {
             len: 0,
-            at: [down; 8],
+            at: [DownMessage::bare(DownKind::Update, BlockNo(0)); 8],
         },
         waiting: Waiting::Idle,
     }
 }
 
+#[tactic(auto, unfolding(store::specs::Opening::blank_block))]
 fn blank_block() -> Block
     ensures { result ≡ blank_block }
 {
@@ -107,18 +79,18 @@ fn blank_block() -> Block
 }
 
 // The store of an opening, whatever its shape.
+#[tactic(auto, unfolding(store::specs::Opening::fresh_of))]
 pub fn fresh(shape: Shape) -> Store
     ensures { result ≡ fresh_of shape }
 {
-    let lane = blank_lane();
-    let block = blank_block();
-    let slot = store::free_slot();
     Store {
-        shape: shape,
-        control: Control { slots: [slot; 8] },
+        shape,
+        control: Control {
+            slots: [None; SLOTS],
+        },
         completions: 0,
-        lanes: [lane; 8],
-        blocks: [block; 64],
+        lanes: [blank_lane(); 8],
+        blocks: [blank_block(); 64],
     }
 }
 
@@ -126,36 +98,41 @@ pub fn fresh(shape: Shape) -> Store
 pub fn blank() -> Store
     ensures { result ≡ blank_store }
 {
-    let shape = Shape {
+    fresh(Shape {
         n: 0,
         c: 0,
         m: 0,
         limit: 0,
-    };
-    fresh(shape)
+    })
+}
+
+// The store that an opening gives, or why there is none.
+#[tactic(auto, unfolding(store::specs::Opening::opened_of))]
+pub fn opened(shape: Shape) -> Result<Store, Refusal>
+    ensures { result ≡ opened_of shape }
+{
+    if bad_shape(shape) {
+        return Err(Refusal::InvalidShape);
+    }
+    if bad_limit(shape) {
+        return Err(Refusal::InvalidLimit);
+    }
+    Ok(fresh(shape))
 }
 
 // Opening.
+#[tactic(auto, using(store::proofs::Opens::open_opened))]
 pub fn open(shape: Shape) -> Outcome
     ensures { result ≡ open_of shape }
 {
-    if bad_shape(shape) {
-        let s = blank();
-        return Outcome {
-            answer: Answer::Refused(Refusal::InvalidShape),
-            store: s,
-        };
-    }
-    if bad_limit(shape) {
-        let s = blank();
-        return Outcome {
-            answer: Answer::Refused(Refusal::InvalidLimit),
-            store: s,
-        };
-    }
-    let s = fresh(shape);
-    Outcome {
-        answer: Answer::Opened,
-        store: s,
+    match opened(shape) {
+        Ok(store) => Outcome {
+            answer: Ok(Answer::Opened),
+            store,
+        },
+        Err(why) => Outcome {
+            answer: Err(why),
+            store: blank(),
+        },
     }
 }

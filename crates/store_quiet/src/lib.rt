@@ -9,39 +9,17 @@ use lanes::Lane;
 use store::Store;
 
 // Whether the lane's operation waits or one of its queues is filled.
-fn active(l: Lane) -> bool
-    ensures { result ≡ active_of l }
+#[tactic(auto, unfolding(store::specs::Quiet::active_of))]
+fn active(l: &Lane) -> bool
+    ensures { result ≡ active_of l.now }
 {
-    let w = l.waiting;
-    if w.idle() {
-        if 0 < l.returns.len {
-            return true;
-        }
-        return 0 < l.downs.len;
-    }
-    true
+    !l.waiting.idle() || 0 < l.returns.len || 0 < l.downs.len
 }
 
 // Whether the store is quiet: no operation waits, no service, queues empty. For settle, on a store that is not corrupt.
-pub fn quiet(s: Store) -> bool
-    ensures { result ≡ quiet_of s }
+#[tactic(auto, unfolding(store::specs::Quiet::quiet_of))]
+pub fn quiet(s: &Store) -> bool
+    ensures { result ≡ quiet_of s.now }
 {
-    let x = s.control;
-    if x.busy() {
-        return false;
-    }
-    let n = s.shape.n;
-    let mut k: u8 = 0;
-    while k < n {
-        if 8 <= k {
-            return true;
-        }
-        let i = k as usize;
-        let l = s.lanes[i];
-        if active(l) {
-            return false;
-        }
-        k += 1;
-    }
-    true
+    !s.control.busy() && !s.lanes.iter().take(s.shape.n as usize).any(active)
 }

@@ -9,7 +9,6 @@ ghost use Rattle.buffers.specs.Written.{written};
 ghost use Rattle.tape_steps.specs.Steady.{Steady};
 
 use answers::{Answer, Refusal};
-use machine::Filled;
 use store::Store;
 use tape_records::Record;
 
@@ -20,13 +19,11 @@ const TAPE_MOST: usize = 65536;
 pub const TEXT_MOST: usize = 1638400;
 
 // The thin function: a record is done on the store that is lent to it.
-fn apply(store: &mut Store, rec: Result<Record, Refusal>) -> Answer
+fn apply(store: &mut Store, rec: Result<Record, Refusal>) -> Result<Answer, Refusal>
     requires { Steady store.old }
     ensures { (result ≡ (record_of store.old rec).answer) × (store.new ≡ (record_of store.old rec).store) }
 {
-    let r = tape_steps::record_sound(*store, rec);
-    *store = r.store;
-    r.answer
+    tape_steps::record_sound(store, rec)
 }
 
 // The text of a tape that is not too long. Its one store is lent to `apply` for each record.
@@ -35,30 +32,29 @@ fn print_records(tape: &[u8], out: &mut [u8]) -> usize
     ensures { (result ≡ length (printed tape.now)) × (out.new ≡ written out.old 0 (printed tape.now)) }
 {
     let mut store = store_opening::blank();
-    let mut at: usize = 0;
+    let mut rest = tape;
     let mut index: u32 = 0;
     let mut filled: usize = 0;
-    while at < tape.len() {
-        let p = tape_records::parse(&tape[at..]);
+    // A while, since a record's size is known only once it is read: no iterator gives the turns.
+    while !rest.is_empty() {
+        let p = tape_records::parse(rest);
         let a = apply(&mut store, p.rec);
         filled = tape_text::line_into(out, filled, index, a);
         index += 1;
-        at += p.size;
+        rest = &rest[p.size..];
     }
     tape_text::end_into(out, filled, index)
 }
 
 // All that `benchtape` prints of a tape, into a lent buffer.
-pub fn print(tape: &[u8], out: &mut [u8]) -> Filled
+pub fn print(tape: &[u8], out: &mut [u8]) -> Result<usize, Refusal>
     ensures { (result ≡ (print_of tape.now out.old).answer) × (out.new ≡ (print_of tape.now out.old).buffer) }
 {
     if out.len() < TEXT_MOST {
-        return Filled::Refused(Refusal::BufferTooShort);
+        return Err(Refusal::BufferTooShort);
     }
     if TAPE_MOST < tape.len() {
-        let n = tape_text::too_long_into(out, 0);
-        return Filled::Length(n);
+        return Ok(tape_text::too_long_into(out, 0));
     }
-    let n = print_records(tape, out);
-    Filled::Length(n)
+    Ok(print_records(tape, out))
 }

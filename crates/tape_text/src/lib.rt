@@ -40,6 +40,7 @@ fn done_into(out: &mut [u8], at: usize, x: Completion) -> usize
 }
 
 // What a record answers.
+#[tactic(auto, unfolding(machine::specs::Machine::Text::answer_text))]
 fn answer_into(out: &mut [u8], at: usize, a: Result<Answer, Refusal>) -> usize
     requires { at + 37 ≤ length out.old }
     ensures { (result ≡ at + length (answer_text a)) × (out.new ≡ written out.old at (answer_text a)) }

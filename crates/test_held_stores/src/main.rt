@@ -36,9 +36,15 @@ fn picture_reply(p: Result<usize, Refusal>) -> Reply {
 // The answer and the store after.
 fn write_after(rt: &HostRuntime, r: Reply, s: &Store) -> io::Result<()> {
     let mut out = [0u8; 5332];
-    r.put(&mut out);
-    s.put(&mut out[12..]);
+    put_after(&mut out, r, s);
     rt.write_all(&out)
+}
+
+fn put_after(out: &mut [u8], r: Reply, s: &Store)
+    requires { 5332 ≤ length out.old }
+{
+    r.put(out);
+    s.put(&mut out[12..]);
 }
 
 // A picture into the first bytes of the buffer.

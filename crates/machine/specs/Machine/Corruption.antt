@@ -8,9 +8,9 @@ use Rattle.words.specs.declared.Shape.{Shape}
 use Rattle.words.specs.Units.{block_of}
 use Rattle.words.specs.Lines.{no_line}
 use Rattle.words.specs.Folds.{any_to, any_of}
-use Rattle.queues.specs.Queues.{ReturnQueue}
-use Rattle.queues.specs.Queues.{DownQueue}
-use Rattle.queues.specs.Queues.{capacity, no_return, no_down}
+use Rattle.queues.specs.declared.Message.{Message}
+use Rattle.queues.specs.declared.Queue.{Queue}
+use Rattle.queues.specs.Queues.{ReturnQueue, DownQueue, capacity, no_return, no_down}
 use Rattle.lanes.specs.declared.Lane.{Lane}
 use Rattle.lanes.specs.declared.Waiting.{Waiting}
 use Rattle.lanes.specs.declared.Waiting.TheVariants.{Idle, Unserved, Served}
@@ -40,12 +40,16 @@ bad_lines c m ls = any_to (λ i. bad_line m (get_or ls i no_line)) c
 abbrev pub bad_place : ℕ → ℕ → ℕ → BlockNo → Bool
 bad_place m len i a = ltb i len && bad_block m a
 
--- a queue length above its places, or a block number out of range in a queued message
+-- a queue length above its places, or a block number out of range in a queued message; the first argument is what a read past the places gives
+abbrev pub bad_queue : {K : Type 0} → Message K → ℕ → ℕ → Queue K → Bool
+bad_queue nothing places m q = ltb places q.len || any_to (λ i. bad_place m q.len i (get_or q.at i nothing).block) places
+
+-- .. of either direction
 abbrev pub bad_returns : ℕ → ℕ → ReturnQueue → Bool
-bad_returns places m q = ltb places q.len || any_to (λ i. bad_place m q.len i (get_or q.at i no_return).block) places
+bad_returns places m q = bad_queue no_return places m q
 
 abbrev pub bad_downs : ℕ → ℕ → DownQueue → Bool
-bad_downs places m q = ltb places q.len || any_to (λ i. bad_place m q.len i (get_or q.at i no_down).block) places
+bad_downs places m q = bad_queue no_down places m q
 
 -- a word number out of range in a waiting operation
 abbrev pub bad_waiting : ℕ → Waiting → Bool

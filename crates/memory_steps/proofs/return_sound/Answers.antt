@@ -1,42 +1,70 @@
 -- `memory_steps::return_sound` meets its contract. Assumes nothing.
-use borrow.Author.Tests.{le-leb, lt-leb, eq-eqb, ne_eqb}
-use Rattle.store_commit.proofs.Bounds.{lane_bound}
-use Rattle.memory_steps.proofs.Bounds.{head_bound, service_bound}
+use Rattle.std.proofs.Common.{rules}
+use Rattle.queues.specs.Queues.{no_return}
+use Rattle.store.specs.Stores.{lane_at}
+use Rattle.machine.specs.Machine.Change.{commit_move}
 use Rattle.machine.specs.Machine.Return.{return_of}
+use Rattle.store_commit.proofs.Bounds.{lane_bound}
+use Rattle.memory_steps.proofs.Bounds.{taken, head_bound, service_bound}
 use Rattle.memory_steps.proofs.return_sound.Goals as goal
 
-pub returns-then-n-k : goal.returns-then-n-k
+pub returns-then-store-k-clause-answer : goal.returns-then-store-k-clause-answer
 unfolding return_of
-returns-then-n-k c = rw (return_of, c.requires, le-leb _ _ c.if-n-k.true, c.refused.ensures)
+returns-then-store-k-clause-answer c = search rules
 
-pub bounds-s-i : goal.bounds-s-i
-bounds-s-i c = lane_bound _ _ c.requires c.if-n-k.false
-
-pub returns-then-q-eq0 : goal.returns-then-q-eq0
+pub returns-then-store-k-clause-store : goal.returns-then-store-k-clause-store
 unfolding return_of
-returns-then-q-eq0 c =
-    rw (return_of, c.requires, lt-leb _ _ c.if-n-k.false, eq-eqb _ _ c.if-q-eq0.true, c.refused-then-q-eq0.ensures)
+returns-then-store-k-clause-store c = search rules
 
-pub bounds-s-j : goal.bounds-s-j
-bounds-s-j c =
-    head_bound _ _ c.requires c.if-n-k.false c.if-q-eq0.false
+pub bounds-store-k : goal.bounds-store-k
+bounds-store-k c = lane_bound _ _ c.requires c.if-store-k.false
 
-pub return_move-v-requires : goal.return_move-v-requires
-return_move-v-requires c =
-    (lane_bound _ _ c.requires c.if-n-k.false, service_bound _ _ c.requires c.if-n-k.false)
+pub returns-in_err-x-clause-answer : goal.returns-in_err-x-clause-answer
+unfolding return_of
+returns-in_err-x-clause-answer c = let t = c.take.ensures no_return in search rules
+
+pub returns-in_err-x-clause-store : goal.returns-in_err-x-clause-store
+unfolding return_of
+returns-in_err-x-clause-store c = let t = c.take.ensures no_return in search rules
+
+pub bounds-store-x : goal.bounds-store-x
+bounds-store-x c = head_bound _ _ c.requires c.if-store-k.false (c.take.ensures no_return) c.in_ok-x.ensures.ok_part
+
+pub return_move-requires : goal.return_move-requires
+return_move-requires c = (lane_bound _ _ c.requires c.if-store-k.false, service_bound _ _ c.requires c.if-store-k.false)
+
+pub returns-in_err-part-clause-answer : goal.returns-in_err-part-clause-answer
+unfolding return_of commit_move
+returns-in_err-part-clause-answer c =
+    let l = lane_at c.args.store.now c.args.k.0 in
+    let n = taken l (c.take.ensures no_return) c.in_ok-x.ensures.ok_part in
+    let m = c.in_err-part.ensures l n.1.1 in
+    search rules
+
+pub returns-in_err-part-clause-store : goal.returns-in_err-part-clause-store
+unfolding return_of commit_move
+returns-in_err-part-clause-store c =
+    let l = lane_at c.args.store.now c.args.k.0 in
+    let n = taken l (c.take.ensures no_return) c.in_ok-x.ensures.ok_part in
+    let m = c.in_err-part.ensures l n.1.1 in
+    search rules
 
 pub commit_move-requires : goal.commit_move-requires
 commit_move-requires c =
-    (lane_bound _ _ c.requires c.if-n-k.false, head_bound _ _ c.requires c.if-n-k.false c.if-q-eq0.false)
+    (lane_bound _ _ c.requires c.if-store-k.false, head_bound _ _ c.requires c.if-store-k.false (c.take.ensures no_return) c.in_ok-x.ensures.ok_part)
 
-pub returns : goal.returns
+pub returns-clause-answer : goal.returns-clause-answer
 unfolding return_of
-returns c =
-    rw (
-      return_of,
-      c.requires,
-      lt-leb _ _ c.if-n-k.false,
-      ne_eqb _ _ c.if-q-eq0.false,
-      ← c.return_move-v.ensures,
-      c.commit_move.ensures,
-    )
+returns-clause-answer c =
+    let l = lane_at c.args.store.now c.args.k.0 in
+    let n = taken l (c.take.ensures no_return) c.in_ok-x.ensures.ok_part in
+    let m = c.in_ok-part.ensures l n.1.1 in
+    search rules
+
+pub returns-clause-store : goal.returns-clause-store
+unfolding return_of
+returns-clause-store c =
+    let l = lane_at c.args.store.now c.args.k.0 in
+    let n = taken l (c.take.ensures no_return) c.in_ok-x.ensures.ok_part in
+    let m = c.in_ok-part.ensures l n.1.1 in
+    search rules

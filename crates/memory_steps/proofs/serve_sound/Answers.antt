@@ -1,51 +1,42 @@
 -- `memory_steps::serve_sound` meets its contract. Assumes nothing.
-use borrow.Author.Tests.{le-leb, lt-leb}
-use native.Mathlib.Omega.{arith}
-use mathlib.Core.Path.{sym, ap, ◌∙◌}
+use Rattle.std.proofs.Common.{rules, ◌∙◌, sym, ap, arith}
 use Rattle.store_commit.proofs.Bounds.{lane_bound}
 use Rattle.memory_steps.proofs.Bounds.{ready_bound}
 use Rattle.words.specs.declared.BlockNo.{BlockNo}
 use Rattle.machine.specs.Machine.Serve.{serve_of}
 use Rattle.memory_steps.proofs.serve_sound.Goals as goal
 
-pub returns-then-n-k : goal.returns-then-n-k
+pub returns-then-store-k-clause-answer : goal.returns-then-store-k-clause-answer
 unfolding serve_of
-returns-then-n-k c = rw (serve_of, c.requires, le-leb _ _ c.if-n-k.true, c.refused.ensures)
+returns-then-store-k-clause-answer c = search rules
 
-pub bounds-s-i : goal.bounds-s-i
-bounds-s-i c = lane_bound _ _ c.requires c.if-n-k.false
+pub returns-then-store-k-clause-store : goal.returns-then-store-k-clause-store
+unfolding serve_of
+returns-then-store-k-clause-store c = search rules
 
-pub serve_move-v-requires : goal.serve_move-v-requires
-serve_move-v-requires c =
-    lane_bound _ _ c.requires c.if-n-k.false
+pub bounds-store-k : goal.bounds-store-k
+bounds-store-k c = lane_bound _ _ c.requires c.if-store-k.false
+
+pub returns-in_err-o-clause-answer : goal.returns-in_err-o-clause-answer
+unfolding serve_of
+returns-in_err-o-clause-answer c = search rules
+
+pub returns-in_err-o-clause-store : goal.returns-in_err-o-clause-store
+unfolding serve_of
+returns-in_err-o-clause-store c = search rules
+
+pub serve_move-part-requires : goal.serve_move-part-requires
+serve_move-part-requires c = lane_bound _ _ c.requires c.if-store-k.false
 
 pub commit_move-requires : goal.commit_move-requires
 commit_move-requires c =
-    let ready = ready_bound _ _ c.requires c.if-n-k.false _ (sym c.check_ready.ensures ∙ c.in-Go.is) in
-    (lane_bound _ _ c.requires c.if-n-k.false, omega (arith, ready, ap (λ (x : BlockNo). x.0) c.block-a.ensures))
+    let ready = ready_bound _ _ c.requires c.if-store-k.false _ (sym c.check_ready.ensures ∙ c.in_ok-o.was) in
+    (lane_bound _ _ c.requires c.if-store-k.false, omega (arith, ready, ap (λ (x : BlockNo). x.0) c.block-a.ensures))
 
-pub returns-in-No : goal.returns-in-No
+pub returns-clause-answer : goal.returns-clause-answer
 unfolding serve_of
-returns-in-No c =
-    rw (
-      serve_of,
-      c.requires,
-      lt-leb _ _ c.if-n-k.false,
-      ← c.check_ready.ensures,
-      c.in-No.is,
-      c.refused-in-No.ensures,
-    )
+returns-clause-answer c = search rules
 
-pub returns-in-Go : goal.returns-in-Go
+pub returns-clause-store : goal.returns-clause-store
 unfolding serve_of
-returns-in-Go c =
-    rw (
-      serve_of,
-      c.requires,
-      lt-leb _ _ c.if-n-k.false,
-      ← c.check_ready.ensures,
-      c.in-Go.is,
-      c.commit_move.ensures,
-      c.serve_move-v.ensures,
-      c.block-a.ensures,
-    )
+returns-clause-store c = search rules
