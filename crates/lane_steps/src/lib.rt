@@ -38,6 +38,7 @@ fn answer_to(k: LaneNo, done: u32, a: LaneAnswer) -> Answer
 }
 
 // Lane k's part of a call is put back, and counted.
+#[tactic(auto, unfolding(machine::specs::Machine::Change::commit_lane))]
 fn commit_lane(store: &mut Store, k: LaneNo, part: LanePart) -> Answer
     requires lane { k.0 < 8 }
     requires place { counted (Ok part.answer) store.old.completions ≤ last_place }
@@ -51,6 +52,7 @@ fn commit_lane(store: &mut Store, k: LaneNo, part: LanePart) -> Answer
 }
 
 // Begin on a store that is not corrupt.
+#[tactic(auto, unfolding(machine::specs::Machine::Begin::begin_of))]
 pub fn begin_sound(store: &mut Store, k: LaneNo, op: Op, w: WordNo) -> Result<Answer, Refusal>
     requires { corrupt_of store.old ≡ false }
     ensures answer { result ≡ (begin_of store.old k op w).answer }
@@ -75,6 +77,7 @@ pub fn begin_sound(store: &mut Store, k: LaneNo, op: Op, w: WordNo) -> Result<An
 }
 
 // Deliver on a store that is not corrupt. A refused message stays in its queue.
+#[tactic(auto, unfolding(machine::specs::Machine::Deliver::deliver_of))]
 pub fn deliver_sound(store: &mut Store, k: LaneNo) -> Result<Answer, Refusal>
     requires { corrupt_of store.old ≡ false }
     ensures answer { result ≡ (deliver_of LoadsOldest store.old k).answer }

@@ -1,115 +1,47 @@
 -- `lane_steps::begin_sound` meets its contract: 6, 7, 8, 17, then the lane's part, refused or put back. Assumes nothing.
-use Prim.Native.Nat.{◌*◌}
-use mathlib.Core.Path.{sym, ◌∙◌}
-use borrow.Author.Tests.{le-leb, lt-leb}
-use native.Mathlib.Omega.{arith}
-use Rattle.store_commit.proofs.Bounds.{lane_bound, lines_bound, oldest_bound, begin_counted, lanes_bound}
-use Rattle.machine.specs.Machine.Change.{commit_lane}
-use Rattle.machine.specs.Machine.Begin.{begin_of}
-use Rattle.machine.proofs.Rules.Rules.{answer_goes}
+use Rattle.std.proofs.Common.{rules, arith, ◌≡◌, ◌*◌, true, false, Err, ap, sym, ◌∙◌}
+use borrow.Author.Tests.{lt-leb}
+use Rattle.store_commit.proofs.Bounds.{lane_bound, lines_bound, oldest_bound, begin_counted}
+use Rattle.words.specs.declared.BlockNo.{BlockNo}
+use Rattle.store.specs.Stores.{lane_at}
+use Rattle.machine.specs.Machine.Begun.{exhausted_of}
+use Rattle.machine.specs.Machine.Begin.{begin_of, admits_of}
+use Rattle.lane_steps.proofs.Parts.{refused_part, taken_part}
 use Rattle.lane_steps.proofs.begin_sound.Goals as goal
 
-pub returns-then-n-k : goal.returns-then-n-k
-unfolding begin_of
-returns-then-n-k c = rw (begin_of, c.requires, le-leb _ _ c.if-n-k.true, c.refused.ensures)
-
-pub returns-then-m-w : goal.returns-then-m-w
-unfolding begin_of
-returns-then-m-w c =
-    rw (begin_of, c.requires, lt-leb _ _ c.if-n-k.false, le-leb (4 * c.args.s.shape.m) c.args.w.0 (omega arith), c.refused-then-m-w.ensures)
-
-pub bounds-t-i : goal.bounds-t-i
-bounds-t-i c =
-    lane_bound _ _ c.requires c.if-n-k.false
+pub bounds-store-k : goal.bounds-store-k
+bounds-store-k c = lane_bound _ _ c.requires c.if-shape-k.false
 
 pub admits-requires : goal.admits-requires
-admits-requires c =
-    lines_bound _ _ c.requires c.if-n-k.false
+admits-requires c = lines_bound _ _ c.requires c.if-shape-k.false
 
-pub exhausted-requires : goal.exhausted-requires
-exhausted-requires c =
-    lanes_bound _ _ c.requires c.if-n-k.false
+pub begin_lane-requires : goal.begin_lane-requires
+begin_lane-requires c = (lines_bound _ _ c.requires c.if-shape-k.false, oldest_bound _ _ c.requires c.if-shape-k.false)
 
-pub returns-then-exhausted : goal.returns-then-exhausted
+pub returns-in_err-part-clause-answer : goal.returns-in_err-part-clause-answer
 unfolding begin_of
-returns-then-exhausted c =
+returns-in_err-part-clause-answer c =
+    let same : c.from_residual.result ≡ Err c.in_err-part.field-0.0 = search rules in
+    let admits : admits_of c.args.store.now.shape.c c.args.op c.args.w (lane_at c.args.store.now c.args.k.0) ≡ true = search rules in
+    let left : exhausted_of c.args.store.now ≡ false = search rules in
     rw (
       begin_of,
       c.requires,
-      lt-leb _ _ c.if-n-k.false,
-      lt-leb (4 * c.args.s.shape.m) c.args.w.0 (omega arith),
-      ← c.admits.ensures,
-      c.if-admits.true,
-      ← c.exhausted.ensures,
-      c.if-exhausted.true,
-      c.refused-then-exhausted.ensures,
-    )
+      lt-leb _ _ c.if-shape-k.false,
+      lt-leb (4 * c.args.store.now.shape.m) c.args.w.0 (omega (arith, ap (λ (a : BlockNo). a.0) c.block.ensures)),
+      admits,
+      left,
+      refused_part c.args.store.now c.args.k _ _ (sym c.in_err-part.was ∙ c.begin_lane.ensures),
+    ) same
 
-pub begin_lane-r-requires : goal.begin_lane-r-requires
-begin_lane-r-requires c =
-    (lines_bound _ _ c.requires c.if-n-k.false, oldest_bound _ _ c.requires c.if-n-k.false)
-
-pub count-done-requires : goal.count-done-requires
-count-done-requires c =
-    rw c.begin_lane-r.ensures
-    (begin_counted _ _ c.requires c.if-n-k.false _ _ (sym c.admits.ensures ∙ c.if-admits.true)
-    (sym c.exhausted.ensures ∙ c.if-exhausted.false))
-
-pub returns-then-refused : goal.returns-then-refused
-unfolding begin_of commit_lane
-returns-then-refused c =
-    rw (
-      begin_of,
-      c.requires,
-      lt-leb _ _ c.if-n-k.false,
-      lt-leb (4 * c.args.s.shape.m) c.args.w.0 (omega arith),
-      ← c.admits.ensures,
-      c.if-admits.true,
-      ← c.exhausted.ensures,
-      c.if-exhausted.false,
-      ← c.begin_lane-r.ensures,
-      commit_lane,
-      ← c.count-done.ensures,
-      ← answer_goes c.args.k c.count-done.result,
-      ← c.answer_to-e.ensures,
-      ← c.refused-then-admits.ensures,
-      c.if-refused.true,
-    )
-
-pub bounds-t-i-then-admits : goal.bounds-t-i-then-admits
-bounds-t-i-then-admits c =
-    lane_bound _ _ c.requires c.if-n-k.false
-
-pub returns-then-admits : goal.returns-then-admits
-unfolding begin_of commit_lane
-returns-then-admits c =
-    rw (
-      begin_of,
-      c.requires,
-      lt-leb _ _ c.if-n-k.false,
-      lt-leb (4 * c.args.s.shape.m) c.args.w.0 (omega arith),
-      ← c.admits.ensures,
-      c.if-admits.true,
-      ← c.exhausted.ensures,
-      c.if-exhausted.false,
-      ← c.begin_lane-r.ensures,
-      commit_lane,
-      ← c.count-done.ensures,
-      ← answer_goes c.args.k c.count-done.result,
-      ← c.answer_to-e.ensures,
-      ← c.refused-then-admits.ensures,
-      c.if-refused.false,
-    )
-
-pub returns : goal.returns
+pub returns-in_err-part-clause-store : goal.returns-in_err-part-clause-store
 unfolding begin_of
-returns c =
-    rw (
-      begin_of,
-      c.requires,
-      lt-leb _ _ c.if-n-k.false,
-      lt-leb (4 * c.args.s.shape.m) c.args.w.0 (omega arith),
-      ← c.admits.ensures,
-      c.if-admits.false,
-      c.refused-2.ensures,
-    )
+returns-in_err-part-clause-store c = search (rules, refused_part c.args.store.now c.args.k _ _ (sym c.in_err-part.was ∙ c.begin_lane.ensures))
+
+pub commit_lane-requires-clause-lane : goal.commit_lane-requires-clause-lane
+commit_lane-requires-clause-lane c = lane_bound _ _ c.requires c.if-shape-k.false
+
+pub commit_lane-requires-clause-place : goal.commit_lane-requires-clause-place
+commit_lane-requires-clause-place c =
+    let n = begin_counted c.args.store.now c.args.k c.requires c.if-shape-k.false c.args.op c.args.w (search rules) (search rules) in
+    rw (taken_part _ _ (sym c.in_ok-part.was ∙ c.begin_lane.ensures)) at n
