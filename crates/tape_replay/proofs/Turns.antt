@@ -1,12 +1,11 @@
 -- The loop of `print_records`: what holds at its test, and what a turn and the end make of it. No memory here. Assumes nothing.
-use Prim.Native.Nat.{ℕ, zero, suc, ◌+◌, ◌<◌, ◌≤◌, ◌^◌}
+use Prim.Native.Nat.{ℕ, zero, suc, ◌+◌, ◌<◌, ◌≤◌}
 use native.Mathlib.Numerals.{add-one}
 use native.Mathlib.Omega.{arith}
 use mathlib.Core.Path.{◌≡◌, refl, sym, ap, subst, ◌∙◌}
 use mathlib.Core.List.{List, [], ◌∷◌, ◌++◌, append_assoc}
 use borrow.Author.Tests.{ne_eqb, le-ltb}
 use lib.ListN.{length, drop, length-append, length-drop}
-use lib.Seq.{drop-drop}
 use Rattle.tape_records.specs.declared.Parsed.{Parsed}
 use Rattle.tape_records.specs.Records.{parse_of}
 use Rattle.tape_records.proofs.Parsing.{parse_takes}
@@ -50,31 +49,39 @@ takes_some : (t : List ℕ) (p : Parsed) → 0 < length t → Takes t p → 0 < 
 takes_some t p some (inl e) = omega arith
 takes_some t p some (inr h) = omega (arith, h.0)
 
+takes_parsed : (t : List ℕ) {p : Parsed} → 0 < length t → p ≡ parse_of t → Takes t p
+takes_parsed t some parsed = subst (Takes t) (sym parsed) (parse_takes t some)
+
+-- the next record begins further on
+pub next_further : (t : List ℕ) {p : Parsed} → 0 < length t → p ≡ parse_of t → 0 < p.size
+next_further t {p} some parsed = takes_some t p some (takes_parsed t some parsed)
+
+pub next_inside : (t : List ℕ) {p : Parsed} → 0 < length t → p ≡ parse_of t → p.size ≤ length t
+next_inside t {p} some parsed = takes_most t p (takes_parsed t some parsed)
+
 module _ (tape out : List ℕ) where
   -- what is still to be written
-  abbrev Rest : ℕ → ℕ → Store → ℕ → List ℕ
-  Rest left at z index = text_from index (replay_from left z (drop at tape))
+  abbrev Rest : ℕ → List ℕ → Store → ℕ → List ℕ
+  Rest left rest z index = text_from index (replay_from left z rest)
 
-  pub record Going (left at : ℕ) (z : Store) (buf : List ℕ) (filled index : ℕ) : Type 0 where
-    pub enough : length tape ≤ at + left
-    pub inside : at ≤ length tape
-    pub counted : index ≤ at
+  pub record Going (left : ℕ) (rest : List ℕ) (z : Store) (buf : List ℕ) (filled index : ℕ) : Type 0 where
+    pub enough : length rest ≤ left
+    pub counted : index + length rest ≤ length tape
     pub same : length buf ≡ length out
     pub tapes : Tapes z
-    pub size : filled + length (Rest left at z index) ≡ length (printed tape)
-    pub goes : written buf filled (Rest left at z index) ≡ written out 0 (printed tape)
+    pub size : filled + length (Rest left rest z index) ≡ length (printed tape)
+    pub goes : written buf filled (Rest left rest z index) ≡ written out 0 (printed tape)
 
   abbrev pub Short : Type 0
   Short = (length tape ≤ tape_most) × (text_most ≤ length out)
 
-  pub going_start : Short → (z : Store) → z ≡ blank_store → Going (length tape) 0 z out 0 0
+  pub going_start : Short → (z : Store) → z ≡ blank_store → Going (length tape) tape z out 0 0
   unfolding printed replay_of
   going_start h z e =
       let same : 0 + length (replay_from (length tape) blank_store tape) ≡ length (replay_from (length tape) blank_store tape) = omega arith in
-      let is : Rest (length tape) 0 z 0 ≡ printed tape = rw (e, le-ltb tape_most (length tape) h.0, same) in
+      let is : Rest (length tape) tape z 0 ≡ printed tape = rw (e, le-ltb tape_most (length tape) h.0, same) in
       record {
         enough = omega arith;
-        inside = omega arith;
         counted = omega arith;
         same = refl;
         tapes = subst Tapes (sym e) blank_tapes;
@@ -82,60 +89,39 @@ module _ (tape out : List ℕ) where
         goes = ap (written out 0) is;
       }
 
-  module _ (h : Short) {left at : ℕ} {z : Store} {buf : List ℕ} {filled index : ℕ} (g : Going left at z buf filled index) where
+  module _ (h : Short) {left : ℕ} {rest : List ℕ} {z : Store} {buf : List ℕ} {filled index : ℕ} (g : Going left rest z buf filled index) where
     -- there is room for a line
     pub going_room : filled + 64 ≤ length buf
     going_room = let s = g.size in omega (arith, text_fits tape, g.same, h.1)
 
-    pub filled_fits : filled < 2 ^ 64
-    filled_fits = let s = g.size in omega (arith, text_fits tape)
-
-    pub index_fits : index + 1 < 2 ^ 32
-    index_fits = omega (arith, g.counted, g.inside, h.0)
-
     -- the tape is read: `end` is left to be written
-    pub going_end : length tape ≤ at → {r : ℕ} {after : List ℕ} → (r ≡ filled + length (end_text index)) × (after ≡ written buf filled (end_text index)) →
+    pub going_end : length rest ≡ 0 → {r : ℕ} {after : List ℕ} → (r ≡ filled + length (end_text index)) × (after ≡ written buf filled (end_text index)) →
         (r ≡ length (printed tape)) × (after ≡ written out 0 (printed tape))
-    going_end read wrote =
-        let none : length (drop at tape) ≡ 0 = length-drop at tape ∙ omega arith in
-        let is : Rest left at z index ≡ end_text index = rw (replay_none left z (drop at tape) none) (text_none index) in
+    going_end none wrote =
+        let is : Rest left rest z index ≡ end_text index = rw (replay_none left z rest none) (text_none index) in
         (wrote.0 ∙ rw is at g.size, wrote.1 ∙ rw is at g.goes)
 
   -- a turn
-  module _ (h : Short) (at : ℕ) (z : Store) (buf : List ℕ) (filled index : ℕ) (small : at < length tape) {p : Parsed} (parsed : p ≡ parse_of (drop at tape)) where
-    takes : Takes (drop at tape) p
-    takes = subst (Takes (drop at tape)) (sym parsed) (parse_takes (drop at tape) (subst (λ (n : ℕ). 0 < n) (sym (length-drop at tape)) (omega arith)))
-
-    -- the next record begins further on
-    pub next_further : 0 < p.size
-    next_further = takes_some (drop at tape) p (subst (λ (n : ℕ). 0 < n) (sym (length-drop at tape)) (omega arith)) takes
-
-    pub next_inside : at + p.size ≤ length tape
-    next_inside = let m = takes_most (drop at tape) p takes in omega (arith, length-drop at tape)
-
-    pub going_next : (left : ℕ) → Going left at z buf filled index → {a : Answer} {z' : Store} {buf' : List ℕ} {filled' : ℕ} →
+  module _ (h : Short) (rest : List ℕ) (z : Store) (buf : List ℕ) (filled index : ℕ) (some : 0 < length rest) {p : Parsed} (parsed : p ≡ parse_of rest) where
+    pub going_next : (left : ℕ) → Going left rest z buf filled index → {a : Answer} {z' : Store} {buf' : List ℕ} {filled' : ℕ} →
         (a ≡ (record_of z p.rec).answer) × (z' ≡ (record_of z p.rec).store) →
         (filled' ≡ filled + length (line_text index a)) × (buf' ≡ written buf filled (line_text index a)) → length buf' ≡ length buf →
-        (left' : ℕ) × ((left' < left) × Going left' (at + p.size) z' buf' filled' (index + 1))
+        (left' : ℕ) × Going left' (drop p.size rest) z' buf' filled' (index + 1)
     going_next zero g does wrote keeps = absurd (let i = g.enough in omega arith)
     going_next (suc k) g {a} {z'} does wrote keeps =
-        let some : 0 < length (drop at tape) = subst (λ (n : ℕ). 0 < n) (sym (length-drop at tape)) (omega arith) in
-        let taken = takes_some (drop at tape) p some takes in
-        let is : Rest (suc k) at z index ≡ line_text index a ++ Rest k (at + p.size) z' (index + 1) =
-        rw (replay_more k z (drop at tape) (λ e. omega arith), ← parsed, ← does.0, ← does.1, drop-drop p.size at tape) (text_more index a (replay_from k z' (drop (at + p.size) tape))) in
-        let long = rw (is, length-append (line_text index a) (Rest k (at + p.size) z' (index + 1))) at g.size in
-        let room : filled + length (line_text index a) + length (Rest k (at + p.size) z' (index + 1)) ≤ length buf = omega (arith, text_fits tape, g.same, h.1, long) in (
+        let taken = next_further rest some parsed in
+        let inside = next_inside rest some parsed in
+        let is : Rest (suc k) rest z index ≡ line_text index a ++ Rest k (drop p.size rest) z' (index + 1) =
+        rw (replay_more k z rest (λ e. omega arith), ← parsed, ← does.0, ← does.1) (text_more index a (replay_from k z' (drop p.size rest))) in
+        let long = rw (is, length-append (line_text index a) (Rest k (drop p.size rest) z' (index + 1))) at g.size in
+        let room : filled + length (line_text index a) + length (Rest k (drop p.size rest) z' (index + 1)) ≤ length buf = omega (arith, text_fits tape, g.same, h.1, long) in (
           k,
-          (
-            omega arith,
-            record {
-              enough = let i = g.enough in omega (arith, i, taken);
-              inside = next_inside;
-              counted = let i = g.counted in omega (arith, i, taken);
-              same = keeps ∙ g.same;
-              tapes = subst Tapes (sym does.1) (record_after z g.tapes p.rec);
-              size = rw wrote.0 (omega (arith, long));
-              goes = rw (wrote.0, wrote.1, written_then buf filled (line_text index a) (Rest k (at + p.size) z' (index + 1)) room, ← is) g.goes;
-            },
-          ),
+          record {
+            enough = let i = g.enough in omega (arith, length-drop p.size rest, i, taken);
+            counted = let i = g.counted in omega (arith, length-drop p.size rest, i, taken, inside);
+            same = keeps ∙ g.same;
+            tapes = subst Tapes (sym does.1) (record_after z g.tapes p.rec);
+            size = rw wrote.0 (omega (arith, long));
+            goes = rw (wrote.0, wrote.1, written_then buf filled (line_text index a) (Rest k (drop p.size rest) z' (index + 1)) room, ← is) g.goes;
+          },
         )

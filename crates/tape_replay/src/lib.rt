@@ -24,8 +24,7 @@ fn apply(store: &mut Store, rec: Record) -> Answer
     requires { Steady store.old }
     ensures { (result ≡ (record_of store.old rec).answer) × (store.new ≡ (record_of store.old rec).store) }
 {
-    let s = *store;
-    let r = tape_steps::record_sound(s, rec);
+    let r = tape_steps::record_sound(*store, rec);
     *store = r.store;
     r.answer
 }
@@ -36,15 +35,15 @@ fn print_records(tape: &[u8], out: &mut [u8]) -> usize
     ensures { (result ≡ length (printed tape.now)) × (out.new ≡ written out.old 0 (printed tape.now)) }
 {
     let mut store = store_opening::blank();
-    let mut at: usize = 0;
+    let mut rest = tape;
     let mut index: u32 = 0;
     let mut filled: usize = 0;
-    while at < tape.len() {
-        let p = tape_records::parse(&tape[at..]);
+    while !rest.is_empty() {
+        let p = tape_records::parse(rest);
         let a = apply(&mut store, p.rec);
         filled = tape_text::line_into(out, filled, index, a);
         index += 1;
-        at += p.size;
+        rest = &rest[p.size..];
     }
     tape_text::end_into(out, filled, index)
 }
