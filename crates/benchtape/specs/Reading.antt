@@ -1,9 +1,8 @@
 -- What reading a tape gives. Assumes nothing.
-use Rattle.std.specs.Prelude.{ℕ}
-use Rattle.benchtape.specs.declared.Reading.{Reading}
-use Rattle.benchtape.specs.declared.Reading.TheVariants.{Bytes, Failed}
+use Rattle.std.specs.Prelude.{ℕ, Result, Ok, Err}
+use Rattle.std.specs.declared.io.Error.{Error}
 
 -- how many bytes were read
-abbrev pub bytes_of : Reading → ℕ
-bytes_of (Bytes n) = n
-bytes_of (Failed _) = 0
+abbrev pub bytes_of : Result ℕ Error → ℕ
+bytes_of (Ok n) = n
+bytes_of (Err _) = 0

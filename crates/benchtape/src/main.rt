@@ -13,30 +13,20 @@ use std::io;
 use std::io::Read;
 use tape_replay::TEXT_MOST;
 
-// What reading gives: how many bytes there are, or why a read failed.
-#[derive(Clone, Copy)]
-enum Reading {
-    Bytes(usize),
-    Failed(io::Error),
-}
-
-// Reads until the buffer is full, the input ends or a read fails.
-fn read_tape(rt: &HostRuntime, buf: &mut [u8]) -> Reading
+// Reads until the buffer is full or the input ends; how many bytes there are, or why a read failed.
+fn read_tape(rt: &HostRuntime, buf: &mut [u8]) -> io::Result<usize>
     ensures { bytes_of result ≤ length buf.new }
 {
     let mut input = rt.stdin();
     let mut done: usize = 0;
     while done < buf.len() {
-        let more = match input.read(&mut buf[done..]) {
-            Ok(n) => n,
-            Err(error) => return Reading::Failed(error),
-        };
+        let more = input.read(&mut buf[done..])?;
         if more == 0 {
-            return Reading::Bytes(done);
+            break;
         }
         done += more;
     }
-    Reading::Bytes(done)
+    Ok(done)
 }
 
 // Room for the longest text.
@@ -65,13 +55,13 @@ fn bench(rt: &HostRuntime, tape: &mut [u8], out: &mut [u8])
     requires { text_most ≤ length out.old }
 {
     match read_tape(rt, tape) {
-        Reading::Bytes(n) => {
+        Ok(n) => {
             let size = text_of(&tape[..n], out);
             if let Err(error) = rt.write_all(&out[..size]) {
                 unwritten(rt, error);
             }
         }
-        Reading::Failed(error) => unread(rt, error),
+        Err(error) => unread(rt, error),
     }
 }
 
