@@ -1,18 +1,19 @@
 -- Laws of the picture's records: their length, and how they are written one after the other. Assumes nothing.
-use Prim.Native.Nat.{ℕ, zero, suc, ◌+◌, ◌*◌, ◌<◌, ◌≤◌}
+use Prim.Native.Nat.{ℕ, zero, suc, ◌+◌, ◌-◌, ◌*◌, ◌<◌, ◌≤◌}
 use native.Mathlib.Nat.{eq-or-lt_of_le}
 use native.Mathlib.Numerals.{add-one}
 use native.Mathlib.Omega.{arith}
 use mathlib.Core.Logic.{◌⊎◌, inl, inr}
 use mathlib.Core.Bool.{Bool, true, false, cond}
 use mathlib.Core.Path.{◌≡◌, refl, sym, ap, ◌∙◌}
-use mathlib.Core.List.{List, [], ◌∷◌, ◌++◌}
-use lib.ListN.{length, take, get_or, length-append, length-take}
-use Rattle.words.specs.declared.Line.{Line}
-use Rattle.words.specs.Lines.{no_line, holds_of}
+use mathlib.Core.List.{List, [], ◌∷◌, ◌++◌, append-nil}
+use lib.ListN.{length, take, drop, get_or, length-append, length-take, length-drop, drop_of_length-le}
+use lib.Seq.{take_all, drop-drop}
 use Rattle.std.specs.Prelude.{count_by}
 use Rattle.std.proofs.lemmas.List.{get_or-take}
 use Rattle.std.proofs.lemmas.List.Sums.{sum_by_more}
+use Rattle.words.specs.declared.Line.{Line}
+use Rattle.words.specs.Lines.{no_line, holds_of}
 use Rattle.words.specs.Folds.{count_to, sum_to, gather_to}
 use Rattle.words.proofs.Folds.{count_most}
 use Rattle.store.specs.declared.Store.{Store}
@@ -22,6 +23,7 @@ use Rattle.machine.proofs.Laws.Tests.{on}
 use Rattle.machine.proofs.Laws.Lines.{valid_holds, invalid_holds, other_holds}
 use Rattle.machine.proofs.Laws.Sums.{sum_same, zero_sum, sum_grown, sum_swap, sum_times, sum_only}
 use Rattle.machine.proofs.Bounds.Sound.{Sound}
+use Rattle.buffers.specs.Written.{written}
 use Rattle.buffers.proofs.Writing.{written_length, Wrote, wrote_then}
 use Rattle.store_picture.specs.Records.{line_record, records_at, block_records, valid_at, valid_of}
 
@@ -65,6 +67,15 @@ wrote_fits f k n xs at w l h =
     let g = gather_next f k n l in
     let p = w.0 in
     omega arith
+
+-- a write from the start of a part is a write at the part's offset in the whole
+pub part_written : (xs : List ℕ) (at : ℕ) (ys : List ℕ) {part : List ℕ} → at ≤ length xs → part ≡ written (take (length xs - at) (drop at xs)) 0 ys →
+    take at xs ++ (part ++ drop (length xs - at) (drop at xs)) ≡ written xs at ys
+unfolding written
+part_written xs at ys h p =
+    let n : length (drop at xs) ≤ length xs - at = simp length-drop (omega arith) in
+    let e : 0 + length ys ≡ length ys = omega arith in
+    rw (p, take_all (length xs - at) (drop at xs) n, drop_of_length-le (drop at xs) n, append-nil, e, drop-drop (length ys) at xs)
 
 -- an element of the first n of a list
 pub taken_at : {A : Type 0} (n : ℕ) (xs : List A) (i : ℕ) (d : A) → i < length (take n xs) → (i < n) × (get_or (take n xs) i d ≡ get_or xs i d)

@@ -37,32 +37,32 @@ fn valid_lines(s: Store) -> usize
 }
 
 // A word in four bytes, low byte first.
-fn write_word(buffer: &mut [u8], at: usize, x: u32) -> usize
-    requires { at + 4 ≤ length buffer.old }
-    ensures { (result ≡ at + 4) × (buffer.new ≡ written buffer.old at (word_bytes x)) }
+fn write_word(part: &mut [u8], at: usize, x: u32) -> usize
+    requires { at + 4 ≤ length part.old }
+    ensures { (result ≡ at + 4) × (part.new ≡ written part.old at (word_bytes x)) }
 {
-    buffers::put(buffer, at, &x.to_le_bytes())
+    buffers::put(part, at, &x.to_le_bytes())
 }
 
-// A record, from its offset on; the next offset.
-fn write_record(buffer: &mut [u8], at: usize, k: LaneNo, x: Line) -> usize
-    requires { at + 19 ≤ length buffer.old }
-    ensures { (result ≡ at + 19) × (buffer.new ≡ written buffer.old at (record_bytes k.0 x)) }
+// A record, from the start of a part of the buffer on.
+fn write_record(part: &mut [u8], k: LaneNo, x: Line)
+    requires { 19 ≤ length part.old }
+    ensures { part.new ≡ written part.old 0 (record_bytes k.0 x) }
 {
-    let mut place = buffers::put(buffer, at, &[16, k.0, x.block.0]);
+    let mut place = buffers::put(part, 0, &[16, k.0, x.block.0]);
     for word in x.words {
-        place = write_word(buffer, place, word);
+        place = write_word(part, place, word);
     }
-    place
 }
 
-// The record of a line, where it is valid and has block a, from its offset on; the next offset.
+// The record of a line, where it is valid and has block a, into the part of the buffer that starts at its offset; the next offset.
 fn write_line(buffer: &mut [u8], at: usize, a: BlockNo, k: LaneNo, x: Line) -> usize
     requires { at + length (line_record a.0 k.0 x) ≤ length buffer.old }
     ensures { (result ≡ at + length (line_record a.0 k.0 x)) × (buffer.new ≡ written buffer.old at (line_record a.0 k.0 x)) }
 {
     if x.holds(a) {
-        return write_record(buffer, at, k, x);
+        write_record(&mut buffer[at..], k, x);
+        return at + RECORD;
     }
     at
 }

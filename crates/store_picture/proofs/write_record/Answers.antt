@@ -25,4 +25,4 @@ returns c =
     let all : c.loop-word.word-index ≡ 4 = omega arith in
     let four-words = rw all at c.loop-word.invariant in
     let w = rw (record_words c.args.k.0 c.args.x) at (wrote_then _ _ _ _ c.put-place.ensures four-words (omega (arith, words_length c.args.x))) in
-    (omega (arith, words_length c.args.x), w.1)
+    w.1

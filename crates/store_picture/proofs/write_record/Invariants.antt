@@ -5,4 +5,4 @@ use Rattle.store_picture.proofs.Records.{word_at}
 use Rattle.store_picture.proofs.write_record.Given as goal
 
 abbrev pub invariant-loop-word : goal.invariant-loop-word
-invariant-loop-word l = Wrote l.initial.buffer l.initial.place (gather_to (word_at l.fn.x) l.word-index) l.place l.buffer
+invariant-loop-word l = Wrote l.initial.part l.initial.place (gather_to (word_at l.fn.x) l.word-index) l.place l.part
