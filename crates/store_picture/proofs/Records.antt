@@ -9,11 +9,11 @@ use mathlib.Core.Path.{◌≡◌, refl, sym, ap, ◌∙◌}
 use mathlib.Core.List.{List, [], ◌∷◌, ◌++◌, append-nil}
 use lib.ListN.{length, take, drop, get_or, length-append, length-take, length-drop, drop_of_length-le}
 use lib.Seq.{take_all, drop-drop}
-use Rattle.words.specs.declared.Line.{Line}
-use Rattle.words.specs.Lines.{no_line, holds_of}
 use Rattle.std.specs.Prelude.{count_by}
 use Rattle.std.proofs.lemmas.List.{get_or-take}
 use Rattle.std.proofs.lemmas.List.Sums.{sum_by_more}
+use Rattle.words.specs.declared.Line.{Line}
+use Rattle.words.specs.Lines.{no_line, holds_of}
 use Rattle.words.specs.Folds.{count_to, sum_to, gather_to}
 use Rattle.words.proofs.Folds.{count_most}
 use Rattle.store.specs.declared.Store.{Store}
@@ -67,6 +67,15 @@ wrote_fits f k n xs at w l h =
     let g = gather_next f k n l in
     let p = w.0 in
     omega arith
+
+-- a write from the start of a part is a write at the part's offset in the whole
+pub part_written : (xs : List ℕ) (at : ℕ) (ys : List ℕ) {part : List ℕ} → at ≤ length xs → part ≡ written (take (length xs - at) (drop at xs)) 0 ys →
+    take at xs ++ (part ++ drop (length xs - at) (drop at xs)) ≡ written xs at ys
+unfolding written
+part_written xs at ys h p =
+    let n : length (drop at xs) ≤ length xs - at = simp length-drop (omega arith) in
+    let e : 0 + length ys ≡ length ys = omega arith in
+    rw (p, take_all (length xs - at) (drop at xs) n, drop_of_length-le (drop at xs) n, append-nil, e, drop-drop (length ys) at xs)
 
 -- an element of the first n of a list
 pub taken_at : {A : Type 0} (n : ℕ) (xs : List A) (i : ℕ) (d : A) → i < length (take n xs) → (i < n) × (get_or (take n xs) i d ≡ get_or xs i d)
@@ -171,12 +180,3 @@ picture_length s g =
     (sum_same _ _ s.shape.m (λ a _. block_length s a) ∙
     (sum_swap (λ a k. sum_to (size_at s a k) s.shape.c) s.shape.m s.shape.n ∙
     (sum_same (λ k. 19 * valid_at s k) _ s.shape.n (lane_length s g) ∙ sum_times 19 (valid_at s) s.shape.n))))
-
--- a write from the start of a part is a write at the part's offset in the whole
-pub part_written : (xs : List ℕ) (at : ℕ) (ys : List ℕ) {part : List ℕ} → at ≤ length xs → part ≡ written (take (length xs - at) (drop at xs)) 0 ys →
-    take at xs ++ (part ++ drop (length xs - at) (drop at xs)) ≡ written xs at ys
-unfolding written
-part_written xs at ys h p =
-    let n : length (drop at xs) ≤ length xs - at = simp length-drop (omega arith) in
-    let e : 0 + length ys ≡ length ys = omega arith in
-    rw (p, take_all (length xs - at) (drop at xs) n, drop_of_length-le (drop at xs) n, append-nil, e, drop-drop (length ys) at xs)

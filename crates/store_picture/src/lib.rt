@@ -36,11 +36,11 @@ fn valid_lines(s: Store) -> usize
 }
 
 // A word in four bytes, low byte first.
-fn write_word(buffer: &mut [u8], at: usize, x: u32) -> usize
-    requires { at + 4 ≤ length buffer.old }
-    ensures { (result ≡ at + 4) × (buffer.new ≡ written buffer.old at (word_bytes x)) }
+fn write_word(part: &mut [u8], at: usize, x: u32) -> usize
+    requires { at + 4 ≤ length part.old }
+    ensures { (result ≡ at + 4) × (part.new ≡ written part.old at (word_bytes x)) }
 {
-    buffers::put(buffer, at, &x.to_le_bytes())
+    buffers::put(part, at, &x.to_le_bytes())
 }
 
 // A record, from the start of a part of the buffer on.
