@@ -5,7 +5,6 @@ use mathlib.Core.List.{List, [], ◌∷◌}
 use Rattle.words.specs.declared.Shape.{Shape}
 use Rattle.words.specs.Folds.{any_of}
 use Rattle.lanes.specs.UseOrder.{Insertion}
-use Rattle.answers.specs.declared.Answer.TheVariants as Answer
 use Rattle.answers.specs.declared.Refusal.TheVariants.{Corrupt}
 use Rattle.store.specs.declared.Store.{Store}
 use Rattle.store.specs.Opening.{bad_shape, fresh_of, blank_store, open_of}

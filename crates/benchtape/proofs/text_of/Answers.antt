@@ -1,5 +1,5 @@
 -- The printed length; a refusal cannot be, since the room is enough. Assumes nothing.
-use Rattle.std.proofs.Common.{rules, ◌≡◌, length, arith}
+use Rattle.std.proofs.Common.{◌≡◌, length, arith}
 use Rattle.machine.specs.Machine.Text.{printed}
 use Rattle.benchtape.proofs.Told.{answered, told_length}
 use Rattle.benchtape.proofs.text_of.Goals as goal

@@ -1,5 +1,5 @@
 -- `lane_corruption::bad_queue` meets its contract: no more than the places, and each message that is in the queue names a block of the shape. Assumes nothing.
-use Rattle.std.proofs.Common.{rules, tests, take, sym, ◌∙◌, leb}
+use Rattle.std.proofs.Common.{rules, tests, take, sym, ◌∙◌}
 use Rattle.std.proofs.lemmas.Iterator.{YieldsList-from_slice}
 use Rattle.std.proofs.lemmas.Iterator.Search.{any_from_yields_List}
 use borrow.Author.Tests.{le-ltb}

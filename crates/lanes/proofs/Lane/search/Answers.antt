@@ -1,5 +1,5 @@
 -- `lanes::Lane::search` meets its contract. Assumes nothing.
-use Rattle.std.proofs.Common.{◌<◌, ◌∙◌, arith}
+use Rattle.std.proofs.Common.{◌∙◌}
 use Rattle.lanes.proofs.Firsts.{first_step, first_none}
 use Rattle.lanes.proofs.Lane.search.Goals as goal
 

@@ -1,5 +1,5 @@
 -- `lanes::Lane::vacant` meets its contract. Assumes nothing.
-use Rattle.std.proofs.Common.{◌<◌, ◌∙◌, arith}
+use Rattle.std.proofs.Common.{◌∙◌}
 use Rattle.lanes.proofs.Firsts.{first_step, first_none}
 use Rattle.lanes.proofs.Lane.vacant.Goals as goal
 
