@@ -1,5 +1,5 @@
 -- `store_settle_step::lowest` meets its contract: no lane before the loop's has something for the step. Assumes nothing.
-use Rattle.std.proofs.Common.{◌≡◌, ◌≤◌}
+use Rattle.std.proofs.Common.{◌≡◌}
 use Rattle.words.specs.Folds.{lowest_to}
 use Rattle.store.specs.Stores.{lane_at}
 use Rattle.store_settle_step.specs.Kinds.{enabled_of}

@@ -1,7 +1,6 @@
 -- `store_settle_step::serve_step` meets its contract: a refused serve queues no order, another as many as its service awaits. Assumes nothing.
-use Rattle.std.proofs.Common.{rules, sym, ap, ◌∙◌, arith}
+use Rattle.std.proofs.Common.{sym, ap, ◌∙◌, arith}
 use Rattle.answers.specs.Refusals.{refused_of}
-use Rattle.store.specs.Stores.{lane_at}
 use Rattle.machine.specs.Machine.Serve.{serve_of}
 use Rattle.machine.proofs.Bounds.Sound.{sound}
 use Rattle.store_settle_step.proofs.Taken.{taken_some, serve_sends}

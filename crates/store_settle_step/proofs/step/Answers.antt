@@ -1,5 +1,4 @@
 -- `store_settle_step::step` meets its contract: the lowest lane that can deliver, then return, then be served; none is unexpected. Assumes nothing.
-use Rattle.std.proofs.Common.{rules, sym, ◌∙◌, arith}
 use Rattle.machine.proofs.Bounds.Sound.{sound}
 use Rattle.store_settle_step.proofs.step.Goals as goal
 
@@ -11,4 +10,3 @@ lowest-requires-2 c = (sound _ c.requires).n_high
 
 pub lowest-requires-3 : goal.lowest-requires-3
 lowest-requires-3 c = (sound _ c.requires).n_high
-

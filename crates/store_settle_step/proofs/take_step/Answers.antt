@@ -1,5 +1,5 @@
 -- `store_settle_step::take_step` meets its contract. Assumes nothing.
-use Rattle.std.proofs.Common.{rules, sym, ◌∙◌}
+use Rattle.std.proofs.Common.{sym, ◌∙◌}
 use Rattle.lanes.specs.UseOrder.{LoadsOldest}
 use Rattle.machine.specs.Machine.Deliver.{deliver_of}
 use Rattle.machine.specs.Machine.Return.{return_of}
