@@ -18,6 +18,7 @@ fn read_tape(rt: &HostRuntime, buf: &mut [u8]) -> io::Result<usize>
 {
     let mut input = rt.stdin();
     let mut done: usize = 0;
+    // A while, since how much a read gives is known only after it.
     while done < buf.len() {
         let more = input.read(&mut buf[done..])?;
         if more == 0 {

@@ -124,8 +124,8 @@ pub fn begin_lane(l: Lane, c: u8, op: Op, w: WordNo) -> Result<LanePart, Refusal
     requires { (c ≤ 8) × ((place_at l.order 0).0 < 8) }
     ensures { result ≡ part_of (begin_lane capacity c op w l) }
 {
-    match l.search(c, w.block()) {
-        Some(i) => Ok(hit(l, c, i, op, w)),
-        None => miss(l, c, op, w),
-    }
+    let Some(i) = l.search(c, w.block()) else {
+        return miss(l, c, op, w);
+    };
+    Ok(hit(l, c, i, op, w))
 }

@@ -64,7 +64,8 @@ fn purge(l: Lane, c: u8, a: BlockNo) -> Result<LanePart, Refusal>
     ensures { result ≡ part_of (purge_at capacity (search_of l c a) a l) }
 {
     let Some(i) = l.search(c, a) else {
-        return reply(l, Message::bare(ReturnKind::Gone, a));
+        let missing = Message::bare(ReturnKind::Gone, a);
+        return reply(l, missing);
     };
     let x = l.lines[i.0 as usize];
     let mut t = l;

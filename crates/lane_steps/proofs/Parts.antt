@@ -1,14 +1,13 @@
 -- A lane's part as the code hands it on: what its refusal is when it is put back, and which step its part is. Assumes nothing.
-use Rattle.std.proofs.Common.{◌≡◌, refl, ap}
+use Rattle.std.proofs.Common.{◌≡◌, refl}
 use Rattle.std.specs.Prelude.{Result, Ok, Err}
 use Rattle.words.specs.declared.LaneNo.{LaneNo}
-use Rattle.lanes.specs.declared.Lane.{Lane}
 use Rattle.answers.specs.declared.Refusal.{Refusal}
 use Rattle.store.specs.declared.Store.{Store}
 use Rattle.machine.specs.declared.LaneAnswer.{LaneAnswer}
 use Rattle.machine.specs.declared.LanePart.{LanePart}
 use Rattle.machine.specs.Machine.Parts.{LaneStep}
-use Rattle.machine.specs.Machine.Change.{refuse, part_of, part_with, step_of, commit_lane}
+use Rattle.machine.specs.Machine.Change.{refuse, part_of, step_of, commit_lane}
 
 -- a refused part is a refused call
 pub refused_part : (s : Store) (k : LaneNo) (r : LaneStep) (n : Refusal) → Err n ≡ part_of r → commit_lane s k r ≡ refuse n s

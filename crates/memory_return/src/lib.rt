@@ -72,7 +72,13 @@ fn count_answer(y: Control, a: BlockNo, t: Lane, u: Block) -> Result<MemoryPart,
 }
 
 // Memory takes x, the head of lane k's return queue; t is the lane without it.
-pub fn return_move(t: Lane, b: Block, y: Control, k: LaneNo, x: ReturnMessage) -> Result<MemoryPart, Refusal>
+pub fn return_move(
+    t: Lane,
+    b: Block,
+    y: Control,
+    k: LaneNo,
+    x: ReturnMessage,
+) -> Result<MemoryPart, Refusal>
     requires { (k.0 < 8) × LaneBelow y 8 }
     ensures { (l : Lane) → t ≡ with_returns (after_take l.returns) l → move_of l b y result ≡ return_move k x l b y }
 {

@@ -40,7 +40,12 @@ pub fn refused(r: Refusal, s: Store) -> Outcome
 }
 
 // Lane k, block a, the control and the down queues after memory's part of a call; 12, with the store as it was, if a queue that its message joins is full.
-pub fn commit_move(store: &mut Store, k: LaneNo, a: BlockNo, part: MemoryPart) -> Result<Answer, Refusal>
+pub fn commit_move(
+    store: &mut Store,
+    k: LaneNo,
+    a: BlockNo,
+    part: MemoryPart,
+) -> Result<Answer, Refusal>
     requires { (k.0 < 8) × (a.0 < 64) }
     ensures answer { result ≡ (commit_move store.old k a (move_with part)).answer }
     ensures store { store.new ≡ (commit_move store.old k a (move_with part)).store }
@@ -53,7 +58,10 @@ pub fn commit_move(store: &mut Store, k: LaneNo, a: BlockNo, part: MemoryPart) -
     let mut left = part.to;
     while 0 < left {
         let h = lowest(left);
-        t.lanes[h].downs = t.lanes[h].downs.push(part.message).ok_or(Refusal::QueueFull)?;
+        t.lanes[h].downs = t.lanes[h]
+            .downs
+            .push(part.message)
+            .ok_or(Refusal::QueueFull)?;
         left = without_lowest(left);
     }
     *store = t;

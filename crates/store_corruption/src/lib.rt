@@ -7,159 +7,86 @@ ghost use Rattle.words.specs.Folds.{any_to};
 ghost use Rattle.queues.specs.Queues.{capacity};
 ghost use Rattle.store.specs.Control.{slot_at, is_for};
 ghost use Rattle.store.specs.Stores.{lane_at, block_at};
-ghost use Rattle.machine.specs.Machine.Corruption.{bad_lane, bad_flag, bad_flags, bad_service, bad_slot, bad_control, corrupt_of};
+ghost use Rattle.machine.specs.Machine.Corruption.{bad_lane, bad_flags, bad_service, bad_slot, bad_control, corrupt_of};
 
 use store::{Block, Control, SLOTS, Service, Store};
 use words::{BlockNo, Shape};
 
 // Whether one of the n lanes breaks a bound.
-fn bad_lanes(s: Store) -> bool
-    requires { (s.shape.n ≤ 8) × (s.shape.c ≤ 8) }
-    ensures { result ≡ any_to (λ k. bad_lane capacity s.shape.c s.shape.m (lane_at s k)) s.shape.n }
+fn bad_lanes(s: &Store) -> bool
+    requires { (s.now.shape.n ≤ 8) × (s.now.shape.c ≤ 8) }
+    ensures { result ≡ any_to (λ k. bad_lane capacity s.now.shape.c s.now.shape.m (lane_at s.now k)) s.now.shape.n }
 {
-    let n = s.shape.n;
-    let c = s.shape.c;
-    let m = s.shape.m;
-    let mut k: u8 = 0;
-    while k < n {
-        let i = k as usize;
-        let l = s.lanes[i];
-        if lane_corruption::bad_lane(l, c, m) {
-            return true;
-        }
-        k += 1;
-    }
-    false
+    let Shape { n, c, m, .. } = s.shape;
+    s.lanes[..n as usize]
+        .iter()
+        .any(|l| lane_corruption::bad_lane(*l, c, m))
 }
 
-// Whether PRESENT is set for lane k although k is n or above.
-fn bad_flag(b: Block, n: u8, k: u8) -> bool
-    requires { k < 8 }
-    ensures { result ≡ bad_flag n b k }
+// Whether PRESENT is set for a lane although its number is n or above.
+#[tactic(auto, unfolding(machine::specs::Machine::Corruption::bad_flags))]
+fn bad_flags(b: &Block, n: u8) -> bool
+    ensures { result ≡ bad_flags n b.now }
 {
-    let i = k as usize;
-    let x = b.present[i];
-    n <= k && x
-}
-
-// .. for some lane.
-fn bad_flags(b: Block, n: u8) -> bool
-    ensures { result ≡ bad_flags n b }
-{
-    let mut k: u8 = 0;
-    while k < 8 {
-        if bad_flag(b, n, k) {
-            return true;
-        }
-        k += 1;
-    }
-    false
+    b.present
+        .iter()
+        .enumerate()
+        .any(|(k, x)| n as usize <= k && *x)
 }
 
 // .. in one of the m blocks.
-fn bad_blocks(s: Store) -> bool
-    requires { s.shape.m ≤ 64 }
-    ensures { result ≡ any_to (λ a. bad_flags s.shape.n (block_at s a)) s.shape.m }
+fn bad_blocks(s: &Store) -> bool
+    requires { s.now.shape.m ≤ 64 }
+    ensures { result ≡ any_to (λ a. bad_flags s.now.shape.n (block_at s.now a)) s.now.shape.m }
 {
-    let n = s.shape.n;
-    let m = s.shape.m;
-    let mut k: u8 = 0;
-    while k < m {
-        let i = k as usize;
-        let b = s.blocks[i];
-        if bad_flags(b, n) {
-            return true;
-        }
-        k += 1;
-    }
-    false
+    s.blocks[..s.shape.m as usize]
+        .iter()
+        .any(|b| bad_flags(b, s.shape.n))
 }
 
 // Whether a service has a lane or block number out of range, or awaits more than n - 1 answers.
 fn bad_service(v: Service, n: u8, m: u8) -> bool
     ensures { result ≡ bad_service n m v }
 {
-    if n <= v.lane.0 {
-        return true;
-    }
-    if m <= v.block.0 {
-        return true;
-    }
-    n <= v.awaited
+    n <= v.lane.0 || m <= v.block.0 || n <= v.awaited
 }
 
 // Whether a slot before slot k has a service of block a.
-fn taken_before(x: Control, a: BlockNo, k: u8) -> bool
+fn taken_before(x: &Control, a: BlockNo, k: usize) -> bool
     requires { k ≤ 8 }
-    ensures { result ≡ any_to (λ j. is_for a (slot_at x j)) k }
+    ensures { result ≡ any_to (λ j. is_for a (slot_at x.now j)) k }
 {
-    let mut j: u8 = 0;
-    while j < k {
-        let i = j as usize;
-        let y = x.slots[i];
-        if y.is_for(a) {
-            return true;
-        }
-        j += 1;
-    }
-    false
+    x.slots[..k].iter().any(|slot| store::is_for(*slot, a))
 }
 
 // Whether the service in slot k breaks a bound, or an earlier one has its block.
-fn bad_slot(x: Control, n: u8, m: u8, k: u8) -> bool
+fn bad_slot(x: &Control, n: u8, m: u8, k: usize) -> bool
     requires { k < 8 }
-    ensures { result ≡ bad_slot n m x k }
+    ensures { result ≡ bad_slot n m x.now k }
 {
-    let i = k as usize;
-    let y = x.slots[i];
-    if y.busy {
-        let v = y.service;
-        if bad_service(v, n, m) {
-            return true;
-        }
-        let a = v.block;
-        return taken_before(x, a, k);
+    match x.slots[k] {
+        Some(v) => bad_service(v, n, m) || taken_before(x, v.block, k),
+        None => false,
     }
-    false
 }
 
 // Whether the services exceed L, or one of them is bad.
-fn bad_control(shape: Shape, x: Control) -> bool
-    ensures { result ≡ bad_control shape x }
+#[tactic(auto, unfolding(machine::specs::Machine::Corruption::bad_control))]
+fn bad_control(shape: Shape, x: &Control) -> bool
+    ensures { result ≡ bad_control shape x.now }
 {
-    if shape.limit < x.services() {
-        return true;
-    }
-    let mut k: u8 = 0;
-    while k < SLOTS {
-        if bad_slot(x, shape.n, shape.m, k) {
-            return true;
-        }
-        k += 1;
-    }
-    false
+    shape.limit < x.services() || (0..SLOTS).any(|k| bad_slot(x, shape.n, shape.m, k))
 }
 
 // Whether the store breaks its own bounds.
+#[tactic(auto, unfolding(machine::specs::Machine::Corruption::corrupt_of, words::specs::Folds::any_of))]
 pub fn corrupt(s: Store) -> bool
     ensures { result ≡ corrupt_of s }
 {
-    let shape = s.shape;
-    if store_opening::bad_shape(shape) {
-        return true;
-    }
-    if store_opening::bad_limit(shape) {
-        return true;
-    }
-    let x = s.control;
-    if bad_control(shape, x) {
-        return true;
-    }
-    if bad_lanes(s) {
-        return true;
-    }
-    if bad_blocks(s) {
-        return true;
-    }
-    store_places::overrun(s)
+    store_opening::bad_shape(s.shape)
+        || store_opening::bad_limit(s.shape)
+        || bad_control(s.shape, &s.control)
+        || bad_lanes(&s)
+        || bad_blocks(&s)
+        || store_places::overrun(&s)
 }

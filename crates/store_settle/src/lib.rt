@@ -15,7 +15,7 @@ use store::Store;
 use words::LaneNo;
 
 // The completions of a settle in order: those before len; the places from len on are not used. An operation that completes waits no
-// more and settle begins none, so there are at most as many as lanes.
+// more and settle begins none, so there are at most as many as lanes. An array and not a Vec: nothing here is on the heap.
 #[derive(Clone, Copy)]
 pub struct Completions {
     pub len: u8,
@@ -71,6 +71,7 @@ fn settle_sound(first: Store) -> SettleOutcome
     let mut done = none();
     let mut steps: u16 = 0;
     let mut orders: u8 = 0;
+    // A while, since nothing counts the steps beforehand: it ends where the store is quiet.
     while !store_quiet::quiet(&s) {
         match store_settle_step::step(&mut s) {
             Ok(x) => {

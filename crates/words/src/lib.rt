@@ -87,6 +87,7 @@ impl Op {
 }
 
 // A line of a lane's cache: VALID, PRIVATE (the line is modified, and no other lane has the block), the block and its words.
+// VALID is a flag and the line no Option, since resetting it changes nothing else (`invalid`): block and words stay where they are.
 #[derive(Clone, Copy)]
 pub struct Line {
     pub valid: bool,

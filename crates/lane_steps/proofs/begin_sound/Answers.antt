@@ -1,7 +1,7 @@
 -- `lane_steps::begin_sound` meets its contract: 6, 7, 8, 17, then the lane's part, refused or put back. Assumes nothing.
 use Rattle.std.proofs.Common.{rules, arith, ◌≡◌, ◌*◌, true, false, Err, ap, sym, ◌∙◌}
 use borrow.Author.Tests.{lt-leb}
-use Rattle.store_commit.proofs.Bounds.{lane_bound, lines_bound, oldest_bound, begin_counted}
+use Rattle.lane_steps.proofs.Bounds.{lane_bound, lines_bound, oldest_bound, begin_counted}
 use Rattle.words.specs.declared.BlockNo.{BlockNo}
 use Rattle.store.specs.Stores.{lane_at}
 use Rattle.machine.specs.Machine.Begun.{exhausted_of}

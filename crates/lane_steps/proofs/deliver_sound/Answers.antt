@@ -1,7 +1,7 @@
 -- `lane_steps::deliver_sound` meets its contract: 6, then the lane's part, refused or put back. Assumes nothing.
 use Rattle.std.proofs.Common.{rules, ◌≡◌, Err, sym, ◌∙◌}
 use borrow.Author.Tests.{lt-leb}
-use Rattle.store_commit.proofs.Bounds.{lane_bound, lines_bound, deliver_counted}
+use Rattle.lane_steps.proofs.Bounds.{lane_bound, lines_bound, deliver_counted}
 use Rattle.machine.specs.Machine.Deliver.{deliver_of}
 use Rattle.lane_steps.proofs.Parts.{refused_part, taken_part}
 use Rattle.lane_steps.proofs.deliver_sound.Goals as goal

@@ -1,14 +1,17 @@
 -- `store_corruption::bad_blocks` meets its contract. Assumes nothing.
-use native.Mathlib.Omega.{arith}
-use mathlib.Core.Path.{sym, ◌∙◌}
-use Rattle.words.proofs.Folds.{any_none, any_more, any_true}
+use Rattle.std.proofs.Common.{rules, tests, arith, sym, ◌∙◌, ◌≤◌, length}
+use lib.ListN.{take}
+use Rattle.std.proofs.lemmas.List.{length-take}
+use Rattle.std.proofs.lemmas.Iterator.{YieldsList-from_slice}
+use Rattle.std.proofs.lemmas.Iterator.Search.{any_from_yields_List}
+use Rattle.words.proofs.Arrays.{any_taken}
+use Rattle.store.specs.Stores.{no_block}
+use Rattle.machine.specs.Machine.Corruption.{bad_flags}
 use Rattle.store_corruption.proofs.bad_blocks.Goals as goal
 
-pub loop-k-init : goal.loop-k-init
-loop-k-init c = (omega arith, any_none _)
-
-pub returns-then-bad_flags : goal.returns-then-bad_flags
-returns-then-bad_flags c = sym (any_true _ _ c.loop-k.k (sym c.bad_flags.ensures ∙ c.if-bad_flags.true) (omega arith))
-
-pub loop-k-preserved : goal.loop-k-preserved
-loop-k-preserved c = (omega arith, any_more _ _ c.loop-k.invariant.1 (sym c.bad_flags.ensures ∙ c.if-bad_flags.false))
+pub returns : goal.returns
+returns c =
+    let s = c.args.s.now in
+    let most : s.shape.m ≤ length s.blocks = omega (arith, length-take s.shape.m s.blocks) in
+    any_from_yields_List (bad_flags s.shape.n) _ _ _ c.any.ensures.ran (YieldsList-from_slice (take s.shape.m s.blocks) cc) (λ x b q k. search (rules, tests)) ∙
+    sym (any_taken (bad_flags s.shape.n) s.blocks no_block s.shape.m most)

@@ -11,7 +11,7 @@ returns-then-out-lt-TEXT_MOST c = rw (print_short c.args.tape.now c.args.out.now
 pub returns-then-tape-gt-TAPE_MOST : goal.returns-then-tape-gt-TAPE_MOST
 returns-then-tape-gt-TAPE_MOST c =
     rw (print_fits c.args.tape.now c.args.out.now c.if-out-lt-TEXT_MOST.false, printed_long c.args.tape.now c.args.out.now c.if-tape-gt-TAPE_MOST.true)
-    (ap Ok (c.too_long_into-n.ensures.0 ∙ zero-add _), c.too_long_into-n.ensures.1)
+    (ap Ok (c.too_long_into.ensures.0 ∙ zero-add _), c.too_long_into.ensures.1)
 
 pub returns : goal.returns
-returns c = rw (print_fits c.args.tape.now c.args.out.now c.if-out-lt-TEXT_MOST.false) (rw c.print_records-n.ensures.0, c.print_records-n.ensures.1)
+returns c = rw (print_fits c.args.tape.now c.args.out.now c.if-out-lt-TEXT_MOST.false) (rw c.print_records.ensures.0, c.print_records.ensures.1)

@@ -1,7 +1,7 @@
 -- `test_bounds::grants` meets its contract. Assumes nothing.
 use Rattle.std.proofs.Common.{rules, ◌≡◌, ◌∙◌, ◌≤◌, min, not, take, length, arith, count_by}
 use Rattle.queues.specs.Queues.{no_down}
-use Rattle.queues.specs.declared.DownMessage.{DownMessage}
+use Rattle.queues.specs.Messages.{DownMessage}
 use Rattle.machine.specs.Machine.Settle.{is_order}
 use Rattle.test_bounds.proofs.Sums.{queue_taken}
 use Rattle.test_bounds.proofs.grants.Goals as goal
