@@ -1,6 +1,6 @@
--- A store of the program has arrays of their declared lengths: what the check knows of a store by value gives `Sized`. Where the
--- store s is a function's first parameter that is
--- `arrays_sized s _ _ _ c.well_formed.0.1.1.1.0.1.1.0 c.well_formed.0.1.1.1.1.1.0 c.well_formed.0.1.1.1.1.1.1.0`. Assumes nothing.
+-- A store of the program has arrays of their declared lengths: what the check knows of a store gives `Sized`. With `known` for `c.type_inv.s.1`,
+-- for a lent store s, or for `c.well_formed.0.1.1.1`, for a store s that is a function's first parameter, that is
+-- `arrays_sized s _ _ known.0.1.1.0.1.0.1 known.1.1.0 known.1.1.1.0`. Assumes nothing.
 use Prim.Native.Nat.{ℕ, zero, suc, ◌<◌}
 use native.Mathlib.Omega.{arith}
 use mathlib.Core.Path.{◌≡◌}
@@ -12,7 +12,6 @@ use denote.Array.{each, Array}
 use denote.Shadow.{shadow}
 use Rattle.lanes.specs.contracts.Lane as L
 use Rattle.store.specs.contracts.Block as B
-use Rattle.store.specs.contracts.Slot as S
 use Rattle.store.specs.declared.Store.{Store}
 use Rattle.store.specs.Stores.{no_lane, no_block, lane_at, block_at}
 use Rattle.machine.specs.Machine.Sized.{LaneSized, Sized}
@@ -25,8 +24,8 @@ each_at d own (x ∷ xs) [] i z h p = absurd p
 each_at d own (x ∷ xs) (u ∷ us) zero z h p = (u, p.0)
 each_at d own (x ∷ xs) (u ∷ us) (suc i) z h p = each_at d own xs us i z (omega arith) p.1
 
-module _ (s : Store) (us vs ws : List Val)
-    (ss : shadow ((Array S.the_row 8).own_val s.control.slots us))
+module _ (s : Store) (vs ws : List Val)
+    (ss : length s.control.slots ≡ 8)
     (ls : shadow ((Array L.the_row 8).own_val s.lanes vs))
     (bs : shadow ((Array B.the_row 64).own_val s.blocks ws)) where
   lane_sized : (k : ℕ) → k < 8 → LaneSized (lane_at s k)
@@ -51,7 +50,7 @@ module _ (s : Store) (us vs ws : List Val)
   pub arrays_sized : Sized s
   arrays_sized = record {
     lanes = ls.1.0.1;
-    slots = ss.1.0.1;
+    slots = ss;
     blocks = bs.1.0.1;
     lane = lane_sized;
     present = present_sized;

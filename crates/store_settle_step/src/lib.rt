@@ -2,7 +2,7 @@
 // step leaves it as it was. For settle and not for others.
 #![tactic(auto)]
 
-ghost use Rattle.std.specs.Prelude.{◌≡◌, false, ◌<◌, ◌≤◌};
+ghost use Rattle.std.specs.Prelude.{◌≡◌, false, ◌<◌, ◌≤◌, IfSome};
 ghost use Rattle.words.specs.Folds.{lowest_to};
 ghost use Rattle.store.specs.Stores.{lane_at};
 ghost use Rattle.lanes.specs.UseOrder.{LoadsOldest};
@@ -43,10 +43,11 @@ fn enabled(x: StepKind, l: Lane) -> bool
     }
 }
 
-// The lowest lane that has something for the step.
+// The lowest lane that has something for the step. Where there is one, the store's arrays have their lengths, as every store's have.
 fn lowest(x: StepKind, s: &Store) -> Option<LaneNo>
     requires { s.now.shape.n ≤ 8 }
-    ensures { result ≡ lane_found (lowest_to (λ k. enabled_of x (lane_at s.now k)) s.now.shape.n) s.now.shape.n }
+    ensures sized { IfSome result (λ k. Sized s.now) }
+    ensures lane { result ≡ lane_found (lowest_to (λ k. enabled_of x (lane_at s.now k)) s.now.shape.n) s.now.shape.n }
 {
     for k in 0..s.shape.n {
         if enabled(x, s.lanes[k as usize]) {
@@ -96,6 +97,7 @@ fn take_step(x: StepKind, store: &mut Store, k: LaneNo) -> Result<TakenStep, Ref
 }
 
 // The next step: deliver, else return, else serve, at the lowest lane; 16 where there is none of these.
+#[tactic(auto, unfolding(machine::specs::Machine::Settle::settle_step))]
 pub fn step(store: &mut Store) -> Result<TakenStep, Refusal>
     requires { corrupt_of store.old ≡ false }
     ensures step { result ≡ taken_of store.old (settle_step LoadsOldest store.old) }
