@@ -3,7 +3,7 @@ use Prim.Native.Nat.{ℕ, suc, ◌+◌, ◌-◌, ◌*◌, ◌<◌, ◌≤◌}
 use native.Mathlib.Omega.{arith}
 use native.Mathlib.Numerals.{add-one}
 use mathlib.Core.Bool.{true, false, true≢false}
-use mathlib.Core.Path.{◌≡◌, refl, sym, ap, ◌∙◌}
+use mathlib.Core.Path.{◌≡◌, refl, sym, ap, subst, ◌∙◌}
 use mathlib.Core.List.{List, [], ◌∷◌, ◌++◌, append_assoc, append-nil}
 use lib.ListN.{length, set, replicate, length-append}
 use lib.Seq.{set-append_seam}
@@ -14,6 +14,7 @@ use Rattle.answers.specs.declared.Completion.{Completion}
 use Rattle.answers.specs.Completions.{completion_of, done_in}
 use Rattle.answers.specs.Refusals.{refused_of}
 use Rattle.store.specs.declared.Store.{Store}
+use Rattle.store.specs.declared.Outcome.{Outcome}
 use Rattle.store.specs.Quiet.{quiet_of}
 use Rattle.machine.specs.Machine.Corruption.{corrupt_of}
 use Rattle.machine.specs.Claims.Potential.{potential_of}
@@ -22,9 +23,11 @@ use Rattle.machine.specs.Machine.Sized.{Sized}
 use Rattle.machine.specs.Machine.Begun.{waiting_in}
 use Rattle.machine.proofs.Settle.Falls.{settle_falls, settle_completes, bound_most, waiting_most}
 use Rattle.machine.proofs.Settle.FallsSettle.{advance_onward, repeat_ended, repeat_more, bound_more, settle_exact, settle_count}
+use Rattle.store_settle_step.specs.declared.TakenStep.{TakenStep}
+use Rattle.store_settle_step.specs.Kinds.{taken_of}
 use Rattle.store_settle.specs.declared.Completions.{Completions}
 use Rattle.store_settle.specs.declared.SettleOutcome.{SettleOutcome}
-use Rattle.store_settle.specs.Settles.{padded, array_of, outcome_of, Counted, listed_of, refusal_of}
+use Rattle.store_settle.specs.Settles.{padded, array_of, outcome_of, Counted, listed_of}
 use Rattle.std.specs.Prelude.{Result, Ok, Err}
 use Rattle.answers.specs.declared.Refusal.{Refusal}
 use Rattle.machine.specs.declared.SettleCounts.{SettleCounts}
@@ -55,12 +58,26 @@ passes (Ok Wait) s r e = refl
 passes (Ok Step) s r e = refl
 passes (Err x) s r e = absurd (true≢false e)
 
-fails : (a : Result Answer Refusal) (s : Store) (r : Settlement) → refused_of a ≡ true → unless_refused a s r ≡ refuse_settle (refusal_of a) s
-fails (Ok Opened) s r e = absurd (true≢false (sym e))
-fails (Ok (Done x)) s r e = absurd (true≢false (sym e))
-fails (Ok Wait) s r e = absurd (true≢false (sym e))
-fails (Ok Step) s r e = absurd (true≢false (sym e))
-fails (Err x) s r e = refl
+-- what a step answered and queued that was taken, and what one answered that was refused
+pub taken : (s : Store) (q : Outcome) (x : TakenStep) → Ok x ≡ taken_of s q → (q.answer ≡ Ok x.answer) × (orders_queued s q.store ≡ x.orders)
+taken s q x e = go q.answer refl
+  where
+    go : (a : Result Answer Refusal) → q.answer ≡ a → (q.answer ≡ Ok x.answer) × (orders_queued s q.store ≡ x.orders)
+    go (Ok b) p =
+        let f : ◌≡◌ {A = Result TakenStep Refusal} (Ok x) (Ok (record { answer = b; orders = orders_queued s q.store })) = rw p at e in
+        let g : x ≡ record { answer = b; orders = orders_queued s q.store } = cc in
+        (p ∙ ap (λ (y : TakenStep). Ok y.answer) (sym g), ap (λ (y : TakenStep). y.orders) (sym g))
+    go (Err m) p = let f = rw p at e in absurd cc
+
+pub refused : (s : Store) (q : Outcome) (x : Refusal) → Err x ≡ taken_of s q → q.answer ≡ Err x
+refused s q x e = go q.answer refl
+  where
+    go : (a : Result Answer Refusal) → q.answer ≡ a → q.answer ≡ Err x
+    go (Ok b) p = let f = rw p at e in absurd cc
+    go (Err m) p =
+        let f : ◌≡◌ {A = Result TakenStep Refusal} (Err x) (Err m) = rw p at e in
+        let g : x ≡ m = cc in
+        p ∙ ap Err (sym g)
 
 -- what settle gives of the store before it and the progress that it ends with
 abbrev ends_with : Store → Progress → Settlement
@@ -138,12 +155,12 @@ module _ (first s : Store) (d : Completions) (count orders : ℕ) (g : Going fir
         g.same ∙ ap (ends_with first) (repeat_more LoadsOldest (bound_of first - count) p e)
 
     -- it is refused
-    pub going_refused : refused_of (settle_step LoadsOldest s).answer ≡ true → settle_of LoadsOldest first ≡ refuse_settle (refusal_of (settle_step LoadsOldest s).answer) first
+    pub going_refused : (x : Refusal) → (settle_step LoadsOldest s).answer ≡ Err x → settle_of LoadsOldest first ≡ refuse_settle x first
     unfolding ended advance
-    going_refused x =
+    going_refused x a =
         let p = advance LoadsOldest (after count orders g.completed g.answer s) in
-        let e : ended p ≡ true = rw x in
-        steps ∙ (ap (ends_with first) (repeat_ended LoadsOldest (bound_of first - count) p e) ∙ fails (settle_step LoadsOldest s).answer first (reached first p) x)
+        let e : ended p ≡ true = rw a in
+        steps ∙ (ap (ends_with first) (repeat_ended LoadsOldest (bound_of first - count) p e) ∙ ap (λ b. unless_refused b first (reached first p)) a)
 
     -- it is not
     pub going_next : refused_of (settle_step LoadsOldest s).answer ≡ false →
@@ -172,3 +189,19 @@ module _ (first s : Store) (d : Completions) (count orders : ℕ) (g : Going fir
           passed = x;
           same = steps ∙ rw (z, add-one);
         }
+
+    -- the step is what the code took
+    pub going_taken : (x : TakenStep) → Ok x ≡ taken_of s (settle_step LoadsOldest s) →
+        Going first (settle_step LoadsOldest s).store (listed_of d (Ok x.answer)) (count + 1) (orders + x.orders)
+    going_taken x e =
+        let r = settle_step LoadsOldest s in
+        let t = taken s r x e in
+        subst (λ (a : Result Answer Refusal). Going first r.store (listed_of d a) (count + 1) (orders + x.orders)) t.0
+        (subst (λ (n : ℕ). Going first r.store (listed_of d r.answer) (count + 1) (orders + n)) t.1 (going_next (ap refused_of t.0)))
+
+  -- .. which has room, and less to do after it
+  pub taken_fits : (x : TakenStep) → Ok x ≡ taken_of s (settle_step LoadsOldest s) → length (done_in (Ok x.answer)) + d.len ≤ 8
+  taken_fits x e = subst (λ (a : Result Answer Refusal). length (done_in a) + d.len ≤ 8) (taken s (settle_step LoadsOldest s) x e).0 going_fits
+
+  pub taken_falls : (x : TakenStep) → Ok x ≡ taken_of s (settle_step LoadsOldest s) → bound_of (settle_step LoadsOldest s).store < bound_of s
+  taken_falls x e = let t = taken s (settle_step LoadsOldest s) x e in settle_falls LoadsOldest s g.sound g.sized (ap refused_of t.0)

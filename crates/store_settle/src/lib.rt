@@ -92,6 +92,7 @@ fn settle_sound(first: Store) -> SettleOutcome
 
 // Settle: the step count, the orders that its own serves sent, by which the count is exact, and the completions in order; or why it was
 // refused: 14, or the number of the step that was.
+#[tactic(auto, unfolding(machine::specs::Machine::Settle::settle_of))]
 pub fn settle(s: Store) -> SettleOutcome
     ensures { (result ≡ outcome_of (settle_of LoadsOldest s)) × Counted s result.answer }
 {
