@@ -33,7 +33,7 @@ fn orders(q: &DownQueue) -> u16
     messages(q).iter().filter(|m| is_order(m.kind)).count() as u16
 }
 
-// How many of them are grants.
+// How many of them are grants. Not one function with `orders` over a flag: the two names say more than `true` and `false`.
 fn grants(q: &DownQueue) -> u16
     ensures value { result ≡ downs_of false q.now }
     ensures few { result ≤ 8 }
