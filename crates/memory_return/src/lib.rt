@@ -71,17 +71,28 @@ fn count_answer(y: Control, a: BlockNo, t: Lane, u: Block) -> Result<MemoryPart,
     }
 }
 
-// Memory takes x, the head of lane k's return queue; t is the lane without it.
+// The lane once the head of its return queue has left.
+fn without_head(l: Lane) -> Lane
+    ensures { result ≡ with_returns (after_take l.returns) l }
+{
+    match l.returns.take() {
+        Some((_, returns)) => Lane { returns, ..l },
+        None => l,
+    }
+}
+
+// Memory takes x, the head of lane k's return queue.
 pub fn return_move(
-    t: Lane,
+    l: Lane,
     b: Block,
     y: Control,
     k: LaneNo,
     x: ReturnMessage,
 ) -> Result<MemoryPart, Refusal>
     requires { (k.0 < 8) × LaneBelow y 8 }
-    ensures { (l : Lane) → t ≡ with_returns (after_take l.returns) l → move_of l b y result ≡ return_move k x l b y }
+    ensures { move_of l b y result ≡ return_move k x l b y }
 {
+    let t = without_head(l);
     let u = taken_block(x, k, b);
     if is_answer(x.kind) {
         count_answer(y, x.block, t, u)

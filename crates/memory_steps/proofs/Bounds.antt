@@ -24,6 +24,7 @@ use Rattle.store.proofs.Services.{found}
 use Rattle.machine.specs.Machine.Corruption.{corrupt_of}
 use Rattle.machine.specs.Machine.Serve.{ready_with, ready_of}
 use Rattle.memory_return.specs.Bounds.{LaneBelow}
+use Rattle.memory_return.proofs.Taking.{taken}
 use Rattle.machine.proofs.Bounds.Sound.{ControlSound, service_sound, sound}
 use Rattle.std.specs.Prelude.{Ok, Err, Option, Some, None}
 
@@ -38,17 +39,6 @@ ready_waits l limit x (Unserved p) o e =
     let f = (skip (busy_for limit x (block_of p.word)) e no_go).1 in
     let g = (skip (ltb 0 l.returns.len) f no_go).1 in
     cc
-
--- what take gives is the head of a queue that is not empty, and the lane gets the queue without it
-no_head : {X : Type 0} {x : X} → None ≡ Some x → ⊥
-no_head e = let z : ◌≡◌ {A = ℕ} 0 1 = cc in omega arith
-
-pub taken : (l : Lane) {o : Option (ReturnMessage × ReturnQueue)} {x : ReturnMessage} {r : ReturnQueue} → o ≡ take_of no_return l.returns → o ≡ Some (x, r) →
-    (empty_at l.returns.len ≡ false) × ((head_return l.returns ≡ x) × (with_returns r l ≡ with_returns (after_take l.returns) l))
-taken l {o} {x} {r} t e =
-    let n = skip (empty_at l.returns.len) (sym t ∙ e) no_head in
-    let w : (head_return l.returns, after_take l.returns) ≡ (x, r) = cc in
-    (n.0, (ap (λ (p : ReturnMessage × ReturnQueue). p.0) w, ap (λ (p : ReturnMessage × ReturnQueue). with_returns p.1 l) (sym w)))
 
 below_eight : (n m limit : ℕ) (x : Control) → n ≤ 8 → ControlSound n m limit x → LaneBelow x 8
 below_eight n m limit x h g a v e = let l = (service_sound n m limit x a v g (found x a v e)).lane in omega arith

@@ -8,7 +8,6 @@ ghost use Rattle.machine.specs.Machine.Serve.{serve_of};
 ghost use Rattle.machine.specs.Machine.Return.{return_of};
 
 use answers::{Answer, Refusal};
-use lanes::Lane;
 use store::Store;
 use words::LaneNo;
 
@@ -26,7 +25,7 @@ pub fn serve_sound(store: &mut Store, k: LaneNo) -> Result<Answer, Refusal>
     let a = o.word.block();
     let b = store.blocks[a.0 as usize];
     let part = memory_serve::serve_move(l, b, store.control, k, o);
-    store_commit::commit_move(store, k, a, part)
+    store_commit::commit_move(store, k, a, Ok(part))
 }
 
 // Return on a store that is not corrupt.
@@ -39,9 +38,8 @@ pub fn return_sound(store: &mut Store, k: LaneNo) -> Result<Answer, Refusal>
         return Err(Refusal::NoSuchLane);
     }
     let l = store.lanes[k.0 as usize];
-    let (x, returns) = l.returns.take().ok_or(Refusal::NothingPending)?;
-    let t = Lane { returns, ..l };
+    let (x, _) = l.returns.take().ok_or(Refusal::NothingPending)?;
     let b = store.blocks[x.block.0 as usize];
-    let part = memory_return::return_move(t, b, store.control, k, x)?;
+    let part = memory_return::return_move(l, b, store.control, k, x);
     store_commit::commit_move(store, k, x.block, part)
 }

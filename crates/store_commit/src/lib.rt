@@ -4,8 +4,11 @@
 #![tactic(auto)]
 
 ghost use Rattle.std.specs.Prelude.{◌≡◌, ◌<◌};
-ghost use Rattle.machine.specs.Machine.LaneBytes.{move_with};
+ghost use Rattle.machine.specs.Machine.LaneBytes.{move_with, move_of};
 ghost use Rattle.machine.specs.Machine.Change.{refuse, commit_move};
+ghost use Rattle.lanes.specs.declared.Lane.{Lane};
+ghost use Rattle.store.specs.declared.Block.{Block};
+ghost use Rattle.store.specs.declared.Control.{Control};
 ghost use Rattle.store_commit.specs.Bits.{lowest_bit, without_lowest};
 ghost use Rattle.queues.specs.Queues.{capacity};
 
@@ -40,7 +43,7 @@ pub fn refused(r: Refusal, s: Store) -> Outcome
 }
 
 // Lane k, block a, the control and the down queues after memory's part of a call; 12, with the store as it was, if a queue that its message joins is full.
-pub fn commit_move(
+fn commit_part(
     store: &mut Store,
     k: LaneNo,
     a: BlockNo,
@@ -66,4 +69,18 @@ pub fn commit_move(
     }
     *store = t;
     Ok(Answer::Step)
+}
+
+// The same of a part that may be refused: its own refusal leaves the store as it was.
+pub fn commit_move(
+    store: &mut Store,
+    k: LaneNo,
+    a: BlockNo,
+    part: Result<MemoryPart, Refusal>,
+) -> Result<Answer, Refusal>
+    requires { (k.0 < 8) × (a.0 < 64) }
+    ensures answer { (l : Lane) (b : Block) (x : Control) → result ≡ (commit_move store.old k a (move_of l b x part)).answer }
+    ensures store { (l : Lane) (b : Block) (x : Control) → store.new ≡ (commit_move store.old k a (move_of l b x part)).store }
+{
+    commit_part(store, k, a, part?)
 }

@@ -1,5 +1,6 @@
 -- `memory_steps::serve_sound` meets its contract. Assumes nothing.
 use Rattle.std.proofs.Common.{rules, ◌∙◌, sym, ap, arith}
+use Rattle.store.specs.Stores.{lane_at, block_at}
 use Rattle.store_commit.proofs.Bounds.{lane_bound}
 use Rattle.memory_steps.proofs.Bounds.{ready_bound}
 use Rattle.words.specs.declared.BlockNo.{BlockNo}
@@ -35,8 +36,14 @@ commit_move-requires c =
 
 pub returns-clause-answer : goal.returns-clause-answer
 unfolding serve_of
-returns-clause-answer c = search rules
+returns-clause-answer c =
+    let s = c.args.store.now in
+    let m = c.commit_move.ensures.answer (lane_at s c.args.k.0) (block_at s 0) s.control in
+    search rules
 
 pub returns-clause-store : goal.returns-clause-store
 unfolding serve_of
-returns-clause-store c = search rules
+returns-clause-store c =
+    let s = c.args.store.now in
+    let m = c.commit_move.ensures.store (lane_at s c.args.k.0) (block_at s 0) s.control in
+    search rules
