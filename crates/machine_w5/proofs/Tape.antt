@@ -1,9 +1,9 @@
 -- A tape that has no record of kind 08 prints the same. Assumes nothing.
-use Prim.Native.Nat.{ℕ, zero, suc, ◌-◌, ◌<◌}
+use Prim.Native.Nat.{ℕ, zero, suc, ◌+◌, ◌-◌, ◌<◌}
 use native.Mathlib.Omega.{arith}
 use mathlib.Core.Logic.{◌⊎◌, inl, inr}
 use mathlib.Core.Path.{◌≡◌, refl, sym, ap, ◌∙◌, subst}
-use mathlib.Core.Bool.{false, not, cond, ◌||◌, true≢false}
+use mathlib.Core.Bool.{Bool, true, false, not, cond, ◌||◌, true≢false}
 use mathlib.Core.List.{List, [], ◌∷◌, ◌++◌}
 use lib.Dec.{ltb, eqb}
 use borrow.Author.Tests.{lt-ltb, ne_eqb}
@@ -15,11 +15,11 @@ use Rattle.words.proofs.Folds.{by_cond, or_left, or_right}
 use Rattle.tape_records.specs.declared.Kind.{Kind}
 use Rattle.tape_records.specs.declared.Record.{Record}
 use Rattle.tape_records.specs.declared.Parsed.{Parsed}
-use Rattle.tape_records.specs.Records.{kind_of, body_length, field, fields_of, read_with, parsed_of, parse_of}
+use Rattle.tape_records.specs.Records.{kind_of, body_length, field, fields_of, read_with, last_of, parsed_of, parse_of}
 use Rattle.lanes.specs.UseOrder.{LoadsOldest}
 use Rattle.answers.specs.declared.Answer.{Answer}
 use Rattle.answers.specs.declared.Refusal.{Refusal}
-use Rattle.answers.specs.declared.Refusal.TheVariants.{UnknownKind, NotOpen, AlreadyOpen, InvalidShape, TapeTooLong}
+use Rattle.answers.specs.declared.Refusal.TheVariants.{Truncated, UnknownKind, NotOpen, AlreadyOpen, InvalidShape, TapeTooLong}
 use Rattle.store.specs.declared.Store.{Store}
 use Rattle.store.specs.declared.Outcome.{Outcome}
 use Rattle.store.specs.Opening.{bad_shape, fresh_of, blank_store}
@@ -70,9 +70,26 @@ kind_same (suc (suc (suc (suc (suc (suc (suc zero))))))) e = refl
 kind_same (suc (suc (suc (suc (suc (suc (suc (suc zero)))))))) e = absurd (true≢false e)
 kind_same (suc (suc (suc (suc (suc (suc (suc (suc (suc n))))))))) e = above_eight (suc (suc (suc (suc (suc (suc (suc (suc (suc n))))))))) (omega arith)
 
+-- the two readings of a record, once its kind byte is read the same
+with_same : (tape : List ℕ) (k : Std.Result Kind Refusal) → FormerTape.parse_with tape k ≡ parsed_of (length tape) (read_with tape k)
+with_same tape (Err r) = refl
+with_same tape (Ok kind) = go (ltb (length tape - 1) (body_length kind))
+  where
+    cut : Parsed
+    cut = last_of (length tape) Truncated
+
+    whole : Parsed
+    whole = record { size = 1 + body_length kind; rec = Ok (fields_of kind (drop 1 tape)) }
+
+    go : (b : Bool) → cond b cut whole ≡ parsed_of (length tape) (cond b (Err Truncated) (Ok (1 + body_length kind, fields_of kind (drop 1 tape))))
+    go true = refl
+    go false = refl
+
 parse_same : (tape : List ℕ) → eqb (field tape 0) 8 ≡ false → FormerTape.parse_of tape ≡ parse_of tape
 unfolding FormerTape.parse_of parse_of
-parse_same tape e = ap (λ (k : Std.Result Kind Refusal). parsed_of (length tape) (read_with tape k)) (kind_same (field tape 0) e)
+parse_same tape e =
+    with_same tape (FormerTape.kind_of (field tape 0)) ∙
+    ap (λ (k : Std.Result Kind Refusal). parsed_of (length tape) (read_with tape k)) (kind_same (field tape 0) e)
 
 -- a record that opens has L = 1
 abbrev Plain : Std.Result Record Refusal → Type 0
@@ -100,7 +117,7 @@ kind_plain tape (suc (suc (suc (suc (suc (suc (suc (suc n)))))))) = rw (above_se
 
 parse_plain : (tape : List ℕ) → Plain (FormerTape.parse_of tape).rec
 unfolding FormerTape.parse_of
-parse_plain tape = kind_plain tape (field tape 0)
+parse_plain tape = rw (with_same tape (FormerTape.kind_of (field tape 0))) (kind_plain tape (field tape 0))
 
 module _ (b : Bounded) where
   -- no opening was read yet; or both stores are open, and the same

@@ -1,15 +1,15 @@
 -- A tape before W6: its kinds are 00 to 07. Bodies, and what is printed of an answer, are today's. Assumes nothing.
-use Rattle.std.specs.Prelude.{ℕ, zero, suc, Bool, not, cond, List, [], ◌∷◌, ◌++◌, ltb, eqb, length, drop, Result, Ok, Err}
+use Rattle.std.specs.Prelude.{ℕ, zero, suc, ◌+◌, ◌-◌, Bool, not, cond, List, [], ◌∷◌, ◌++◌, ltb, eqb, length, drop, Result, Ok, Err}
 use Rattle.words.specs.declared.Shape.{Shape}
 use Rattle.tape_records.specs.declared.Kind.{Kind}
 use Rattle.tape_records.specs.declared.Record.{Record}
 use Rattle.tape_records.specs.declared.Parsed.{Parsed}
-use Rattle.tape_records.specs.Records.{field, read_with, parsed_of}
+use Rattle.tape_records.specs.Records.{body_length, field, fields_of, last_of}
 use Rattle.lanes.specs.UseOrder.{LoadsOldest}
 use Rattle.answers.specs.declared.Answer.{Answer}
 use Rattle.answers.specs.declared.Answer.TheVariants.{Opened}
 use Rattle.answers.specs.declared.Refusal.{Refusal}
-use Rattle.answers.specs.declared.Refusal.TheVariants.{UnknownKind, NotOpen, AlreadyOpen, InvalidShape, TapeTooLong}
+use Rattle.answers.specs.declared.Refusal.TheVariants.{Truncated, UnknownKind, NotOpen, AlreadyOpen, InvalidShape, TapeTooLong}
 use Rattle.store.specs.Opening.{bad_shape}
 use Rattle.machine.specs.Machine.Text.{refused_text, lines_text, end_text, tape_most}
 use Rattle.machine_w5.specs.Stores.{Store, Outcome, fresh_of, blank_store}
@@ -31,8 +31,13 @@ kind_of byte =
     (Err UnknownKind))))))))
 
 -- A record is one byte of kind, then a body: what stands at the start of a tape, and how many bytes it takes. 2, 1, then the record
+abbrev pub parse_with : List ℕ → Result Kind Refusal → Parsed
+parse_with tape (Ok kind) =
+    cond (ltb (length tape - 1) (body_length kind)) (last_of (length tape) Truncated) (record { size = 1 + body_length kind; rec = Ok (fields_of kind (drop 1 tape)) })
+parse_with tape (Err r) = last_of (length tape) r
+
 unfoldable pub parse_of : List ℕ → Parsed
-parse_of tape = parsed_of (length tape) (read_with tape (kind_of (field tape 0)))
+parse_of tape = parse_with tape (kind_of (field tape 0))
 
 -- an open that wasn't refused has been read; before it the store is the blank one, with n = 0
 abbrev pub is_open : Store → Bool

@@ -42,6 +42,14 @@ body_length Kind.Return = 1
 body_length Kind.Deliver = 1
 body_length Kind.OpenLimited = 4
 
+-- what a kind byte picks: the body's length and the step
+abbrev pub form_with : Result Kind Refusal → Result (ℕ × Kind) Refusal
+form_with (Ok kind) = Ok (body_length kind, kind)
+form_with (Err r) = Err r
+
+abbrev pub form_of : ℕ → Result (ℕ × Kind) Refusal
+form_of byte = form_with (kind_of byte)
+
 -- a field of one byte
 abbrev pub field : List ℕ → ℕ → ℕ
 field body i = get_or body i 0

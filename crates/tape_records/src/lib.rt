@@ -4,10 +4,32 @@
 
 ghost use Rattle.std.specs.Prelude.{◌≡◌, ◌≤◌, length};
 ghost use Rattle.words.specs.Units.{limited};
-ghost use Rattle.tape_records.specs.Records.{kind_of, body_length, operand_of, begin_fields, fields_of, field, read_of, parse_of};
+ghost use Rattle.tape_records.specs.Records.{kind_of, body_length, form_of, operand_of, begin_fields, fields_of, field, read_of, parse_of};
 
 use answers::Refusal;
 use words::{LaneNo, Op, Shape, WordNo};
+
+// The kind bytes.
+const OPEN: u8 = 0;
+
+const LOAD: u8 = 1;
+
+const STORE: u8 = 2;
+
+const EXCHANGE: u8 = 3;
+
+const ADD: u8 = 4;
+
+const SERVE: u8 = 5;
+
+const RETURN: u8 = 6;
+
+const DELIVER: u8 = 7;
+
+const OPEN_LIMITED: u8 = 8;
+
+// The first above the highest kind (specs/Records.antt, highest_kind): no record has it.
+const NO_KIND: u8 = 9;
 
 // The step that a kind byte picks.
 #[derive(Clone, Copy)]
@@ -23,25 +45,32 @@ pub enum Kind {
     OpenLimited,
 }
 
-// The one reading of a kind byte.
+// The one reading of a kind byte: the body's length and the step, or 2.
+fn form_of(byte: u8) -> Result<(usize, Kind), Refusal>
+    ensures { result ≡ form_of byte }
+{
+    match byte {
+        OPEN => Ok((3, Kind::Open)),
+        LOAD => Ok((2, Kind::Load)),
+        STORE => Ok((6, Kind::Store)),
+        EXCHANGE => Ok((6, Kind::Exchange)),
+        ADD => Ok((6, Kind::Add)),
+        SERVE => Ok((1, Kind::Serve)),
+        RETURN => Ok((1, Kind::Return)),
+        DELIVER => Ok((1, Kind::Deliver)),
+        OPEN_LIMITED => Ok((4, Kind::OpenLimited)),
+        NO_KIND..=255 => Err(Refusal::UnknownKind),
+    }
+}
+
 impl TryFrom<u8> for Kind {
     type Error = Refusal;
 
     ghost try_from_gives = { λ byte r. r ≡ kind_of byte };
 
     fn try_from(byte: u8) -> Result<Self, Refusal> {
-        match byte {
-            0 => Ok(Kind::Open),
-            1 => Ok(Kind::Load),
-            2 => Ok(Kind::Store),
-            3 => Ok(Kind::Exchange),
-            4 => Ok(Kind::Add),
-            5 => Ok(Kind::Serve),
-            6 => Ok(Kind::Return),
-            7 => Ok(Kind::Deliver),
-            8 => Ok(Kind::OpenLimited),
-            _ => Err(Refusal::UnknownKind),
-        }
+        let (_, kind) = form_of(byte)?;
+        Ok(kind)
     }
 }
 
@@ -131,8 +160,7 @@ fn read(tape: &[u8]) -> Result<(usize, Record), Refusal>
     ensures { result ≡ read_of tape.now }
 {
     let (&byte, body) = tape.split_first().ok_or(Refusal::Truncated)?;
-    let kind = Kind::try_from(byte)?;
-    let length = kind.body_length();
+    let (length, kind) = form_of(byte)?;
     if body.len() < length {
         return Err(Refusal::Truncated);
     }
