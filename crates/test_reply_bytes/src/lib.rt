@@ -60,10 +60,16 @@ pub enum Tag {
     Settled,
 }
 
+impl From<Tag> for u8 {
+    fn from(tag: Tag) -> u8 {
+        tag as u8
+    }
+}
+
 // An answer's bytes: its tag, a lane or a refusal's number, a value, how many completions there are, a settle's orders, and a completion's place.
 #[derive(Clone, Copy)]
 pub struct Reply {
-    pub tag: Tag,
+    pub tag: u8,
     pub small: u8,
     pub value: u32,
     pub listed: u8,
@@ -73,9 +79,9 @@ pub struct Reply {
 
 impl Reply {
     // A reply that has no more than its tag.
-    pub fn of(tag: Tag) -> Reply {
+    pub fn of<T: Into<u8>>(tag: T) -> Reply {
         Reply {
-            tag,
+            tag: tag.into(),
             small: 0,
             value: 0,
             listed: 0,
@@ -88,7 +94,7 @@ impl Reply {
     pub fn put(&self, out: &mut [u8])
         requires { 12 ≤ length out.old }
     {
-        out[0] = self.tag as u8;
+        out[0] = self.tag;
         out[1] = self.small;
         self.value.put(&mut out[2..]);
         out[6] = self.listed;
@@ -134,9 +140,9 @@ pub fn settle_reply(a: Result<SettleCounts, Refusal>, listed: u8) -> Reply {
     }
 }
 
-// What a call gives that is no picture and no settle.
-pub fn called(s: Store, kind: Kind, k: LaneNo, w: WordNo, v: u32) -> Outcome {
-    match kind {
+// What a call gives that is no picture and no settle. Its kind may be given as a byte.
+pub fn called<T: Into<Kind>>(s: Store, kind: T, k: LaneNo, w: WordNo, v: u32) -> Outcome {
+    match kind.into() {
         Kind::Load => store_operations::load(s, k, w),
         Kind::Store => store_operations::store_value(s, k, w, v),
         Kind::Exchange => store_operations::exchange(s, k, w, v),
